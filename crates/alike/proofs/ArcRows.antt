@@ -52,9 +52,10 @@ map-take_more f [] k d l = absurd (omega arith)
 map-take_more f (x ∷ xs) zero d l = refl
 map-take_more f (x ∷ xs) (suc k) d l = ap (λ rest. f x ∷ rest) (map-take_more f xs k d (omega arith))
 
--- ---- weights
+-- ---- the weight of one place of a dial, and the rows that it gives
 
--- bounds: `den * places` is at most the total; and so is the weight of one place, `num * (total / (den * places))`, also times `places`
+-- bounds by the total: `den * places` is at most the total, and so is what all places weigh together, and what one place
+-- weighs, `num * (total / (den * places))`
 pub record PlaceWeight (num den places total : ℕ) : Type 0 where
   pub product : den * places ≤ total
   pub whole : places * (num * (total / (den * places))) ≤ total

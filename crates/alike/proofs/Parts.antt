@@ -64,7 +64,7 @@ given-whole len at (x ∷ classes) (c ∷ counts) zero i (inr l) = absurd (omega
 given-whole len at (x ∷ classes) (c ∷ counts) (suc k) i (inl l) = ap (λ b. includes (turned (at * length x.members / len) c x.members) i || b) (given-whole len at classes counts k i (inl (omega arith)))
 given-whole len at (x ∷ classes) (c ∷ counts) (suc k) i (inr l) = ap (λ b. includes (turned (at * length x.members / len) c x.members) i || b) (given-whole len at classes counts k i (inr (omega arith)))
 
--- ---- sizes
+-- ---- the sizes of classes that are taken in part: each is above 0, and divides the dial
 
 pub sizes_positive : (classes : List Class) (counts : List ℕ) → All (λ size. 0 < size) (partly_taken classes counts)
 sizes_positive classes counts =

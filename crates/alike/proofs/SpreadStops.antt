@@ -14,7 +14,7 @@ unfolding spread
 stop_told all parts (TotalPasses place before den) (pass, e, f, g, h) = (pass, ap (lottery_of all parts) e, f, g, h)
 stop_told all parts OutOfMemory told = tt
 
--- the lottery made of the common total and the rows for it is the definition's
+-- the lottery made of the common total and the rows for it is the one that the definition `spread` returns
 pub lottery_made : (all : Classes) (parts : List (List ℕ × Fraction)) (total z : ℕ) (rows : List LotteryRow) (lottery : Lottery) → total_from all 0 1 parts ≡ Ok total →
     rows ≡ flat_map (rows_of all total) parts → z ≡ total → lottery ≡ (let made : Lottery = record { total = z; rows = rows } in made) → spread all parts ≡ Ok lottery
 unfolding spread

@@ -14,8 +14,8 @@ use Rattle.alike.specs.Steps.{IsTotalOf}
 cut_here : (parts : List (List ℕ × Fraction)) (place : ℕ) (part : List ℕ × Fraction) → place < length parts → part ≡ get_or parts place part → drop place parts ≡ part ∷ drop (suc place) parts
 cut_here parts place part within at = drop-cons parts place part within ∙ ap (λ part. part ∷ drop (suc place) parts) (sym at)
 
--- if `next`, the common total with part `place`, is at most 10 ^ 38, the total over all parts is that from the next part on, begun with
--- `next`
+-- let `next` be the least common multiple of `total` and what part `place` needs, and at most 10 ^ 38. If the total over all parts is that
+-- from part `place` on, begun with `total`, it is also that from part `place + 1` on, begun with `next`
 pub next_so_far : (all : Classes) (parts : List (List ℕ × Fraction)) (place total next : ℕ) (part : List ℕ × Fraction) → place < length parts → part ≡ get_or parts place part →
     lcm_of total (part.1.den * dial all part.0) ≤ greatest_total → next ≡ lcm_of total (part.1.den * dial all part.0) →
     total_from all 0 1 parts ≡ total_from all place total (drop place parts) → total_from all 0 1 parts ≡ total_from all (place + 1) next (drop (place + 1) parts)
@@ -27,7 +27,8 @@ next_so_far all parts place total next part within at low e so_far =
     ∙ ap (λ n. total_from all (place + 1) (lcm_of total (part.1.den * dial all part.0)) (drop n parts)) more
     ∙ ap (λ n. total_from all (place + 1) n (drop (place + 1) parts)) (sym e)
 
--- if the common total passes 10 ^ 38 at part `place`, the definition returns this pass
+-- if the common total passes 10 ^ 38 at part `place`, the definition returns a `TotalPass` with this place, the total of the parts before
+-- it, and its denominator
 pub passes_here : (all : Classes) (parts : List (List ℕ × Fraction)) (place total : ℕ) (part : List ℕ × Fraction) → place < length parts → part ≡ get_or parts place part →
     greatest_total < lcm_of total (part.1.den * dial all part.0) → total_from all 0 1 parts ≡ total_from all place total (drop place parts) →
     total_from all 0 1 parts ≡ Err (record { place = place; total = total; den = part.1.den })

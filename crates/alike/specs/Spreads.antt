@@ -1,11 +1,12 @@
--- What `spread` and its helpers may return. Over Spreading of `define_spreads`. Their contracts cite it.
+-- What `spread` and its helpers may return. Builds on Spreading of `define_spreads`. Their contracts cite it.
 use Rattle.std.specs.Prelude.{◌≡◌, ℕ, Result, Ok, Err, pos}
 use Rattle.define_pools.specs.Lottery.{Lottery}
 use Rattle.define_spreads.specs.Spreading.{TotalPass}
 use Rattle.alike.specs.declared.spreading.SpreadStop.{SpreadStop}
 use Rattle.alike.specs.declared.spreading.SpreadStop.TheVariants.{TotalPasses, OutOfMemory}
 
--- the stop is the definition's pass, at the first place at which the total passes 10 ^ 38; out of memory is allowed at any time
+-- the stop has the numbers of the definition's `TotalPass`, so it names the first part at which the total passes 10 ^ 38; running out of
+-- memory is allowed at any time
 abbrev pub IsStop : {X : Type 0} → SpreadStop → Result X TotalPass → Type 0
 IsStop (TotalPasses place total den) sought =
     (pass : TotalPass) × (sought ≡ Err pass) × (place ≡ pass.place) × (total ≡ pos pass.total) × (den ≡ pos pass.den)

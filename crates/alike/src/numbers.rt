@@ -1,4 +1,4 @@
-//! The number of each volunteer's class. The run turns the weights of classes into the weights of volunteers by it.
+//! The number of each volunteer's class. With these numbers, the run turns the weights of classes into the weights of volunteers.
 
 ghost use Rattle.std.specs.Prelude.{◌≡◌, IfOk, map};
 ghost use Rattle.std.specs.List.{range_with_len};

@@ -1,4 +1,4 @@
-//! Spreads compositions with fractions over panels, so that all members of a class have one chance.
+//! Spreads compositions with fractions over panels, so that all members of a class have the same chance.
 
 ghost use Rattle.std.specs.Prelude.{◌≡◌, ◌*◌, ◌/◌, ◌<◌, ◌≤◌, ℕ, Bool, ◌+◌, ◌++◌, length, map, slice_index_or, All, IfOk, OnOk, SomeIff};
 ghost use Rattle.std.specs.Int.{◌∣◌};
@@ -28,9 +28,9 @@ pub enum SpreadStop {
     TotalPasses {
         /// The number of the composition, from 0.
         place: usize,
-        /// The common total of the compositions before it, from 1 to 10^38; 1 before the first.
+        /// The common total of the compositions before this one, from 1 to 10^38; 1 if this is the first.
         total: i128,
-        /// The denominator of its fraction, at least 1.
+        /// The denominator of the composition's fraction, at least 1.
         den: i128,
     },
     /// No memory was left.
@@ -50,7 +50,7 @@ impl From<AllocError> for SpreadStop {
 }
 
 /// Returns the lottery over the panels of `parts`, which are different compositions with positive fractions that sum to 1. The panels of a
-/// composition together weigh its fraction of the total, and all members of a class have one chance. The total is the least common
+/// composition together weigh its fraction of the total, and all members of a class have the same chance. The total is the least common
 /// multiple, over the compositions, of the denominator times the dial's length.
 pub fn spread(
     alloc: Global,

@@ -1,4 +1,5 @@
--- A template that is filled byte by byte. `start` is the whole text, `before` and `after` what was appended before and after a byte.
+-- A template that is filled byte by byte. `start` is the text with the whole template filled; `before` is the text written before byte `i`
+-- of the template, and `after` the text with what this byte adds.
 use Rattle.std.proofs.Common.{◌≡◌, ℕ, suc, ◌+◌, ◌<◌, ◌≤◌, cond, List, [], ◌∷◌, ◌++◌, append_assoc, drop, drop-cons, get_or, length, map, refl, sym, ap, ◌∙◌, arith}
 use Rattle.std.proofs.lemmas.Bool.{ne_eqb}
 use Rattle.std.proofs.lemmas.List.{drop_all, drop-map}

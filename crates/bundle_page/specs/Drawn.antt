@@ -1,5 +1,5 @@
 -- The part of the page about a draw: the digits and the ticket that they name, the members of its panel, and for each value how many of
--- them have it, beside its bounds. Over Markup.
+-- them have it, beside its bounds. Builds on Markup.
 use Rattle.std.specs.Prelude.{ℕ, ◌==◌, if◌then◌else◌, List, [], ◌∷◌, ◌++◌, map, unsigned_abs}
 use Rattle.std.specs.Fmt.{decimal}
 use Rattle.std.specs.List.{enumerate_from, flat_map}
@@ -10,20 +10,20 @@ use Rattle.bundle_page.specs.declared.templates.TheConstants.{CHECK, CHECK_SHORT
 use Rattle.bundle_page.specs.Markup.{escaped, filled}
 use Rattle.sealed_draw.specs.declared.drawn.Draw.{Draw}
 
--- the draw in words: the digits of the dice, how many tickets there are in all, and what the digits draw. The digits have no markup, since a
--- draw reads digits alone
+-- the draw in words: the digits of the dice, how many tickets there are in all, how many digits were read, the ticket, and the seal. The
+-- digits need no escaping, since a draw accepts nothing but digits
 abbrev pub draw_words : List ℕ → List ℕ → ℕ → Drawn → List ℕ
 draw_words seal digits tickets drawn =
     filled DRAWN.now (digits ∷ decimal tickets ∷ decimal drawn.used ∷ decimal drawn.ticket ∷ seal ∷ [])
 
--- how to check the draw. It is in the tickets of the lottery, of which there are `total`, or in another number of them
+-- how to check a draw in `tickets` tickets; the lottery itself has `total` tickets, which may be another number
 abbrev pub check_words : ℕ → ℕ → List ℕ
 check_words total tickets = if tickets == total then filled CHECK.now [] else filled CHECK_SHORT.now (decimal total ∷ [])
 
 abbrev pub member_line : List Volunteer → ℕ → List ℕ
 member_line volunteers number = filled MEMBER.now (escaped (volunteer volunteers number).id ∷ [])
 
--- the row of a value that `members` members of the drawn panel have
+-- the row of a value; `members` is how many members of the drawn panel have it
 abbrev pub drawn_line : List ℕ → BoundedValue → ℕ → List ℕ
 drawn_line category value members =
     filled DRAWN_VALUE.now (escaped category ∷ escaped value.name ∷ decimal members ∷ decimal value.lower ∷ decimal value.upper ∷ [])
@@ -44,6 +44,6 @@ drawn_text pool total seal digits tickets drawn =
     ++ filled DRAWN_TABLE.now [] ∷ drawn_category_lines pool drawn.panel
     ++ filled END_OF_DRAWN.now [] ∷ [])
 
--- what was drawn, in the words of the definitions
+-- the code's draw as the record `Drawn` of the definitions
 abbrev pub seen_draw : Draw → Drawn
 seen_draw draw = record { ticket = unsigned_abs draw.ticket; used = draw.used; panel = draw.panel }

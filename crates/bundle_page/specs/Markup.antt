@@ -3,14 +3,14 @@ use Rattle.std.specs.Prelude.{ℕ, ◌==◌, if◌then◌else◌, List, [], ◌�
 use Rattle.std.specs.List.{flat_map}
 use Rattle.chance_numbers.specs.Decimals.{fixed_point}
 
--- the template with the next value in place of each `~`, and with nothing there if there is none
+-- the template with the values in place of its `~`, in their order; a `~` for which no value is left is dropped
 unfoldable pub filled : List ℕ → List (List ℕ) → List ℕ
 filled [] values = []
 filled (byte ∷ template) [] = if byte == 126 then filled template [] else byte ∷ filled template []
 filled (byte ∷ template) (value ∷ values) =
     if byte == 126 then value ++ filled template values else byte ∷ filled template (value ∷ values)
 
--- a byte of a name in HTML: the four bytes of its markup are written by name
+-- a byte of a name in HTML: `&`, `<`, `>` and `"` are written as their HTML entities
 abbrev pub escaped_byte : ℕ → List ℕ
 escaped_byte byte =
     if byte == 38 then codes "&amp;"

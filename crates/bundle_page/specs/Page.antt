@@ -1,5 +1,5 @@
--- The text of the page about a bundle. Its parts are the fixed texts of `src/templates.rt`, filled with names and numbers. Over Markup,
--- Numbers and Drawn.
+-- The text of the page about a bundle. Its parts are the fixed texts of `src/templates.rt`, filled with names and numbers. Builds on
+-- Markup, Numbers and Drawn.
 use Rattle.std.specs.Prelude.{ℕ, ◌+◌, ◌-◌, ◌*◌, ◌/◌, List, [], ◌∷◌, ◌++◌, length, map, slice_index}
 use Rattle.std.specs.Fmt.{decimal}
 use Rattle.std.specs.List.{enumerate_from, flat_map}
@@ -20,7 +20,7 @@ use Rattle.bundle_page.specs.Numbers.{equal_chance, rounded, seats_left, share_o
 
 -- ---- the head
 
--- from the first line to the heading
+-- the head: all lines from the first one to the heading
 abbrev pub head_with : List ℕ → List ℕ → List ℕ
 head_with title heading = text_of (filled HEAD.now (title ∷ heading ∷ []) ∷ [])
 
@@ -52,7 +52,7 @@ words_part name expected share sizes =
     (decimal (sizes.volunteers * sizes.seats) ∷ name ∷ decimal share.volunteers ∷ decimal sizes.volunteers ∷ decimal share.lower
     ∷ decimal share.upper ∷ decimal sizes.seats ∷ expected ∷ [])
 
--- the bars of a value, in a picture whose width is the seats times the volunteers: a volunteer takes `seats` of it, and a seat `volunteers`
+-- the bars of a value. The picture is `seats * volunteers` wide, so that a volunteer is `seats` wide and a seat is `volunteers` wide
 abbrev pub shapes_part : Share → Sizes → List ℕ
 shapes_part share sizes =
     filled SHAPES.now
@@ -87,7 +87,8 @@ curve_words chances sizes =
     (percent (slice_index chances 0) ∷ percent (slice_index chances (length chances - 1)) ∷ percent (equal_chance sizes) ∷ decimal sizes.open_count
     ∷ decimal (seats_left sizes) ∷ decimal sizes.seated_count ∷ decimal sizes.gone_count ∷ [])
 
--- the equal lottery's chances in rising order are three level lines: those who are gone, the open volunteers, and those who are seated
+-- the chances of the equal lottery, in rising order, as three level lines: first of the volunteers who are gone, then of the open ones,
+-- then of those who are seated
 abbrev pub curve_start : Sizes → List ℕ
 curve_start sizes =
     filled CURVE.now
@@ -106,7 +107,7 @@ abbrev pub curve_parts : List ℕ → ℕ → Sizes → List (List ℕ)
 curve_parts counts total sizes =
     curve_words (rising (rounded counts total)) sizes ∷ curve_start sizes ∷ point_lines (rising (rounded counts total))
 
--- ---- the volunteers
+-- ---- the table of the volunteers' chances
 
 abbrev pub chance_line : List ℕ → ℕ → ℕ → List ℕ
 chance_line id count total =
@@ -116,9 +117,9 @@ abbrev pub chance_lines : List Volunteer → List ℕ → ℕ → List (List ℕ
 chance_lines volunteers counts total =
     map (λ (i, volunteer). chance_line volunteer.id (slice_index counts i) total) (enumerate_from 0 volunteers)
 
--- ---- the page
+-- ---- the whole page
 
--- what is below the words of the head, and below the part about a draw if there is one
+-- the rest of the page, from the categories to the last line; it comes after the lead, and after the part about a draw if there is one
 abbrev pub lower_lines : Pool → List ℕ → ℕ → List ℕ → List (List ℕ)
 lower_lines pool counts total seal =
     filled QUOTAS.now [] ∷ category_lines pool counts total
@@ -126,7 +127,7 @@ lower_lines pool counts total seal =
     ++ filled TABLE.now [] ∷ chance_lines pool.volunteers counts total
     ++ filled CLOSING.now (seal ∷ []) ∷ []
 
--- the page about a lottery of `panels` panels, with this head. `drawn` is the part about a draw
+-- the page about a lottery of `panels` panels, with this head. `drawn` is the part about a draw, or empty
 abbrev pub text_of_counts : List ℕ → Pool → List ℕ → ℕ → ℕ → List ℕ → List ℕ → List ℕ
 text_of_counts head pool counts total panels seal drawn =
     head ++ text_of (lead (sizes_of pool) panels total ∷ []) ++ drawn ++ text_of (lower_lines pool counts total seal)
@@ -136,7 +137,7 @@ page_with head bundle seal drawn =
     let lottery = bundle.answer.lottery in
     text_of_counts head bundle.pool (counts bundle.pool lottery) lottery.total (length lottery.rows) seal drawn
 
--- the part about what these digits draw from a bundle with this seal, in this number of tickets
+-- the part about the draw of these digits from a bundle with this seal, in `tickets` tickets
 abbrev pub drawn_part : Bundle → List ℕ → List ℕ → ℕ → Drawn → List ℕ
 drawn_part bundle seal digits tickets drawn = drawn_text bundle.pool bundle.answer.lottery.total seal digits tickets drawn
 

@@ -153,7 +153,8 @@ fn push_words(
     )
 }
 
-/// Appends the shapes of the picture of a value. A volunteer is as wide as there are seats, and a seat as there are volunteers.
+/// Appends the bars of the picture of a value. A volunteer is `sizes.seats` wide and a seat `sizes.volunteers` wide, so that all volunteers
+/// are as wide as all seats.
 fn push_shapes(text: &mut Vec<u8>, share: Share, sizes: Sizes) -> Result<(), AllocError>
     requires { share.expected ≤ 4010000 }
     ensures { OnOk result (text.new.items ≡ text.old.items ++ text_of (shapes_part share sizes ∷ [])) }

@@ -19,7 +19,7 @@ use pool_model::{BoundedValue, Category, Name, Pool, Volunteer};
 use sealed_draw::Draw;
 use std::alloc::{AllocError, Global};
 
-/// Returns the part about what these digits draw from a bundle with this seal, in this number of tickets.
+/// Returns the part about the draw of these digits from a bundle with this seal, in `tickets` tickets.
 pub fn drawn_part(
     alloc: Global,
     bundle: &Bundle,
@@ -70,7 +70,7 @@ fn push_draw_words(
     )
 }
 
-/// Appends how to check a draw from a bundle in this number of tickets.
+/// Appends how to check a draw from a bundle in `tickets` tickets.
 fn push_check_words(text: &mut Vec<u8>, bundle: &Bundle, tickets: u128) -> Result<(), AllocError>
     ensures { OnOk result (text.new.items ≡ text.old.items ++ text_of (check_words bundle.now.answer.lottery.total tickets ∷ [])) }
 {
@@ -110,7 +110,7 @@ fn push_member(
     fill(text, MEMBER, &[id.as_slice()])
 }
 
-/// Returns the id of the volunteer with this number, or nothing if there is none.
+/// Returns the id of the volunteer with this number, escaped, or an empty text if there is no such volunteer.
 fn escaped_id(alloc: Global, volunteers: &[Volunteer], number: usize) -> Result<Vec<u8>, AllocError>
     ensures { IfOk result (λ text. text.items ≡ words_of_escaped (volunteer volunteers.now number).id) }
 {
@@ -153,7 +153,7 @@ fn push_drawn_values(
     Ok(())
 }
 
-/// Appends the row of a value that `members` members of the drawn panel have.
+/// Appends the row of a value; `members` is how many members of the drawn panel have it.
 fn push_drawn_value(
     alloc: Global,
     text: &mut Vec<u8>,
@@ -194,7 +194,7 @@ fn members_with(
         .count()
 }
 
-/// Returns which value the volunteer with this number has of the category at `place`.
+/// Returns the place of a volunteer's value in the category at `place`, or 0 if there is no volunteer with this number or no such category.
 fn value_of(volunteers: &[Volunteer], number: usize, place: usize) -> usize
     ensures { result ≡ slice_index (volunteer volunteers.now number).values place }
 {

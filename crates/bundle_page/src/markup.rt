@@ -1,4 +1,4 @@
-//! Lines of HTML.
+//! Templates that are filled with values, and the HTML of names and of fractions in per cent.
 
 ghost use Rattle.std.specs.Prelude.{◌≡◌, ◌++◌, ◌∷◌, [], map, IfOk, OnOk};
 ghost use Rattle.define_lines.specs.Lines.{text_of};
@@ -59,7 +59,7 @@ pub(crate) fn escaped(alloc: Global, name: &[u8]) -> Result<Vec<u8>, AllocError>
     Ok(text)
 }
 
-/// Appends a byte of a name.
+/// Appends a byte of a name; `&`, `<`, `>` and `"` are written as their HTML entities.
 fn push_escaped(text: &mut Vec<u8>, byte: u8) -> Result<(), AllocError>
     ensures { OnOk result (text.new.items ≡ text.old.items ++ escaped_byte byte) }
 {
@@ -72,7 +72,7 @@ fn push_escaped(text: &mut Vec<u8>, byte: u8) -> Result<(), AllocError>
     }
 }
 
-/// Returns a part of 1 in per cent, from ten-thousandths.
+/// Returns the text of `part` in per cent; `part` is in ten-thousandths.
 pub(crate) fn percent(alloc: Global, part: u128) -> Result<Vec<u8>, AllocError>
     ensures { IfOk result (λ text. text.items ≡ words_of_percent part) }
 {

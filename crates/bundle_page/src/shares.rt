@@ -11,11 +11,11 @@ use pool_model::{BoundedValue, Volunteer};
 pub(crate) struct Share {
     /// How many volunteers have the value.
     pub(crate) volunteers: usize,
-    /// The least number of seats for them.
+    /// The least number of seats for those who have the value.
     pub(crate) lower: usize,
-    /// The greatest number of seats for them.
+    /// The greatest number of seats for those who have the value.
     pub(crate) upper: usize,
-    /// The seats that are expected for them, in ten-thousandths of a seat.
+    /// The seats that are expected for those who have the value, in ten-thousandths of a seat.
     pub(crate) expected: u128,
 }
 
@@ -55,7 +55,7 @@ fn volunteers_with(volunteers: &[Volunteer], place: usize, value_place: usize) -
         .count()
 }
 
-/// Returns which value a volunteer has of the category at `place`.
+/// Returns the place of a volunteer's value in the category at `place`, or 0 if there is no such category.
 pub(crate) fn value_at(volunteer: &Volunteer, place: usize) -> usize
     ensures { result ≡ slice_index volunteer.now.values place }
 {

@@ -15,7 +15,7 @@ pub(crate) struct Sizes {
     pub(crate) gone_count: usize,
 }
 
-/// Returns how many volunteers and seats there are.
+/// Returns how many volunteers and seats there are, and how many of the volunteers are of each standing.
 pub(crate) fn sizes_of(pool: &Pool) -> Sizes
     ensures { result ≡ words_of_sizes pool.now }
 {

@@ -1,6 +1,6 @@
 //! The fixed texts of the page. A `~` stands for a value; the definitions of the page say which.
 
-/// From the first line to the heading: the title of the document, and the heading.
+/// The head of the page, from the first line to the heading. Its values: the title of the document, and the heading.
 pub(crate) const HEAD: &[u8] = b"<!DOCTYPE html>
 <html lang=\"en\">
 <head>
@@ -50,20 +50,20 @@ figure{margin:1rem 0}
 <main>
 <h1>~</h1>";
 
-/// The title of the document of a page that names no round: seats, volunteers.
+/// The title of the document, for a page that names no round. Its values: seats, volunteers.
 pub(crate) const PLAIN_TITLE: &[u8] = b"The lottery for a panel of ~ from ~ volunteers";
 
-/// The heading of such a page.
+/// The heading of a page that names no round.
 pub(crate) const PLAIN_HEADING: &[u8] = b"The lottery for the panel";
 
 /// The title and the heading of the page of a round: the assembly's title, and the round's number.
 pub(crate) const ROUND_HEADING: &[u8] = b"~: the lottery of round ~";
 
-/// The words below the heading: volunteers, seats, panels, tickets.
+/// The words below the heading. Their values: volunteers, seats, panels, tickets.
 pub(crate) const LEAD: &[u8] =
     b"<p class=\"lead\"><strong>~</strong> people volunteered for the <strong>~</strong> seats of the panel. The lottery has <strong>~</strong> possible panels, with <strong>~</strong> tickets among them. Dice that are thrown in public draw one ticket, and with it the panel.</p>";
 
-/// The draw, to its members: the digits, the tickets in all, how many digits were read, the ticket, and the seal.
+/// The draw in words. Its values: the digits, the tickets in all, how many digits were read, the ticket, and the seal.
 pub(crate) const DRAWN: &[u8] = b"<h2>The panel that the digits draw</h2>
 <p>The digits of the dice are <code>~</code>. There are <strong>~</strong> tickets in all, which are numbered from 0. Digits that were read: <strong>~</strong>. They name the ticket <strong>~</strong>. The seal of the lottery is <code>~</code>.</p>";
 
@@ -71,18 +71,18 @@ pub(crate) const DRAWN: &[u8] = b"<h2>The panel that the digits draw</h2>
 pub(crate) const CHECK: &[u8] =
     b"<p>To check it, give this seal and these digits to <code>sortition draw</code>. It reads the bundle, and prints the same ticket and the same members.</p>";
 
-/// How to check a draw in another number of tickets: the tickets of the lottery.
+/// How to check a draw in another number of tickets. Its value: how many tickets the lottery has.
 pub(crate) const CHECK_SHORT: &[u8] =
     b"<p>The lottery itself has ~ tickets. This draw is in another number of them, in which the chances differ a little from those below. To check it, give this number, this seal and these digits to <code>sortition short-draw</code>. It reads the bundle, and prints the same ticket and the same members.</p>";
 
-/// Above the members.
+/// The words above the members, and the start of their list.
 pub(crate) const MEMBERS: &[u8] = b"<p>It is a ticket of the panel of these members:</p>
 <ul class=\"members\">";
 
-/// A member of the drawn panel: the id.
+/// The line of a member of the drawn panel. Its value: the id.
 pub(crate) const MEMBER: &[u8] = b"<li>~</li>";
 
-/// Behind the members, to the head of the table of values.
+/// The end of the list of members, and the head of the table of values.
 pub(crate) const DRAWN_TABLE: &[u8] = b"</ul>
 <table>
 <thead><tr><th scope=\"col\">value</th><th scope=\"col\">members</th><th scope=\"col\">seats</th></tr></thead>
@@ -92,7 +92,7 @@ pub(crate) const DRAWN_TABLE: &[u8] = b"</ul>
 pub(crate) const DRAWN_VALUE: &[u8] =
     b"<tr><th scope=\"row\">~: ~</th><td>~</td><td>~ to ~</td></tr>";
 
-/// Behind the table of values.
+/// The end of the table of values.
 pub(crate) const END_OF_DRAWN: &[u8] = b"</tbody>
 </table>";
 
@@ -106,7 +106,7 @@ pub(crate) const QUOTAS: &[u8] = b"<h2>Volunteers and seats</h2>
 </ul>
 <p>The width of a picture stands for all volunteers, and for all seats.</p>";
 
-/// The heading of a category and the head of its table: its name.
+/// The heading of a category, and the head of its table. Its value: the category's name.
 pub(crate) const CATEGORY: &[u8] = b"<h3>~</h3>
 <table>
 <thead><tr><th scope=\"col\">value</th><th scope=\"col\">volunteers</th><th scope=\"col\">seats</th><th scope=\"col\">expected</th></tr></thead>";
@@ -115,22 +115,25 @@ pub(crate) const CATEGORY: &[u8] = b"<h3>~</h3>
 pub(crate) const NUMBERS: &[u8] =
     b"<tbody class=\"value\"><tr><th scope=\"row\">~</th><td>~</td><td>~ to ~</td><td>~</td></tr>";
 
-/// The picture of a value, in words: its width, then name, volunteers, all volunteers, bounds, all seats, and the seats expected.
+/// The start of a value's picture, and its title. Its values: the picture's width; the value's name; the volunteers who have it, all
+/// volunteers, its bounds, all seats, and the seats expected.
 pub(crate) const WORDS: &[u8] =
     b"<tr><td colspan=\"4\"><svg role=\"img\" viewBox=\"0 0 ~ 30\" preserveAspectRatio=\"none\"><title>~: ~ of ~ volunteers, ~ to ~ of ~ seats, ~ seats expected</title>";
 
-/// The shapes of this picture: the width of the volunteers, the place and the width of the bounds, and the place of the seats expected.
+/// The bars of a value's picture: the width of the volunteers, the place and the width of the bounds, and the place of the seats expected.
 pub(crate) const SHAPES: &[u8] =
     b"<rect class=\"pool\" width=\"~\" height=\"13\"/><rect class=\"seats\" x=\"~\" y=\"17\" width=\"~\" height=\"13\"/><path class=\"mean\" d=\"M~ 13v17\"/></svg></td></tr></tbody>";
 
-/// Behind the values of a category.
+/// The end of the table of a category.
 pub(crate) const END_OF_CATEGORY: &[u8] = b"</table>";
 
-/// The words above the curve: the least and the greatest chance; the equal chance, how many have it, and for how many seats; how many are seated, and how many are gone.
+/// The words above the curve. Their values: the least and the greatest chance; the equal chance, how many have it, and for how many seats;
+/// how many are seated, and how many are gone.
 pub(crate) const CURVE_WORDS: &[u8] = b"<h2>The chances</h2>
 <p>The chances go from ~ to ~. A plain equal lottery, which looks at no category and at no household, would give ~ to each volunteer who is neither seated nor gone (volunteers: ~, seats for them: ~). Seated, with a seat for sure: ~. Gone, with none: ~.</p>";
 
-/// Above the points of the curve: the width of the picture, and the level lines of the equal lottery: the end of the first, the start, height and end of the second, and the start and end of the third.
+/// The start of the curve's picture, with the level lines of the equal lottery. Its values: the width of the picture; the end of the first
+/// line; the start, height and end of the second; and the start and end of the third.
 pub(crate) const CURVE: &[u8] = b"<figure>
 <p class=\"axis\" aria-hidden=\"true\">100 %</p>
 <svg class=\"curve\" role=\"img\" viewBox=\"0 -100 ~ 10200\" preserveAspectRatio=\"none\"><title>The chances of all volunteers in rising order as a curve, and those in a plain equal lottery as level lines</title>
@@ -141,7 +144,7 @@ pub(crate) const CURVE: &[u8] = b"<figure>
 /// Two points of the curve: place and height, the next place and the height.
 pub(crate) const POINT: &[u8] = b"~,~ ~,~";
 
-/// Behind the points of the curve, to the head of the table of chances.
+/// The end of the curve's picture, and the head of the table of chances.
 pub(crate) const TABLE: &[u8] = b"\"/></svg>
 <p class=\"axis\" aria-hidden=\"true\"><span>the least chance</span><span>the greatest</span></p>
 <figcaption>
@@ -159,7 +162,7 @@ pub(crate) const TABLE: &[u8] = b"\"/></svg>
 /// The row of a volunteer: id, chance, and the chance in lowest terms.
 pub(crate) const CHANCE: &[u8] = b"<tr><th scope=\"row\">~</th><td>~</td><td>~</td></tr>";
 
-/// Behind the table of chances, to the last line: the seal.
+/// The end of the page, from the end of the table of chances to the last line. Its value: the seal.
 pub(crate) const CLOSING: &[u8] = b"</tbody>
 </table>
 <h2>The seal</h2>

@@ -40,7 +40,7 @@ pub fn write_page(alloc: Global, bundle: &Bundle, seal: &[u8]) -> Result<Vec<u8>
     page_with(alloc, &head, bundle, seal, &[])
 }
 
-/// Returns the page about a bundle with this seal, and about what these digits draw from it, in this number of tickets.
+/// Returns the page about a bundle with this seal, and about the draw of these digits from it, in `tickets` tickets.
 pub fn write_drawn_page(
     alloc: Global,
     bundle: &Bundle,
@@ -114,7 +114,7 @@ pub fn page_with(
     )
 }
 
-/// Returns the page for each volunteer's count.
+/// Returns the page, made from the counts of the volunteers: `counts` has each volunteer's count.
 fn page_of_counts(
     alloc: Global,
     head: &[u8],
@@ -157,7 +157,7 @@ fn push_lead(text: &mut Vec<u8>, sizes: Sizes, panels: usize, total: u128) -> Re
     )
 }
 
-/// Appends what is below the words of the head, and below the part about a draw.
+/// Appends the rest of the page, from the categories to the last line.
 fn push_lower(
     alloc: Global,
     text: &mut Vec<u8>,

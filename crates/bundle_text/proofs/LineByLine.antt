@@ -22,7 +22,7 @@ stops_at T number progress rest line later parted wanted same stop tells told e 
     by OutOfMemory h = tt
     by (Kind kind) h = reading.stops_at reader number progress rest line later parted wanted same kind h
 
--- if a progress is right, and it is the one after the last line, the answer's numbers are in the ranges
+-- if the progress after the last line is right, the answer's numbers are in the ranges
 pub done_right : (progress : Progress) → IsRight progress → IsDoneRight progress
 done_right Begun right = tt
 done_right (InPool second progress) right = tt

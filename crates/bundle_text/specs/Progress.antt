@@ -1,4 +1,4 @@
--- The code's progress and lines in the form of the definitions. The contracts of the reader of proofs cite it.
+-- The code's progress and lines in the form of the definitions. The contracts of the readers of bundles and of proofs cite it.
 use Rattle.define_bundles.specs.Ranges.{IsInRanges}
 use Rattle.define_bundles.specs.BundleReading as words
 use Rattle.pool_text.specs.Progress as pools

@@ -76,7 +76,7 @@ fn panel_of(alloc: Global, volunteers: usize, fields: &[&[u8]]) -> Result<Answer
     }
 }
 
-/// Returns the row of `weight` and `members`, or `Unknown` if the members don't increase or a number is out of range.
+/// Returns the row of `weight` and `members`, or `Unknown` if there are no members, they don't increase, or a number is out of range.
 fn row_of(volunteers: usize, weight: i128, members: Vec<usize>) -> AnswerLine
     requires { pos 0 ≤ℤ weight }
     ensures { said result ≡ row_in volunteers (Some (unsigned_abs weight)) (Some members.items) }
@@ -108,7 +108,7 @@ fn stage_of(alloc: Global, volunteers: usize, fields: &[&[u8]]) -> Result<Answer
     }
 }
 
-/// Returns the stage, or `FaultyStage` if its numbers are out of range.
+/// Returns the stage, or `FaultyStage` if it doesn't have one weight per volunteer or its numbers are out of range.
 fn right_stage(volunteers: usize, stage: Stage) -> AnswerLine
     ensures { said result ≡ stage_words volunteers (Some stage.cap) (Some stage.weights) }
 {

@@ -44,7 +44,7 @@ pub(crate) const ENDING: u8 = 17;
 pub enum Progress {
     /// Before the first line.
     Begun,
-    /// After the first line, true for version 2 and false for version 1, with the progress of the pool's lines.
+    /// After the first line: true for version 2 or false for version 1, and the progress of the pool's lines.
     InPool(bool, PoolProgress),
     /// After the total: the pool, and the lottery with the panels read so far.
     InRows(Pool, Lottery),

@@ -21,7 +21,7 @@ const MISSING_END: u8 = 12;
 /// Reads the bytes as the text of a bundle. Fails exactly if they aren't the text of a bundle, with the first faulty line and its
 /// lowest kind of fault, or if memory runs out.
 pub fn read_bundle(alloc: Global, bytes: &[u8]) -> Result<Bundle, ReadBundle>
-    // A bundle that is read has this text, byte for byte.
+    // If a bundle is read, `bytes` are its text, byte for byte.
     ensures spelled { IfOk result (λ bundle. IsBundle bundle × (bytes.now ≡ bundle_spelling bundle)) }
     // The text of each bundle is read as this bundle, unless memory runs out.
     ensures read { (bundle : Words) → IsBundle bundle → bytes.now ≡ bundle_spelling bundle → Reads (Ok bundle) result }

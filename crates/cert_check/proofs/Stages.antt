@@ -20,7 +20,7 @@ use Rattle.cert_check.specs.Answers.{Answers, stage_answer}
 use Rattle.cert_check.specs.declared.stops.CheckStop.{CheckStop}
 use Rattle.cert_check.specs.declared.stops.CheckStop.TheVariants.{NodesSpent, OutOfMemory}
 
--- ---- lists of stages
+-- ---- a test of all elements of a list, in either order
 
 pub list_all-reverse : {X : Type 0} (p : X → Bool) (xs : List X) → list_all p (reverse xs) ≡ list_all p xs
 list_all-reverse {X} p [] = refl
@@ -33,7 +33,7 @@ list_all-reverse {X} p (x ∷ xs) =
     turned false true = refl
     turned false false = refl
 
--- ---- one stage
+-- ---- the answer about one stage, and about the later ones
 
 -- if `verdict` is a refusal, it is the answer, whatever comes next
 pub stops_at : (wanted next : Result Verdict ℕ) (verdict : Verdict) → holds verdict ≡ false → or_next verdict next ≡ Ok verdict

@@ -87,7 +87,8 @@ fn stage_verdict(
     cap_verdict(alloc, course, stage, nodes)
 }
 
-/// Returns the verdict on a stage's cap: reason 8 for a quota panel above it, reason 9 for a listed panel that doesn't weigh it.
+/// Returns the verdict on a stage's cap: reason 8 for a quota panel above the cap, else reason 9 for a listed panel whose weight isn't the
+/// cap.
 fn cap_verdict(
     alloc: Global,
     course: &Course<'_>,

@@ -15,9 +15,9 @@ power-le e h = pow-le-pow_right {n = 10} (omega arith) {i = e} {j = 38} h
 pub power-some : (e : ℕ) → 1 ≤ 10 ^ e
 power-some e = one-le-pow e 10 (omega arith)
 
--- ---- digits
+-- ---- the last digits of a number
 
--- the last digits begin with the first of them
+-- the last `count + 1` digits are the first of them, and then the last `count` digits
 pub first_of_last : (count number : ℕ) → last_digits (suc count) number ≡ (48 + number / 10 ^ count % 10) ∷ last_digits count number
 first_of_last zero number = ap (λ n. (48 + n % 10) ∷ []) (sym (ap (λ p. number / p) (pow-zero 10) ∙ div-one number))
 first_of_last (suc count) number =
@@ -25,7 +25,7 @@ first_of_last (suc count) number =
     let same : number / 10 / 10 ^ count ≡ number / 10 ^ suc count = div-div-eq-div-mul number 10 (10 ^ count) ∙ ap (λ p. number / p) (sym (pow-succ' 10 count)) in
     ap (λ ds. ds ++ last) (first_of_last count (number / 10)) ∙ ap (λ n. (48 + n % 10) ∷ last_digits (suc count) number) same
 
--- one digit more is written, and one less is left
+-- if the next digit is appended, the text with the digits that are left to write is the same as before
 pub digit_added : (start before after : List ℕ) (count place number digit : ℕ) → place < count → digit ≡ 48 + number / 10 ^ (count - 1 - place) % 10 →
     before ++ last_digits (count - place) number ≡ start → after ≡ before ++ digit ∷ [] → after ++ last_digits (count - (place + 1)) number ≡ start
 digit_added start before after count place number digit inside is so_far added =
@@ -37,7 +37,7 @@ digit_added start before after count place number digit inside is so_far added =
     ∙ ap (λ d. before ++ (d ∷ last_digits left number)) here ∙ ap (λ ds. before ++ ds) (sym (first_of_last left number))
     ∙ ap (λ k. before ++ last_digits k number) more ∙ so_far
 
--- ---- rounding
+-- ---- rounding to ten-thousandths
 
 pub half_less : (count whole : ℕ) → 1 ≤ count → (2 * count - 1) * whole + whole ≡ 2 * (count * whole)
 half_less zero whole some = absurd (omega arith)
@@ -45,7 +45,7 @@ half_less (suc n) whole some =
     let odd : 2 * suc n - 1 ≡ 2 * n + 1 = omega arith in
     rw odd (omega arith)
 
--- a part that isn't less than `count - 1/2` of 20000 halves reaches the count
+-- if `part / whole` is at least `count - 1/2` ten-thousandths, it has at least `count` ten-thousandths after rounding
 pub reached : (count part whole : ℕ) (order : Ordering) → 1 ≤ count → order ≡ nat_cmp ((2 * count - 1) * whole) (part * 20000) → (order ≡ Greater → ⊥) →
     2 * (count * whole) ≤ 20000 * part + whole
 reached count part whole Less some is other = let l = ranked ((2 * count - 1) * whole) (part * 20000) Less is in omega (arith, half_less count whole some, l)

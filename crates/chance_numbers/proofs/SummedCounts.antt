@@ -24,7 +24,7 @@ use Rattle.chance_numbers.proofs.Numbers.{power-some}
 
 -- ---- numbers written in two parts
 
--- the digits of a number are those before its last `count` digits, and these
+-- the digits of `high * 10 ^ count + low` are those of `high`, followed by the last `count` digits, which are those of `low`
 pub decimal_parts : (count high low : ℕ) → 1 ≤ high → low < 10 ^ count → high * 10 ^ count + low < 10 ^ 64 → decimal (high * 10 ^ count + low) ≡ decimal high ++ last_digits count low
 decimal_parts zero high low some small fits =
     let power : 10 ^ 0 ≡ 1 = pow-zero 10 in
@@ -104,7 +104,7 @@ counts_within pool lottery agrees i inside =
     let is : get_or (counts pool lottery) i 0 ≡ count lottery i = get_or-map-range_with_len (count lottery) 0 (length pool.volunteers) i i 0 below at in
     omega (arith, is, count_within lottery agrees i)
 
--- ---- the least and the greatest are within too
+-- ---- if all numbers of a list are at most the total, so are the least and the greatest
 
 least_from : (first total : ℕ) (xs : List ℕ) → first ≤ total → fold min first xs ≤ total
 least_from first total [] h = h

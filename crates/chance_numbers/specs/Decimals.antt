@@ -1,4 +1,4 @@
--- Numbers with a fixed number of places after the point. Dice and Chances cite it.
+-- Numbers with a fixed number of places after the point. `command_questions` and `bundle_page` cite it.
 use Rattle.std.specs.Prelude.{ℕ, zero, suc, ◌+◌, ◌*◌, ◌/◌, ◌%◌, ◌^◌, List, [], ◌∷◌, ◌++◌}
 use Rattle.std.specs.Fmt.{decimal}
 

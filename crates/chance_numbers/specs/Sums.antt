@@ -1,5 +1,5 @@
 -- The chances of those who have a value, added up. A chance is a volunteer's count over the total, so the counts are added. `chances` and
--- `page` print the sum over the total: it is the number of members with the value that is expected.
+-- `page` print the sum over the total, which is the expected number of members with the value.
 use Rattle.std.specs.Prelude.{ℕ, ◌==◌, List, filter, length, slice_index}
 use Rattle.std.specs.List.{range_with_len, sum_by}
 use Rattle.define_pools.specs.Pool.{Volunteer, volunteer}

@@ -7,7 +7,7 @@ ghost use Rattle.define_pools.specs.Lottery.{TotalAgrees, counts as counts_in};
 use pool_model::{Lottery, Pool, chances};
 use std::alloc::{AllocError, Global};
 
-/// Returns each volunteer's count. Each is at most the total.
+/// Returns each volunteer's count. Each count is at most the total.
 pub fn counts_of(alloc: Global, pool: &Pool, lottery: &Lottery) -> Result<Vec<u128>, AllocError>
     requires { TotalAgrees lottery.now }
     ensures value { IfOk result (λ counts. counts.items ≡ counts_in pool.now lottery.now) }
@@ -29,7 +29,7 @@ fn unsigned_counts(alloc: Global, pool: &Pool, lottery: &Lottery) -> Result<Vec<
         .collect(alloc)
 }
 
-/// Returns the least count, or 0 if there is none. Each is at most the total.
+/// Returns the least count, or 0 if there is none. Each count is at most the total.
 pub fn least(counts: &[u128], total: u128) -> u128
     requires within { EachIndex counts.now (λ i. slice_index counts.now i ≤ total) }
     ensures value { result ≡ words_of_least counts.now }
@@ -38,7 +38,7 @@ pub fn least(counts: &[u128], total: u128) -> u128
     counts.iter().copied().min().unwrap_or(0)
 }
 
-/// Returns the greatest count, or 0 if there is none. Each is at most the total.
+/// Returns the greatest count, or 0 if there is none. Each count is at most the total.
 pub fn greatest(counts: &[u128], total: u128) -> u128
     requires within { EachIndex counts.now (λ i. slice_index counts.now i ≤ total) }
     ensures value { result ≡ words_of_greatest counts.now }

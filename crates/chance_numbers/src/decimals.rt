@@ -58,7 +58,7 @@ fn digit_at(number: u128, place: usize) -> u8
     b'0' + (number / power_of_ten(place) % 10) as u8
 }
 
-/// Returns a power of ten.
+/// Returns `10^exponent`. The exponent is at most 38.
 pub fn power_of_ten(exponent: usize) -> u128
     requires { exponent ≤ 38 }
     ensures value { result ≡ 10 ^ exponent }
@@ -89,7 +89,7 @@ pub fn ten_thousandths(part: u128, whole: u128) -> u128
     low
 }
 
-/// True if `part / whole`, rounded, has at least `count` ten-thousandths. That is so if it is at least `count - 1/2` of them.
+/// True if `part / whole`, rounded, has at least `count` ten-thousandths: that is, if `part / whole` is at least `count - 1/2` of them.
 fn is_reached(count: u128, part: u128, whole: u128) -> bool
     requires from { 1 ≤ count }
     requires to { count ≤ 10001 }

@@ -1,6 +1,6 @@
 //! The numbers about a bundle that commands print: each volunteer's count, which is the chance times the total, the sums of the chances of
-//! those who have a value, and their texts as fractions and decimals. Stands on the lotteries of `pool_model` and on `frac128`. Above:
-//! `command_questions`, which prints them as lines, and `command_page`, which prints them as a page.
+//! those who have a value, and their texts as fractions and decimals. Stands on the lotteries of `pool_model` and on `frac128`. Used by
+//! `command_questions`, which prints them as lines, and `bundle_page`, which shows them on a page.
 //!
 //! Promises: each call returns the number, or the text, of the definitions: the chances of `define_pools`, and those in `specs`.
 #![tactic(auto)]

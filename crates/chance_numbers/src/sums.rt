@@ -46,14 +46,14 @@ pub fn sum_with(
     sum
 }
 
-/// Returns which value a volunteer has of the category `place`.
+/// Returns the place of a volunteer's value in the category at `place`, or 0 if there is no such category.
 fn value_at(volunteer: &Volunteer, place: usize) -> usize
     ensures { result ≡ slice_index volunteer.now.values place }
 {
     volunteer.values().get(place).copied().unwrap_or(0)
 }
 
-/// Returns the sum with one count more.
+/// Returns the sum with `count` added.
 fn with_count(sum: Sum, count: u128, total: u128) -> Sum
     requires rest { sum.rest < total }
     requires few { sum.whole < 400 }
@@ -131,7 +131,7 @@ fn fraction_of(alloc: Global, whole: u128, num: u128, den: u128) -> Result<Vec<u
     Ok(text)
 }
 
-/// Returns the digits of `whole * den + num`, which may pass 128 bits: its last 19 digits are reckoned apart.
+/// Returns the digits of `whole * den + num`. The number may pass 128 bits, so its last 19 digits are computed apart from the others.
 fn numerator(alloc: Global, whole: u128, num: u128, den: u128) -> Result<Vec<u8>, AllocError>
     requires few { whole ≤ 400 }
     requires num { num ≤ 10 ^ 38 }

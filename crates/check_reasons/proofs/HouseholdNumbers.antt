@@ -48,7 +48,7 @@ module _ (volunteers : List Volunteer) where
 
   -- ---- the number of a household
 
-  -- If `i` has a household, the test by number and the test by household give the same result.
+  -- If `i` has a household, the test `tested i`, which also passes `i` itself, is the same as `share i`.
   tested_is : (i : ℕ) → share i i ≡ true → (k : ℕ) → tested i k ≡ share i k
   tested_is i own k = by (eqb k i) refl
     where
@@ -135,8 +135,8 @@ module _ (volunteers : List Volunteer) where
   one_at_most true = omega arith
   one_at_most false = omega arith
 
-  -- The panel of `x` and `xs` keeps the households exactly if nobody in `xs` shares the household of `x`, and the panel of `xs` keeps the
-  -- households.
+  -- No two of `x` and `xs` are of one household exactly if nobody in `xs` shares the household of `x`, and no two of `xs` are of one
+  -- household.
   with_first : (x : ℕ) (xs : List ℕ) → list_all (few (x ∷ xs)) (x ∷ xs) ≡ (not (list_any (share x) xs) && list_all (few xs) xs)
   with_first x xs = by (list_any (share x) xs) refl
     where
@@ -172,8 +172,8 @@ module _ (volunteers : List Volunteer) where
       let rest = numbers_differ xs rises.1 within.1 in
       ap₂ (λ a b. not a && b) (again x xs (ltb-true x (length volunteers) within.0) rises.0) rest ∙ sym (with_first x xs)
 
--- The members' household numbers, looked up in the list of all volunteers' numbers, are different exactly if the panel keeps the
--- households.
+-- The members' household numbers, looked up in the list of all volunteers' numbers, are all different exactly if no two members are of one
+-- household.
 pub kept_numbers_differ : (volunteers : List Volunteer) (numbers panel : List ℕ) → numbers ≡ household_numbers volunteers → is_increasing panel ≡ true →
     list_all (λ i. ltb i (length volunteers)) panel ≡ true → none_twice (map (λ i. get_or numbers i 0) panel) ≡ keeps_households volunteers panel
 kept_numbers_differ volunteers numbers panel e up below =

@@ -38,7 +38,7 @@ comes_once (x ∷ xs) (suc j) l e once =
     let more : includes (take (j + 1) xs) x ≡ includes (take j xs) x = list_any_more (λ z. eqb z x) xs j 0 (omega arith) ∙ ap (λ b. includes (take j xs) x || b) back ∙ or-false (includes (take j xs) x) in
     rw next (ap₂ (λ a b. a && b) (ap not more ∙ parts.0) (comes_once xs j (omega arith) apart.1 parts.1))
 
--- If exactly the first `j` numbers are marked, then after one more mark exactly the first `j + 1` are.
+-- If exactly the first `j` numbers of the list are marked, then after number `j` is marked too, exactly the first `j + 1` are.
 pub marked_more : (xs : List ℕ) (marks : List Bool) (j h : ℕ) → j < length xs → h < length marks → ((k : ℕ) → k < length marks → get_or marks k false ≡ includes (take j xs) k) →
     get_or (set marks (get_or xs j 0) true) h false ≡ includes (take (j + 1) xs) h
 marked_more xs marks j h l below marked =

@@ -1,4 +1,4 @@
--- A check between two stages of a certificate. Over Reasons of `define_checks`. The contracts of `Course` cite it.
+-- A check between two stages of a certificate. Builds on Reasons of `define_checks`. The contracts of `Course` cite it.
 use Rattle.std.specs.Prelude.{◌≡◌, ℕ, ◌+◌, nat_lt, not, ℤ, int_lt, Bool, List, [], ◌∷◌, filter, length, map, pos, slice_index_or, Option}
 use Rattle.std.specs.List.{find}
 use Rattle.std.specs.Ordering.{int_eq}
@@ -14,7 +14,7 @@ pub record Course : Type 0 where
   pub earlier : List Stage
   pub later : List Stage
 
--- the course after its next stage is passed; the list has the stages to come, and without one the course is unchanged
+-- the course after its next stage is passed. The list has the stages to come; if it is empty, the course is unchanged
 abbrev pub passed : Course → List Stage → Course
 passed course [] = course
 passed course (stage ∷ later) = record course { earlier = stage ∷ course.earlier; later = later }
@@ -46,6 +46,6 @@ kept_reasons counted unsettled number stage =
     reason number 4 (one (find (λ i. int_lt (weight_of stage i) (pos 0)) unsettled)) ∷
     reason number 5 (nobody_unless (nat_lt 0 (length settling))) ∷ count_reasons counted unsettled settling number
 
--- 9: a listed panel doesn't weigh the cap of a stage
+-- reason 9, shown by the first listed panel that doesn't weigh the cap of the stage
 abbrev pub off_cap : Course → Stage → Option Refusal
 off_cap course stage = reason (length course.earlier + 1) 9 (find (λ panel. not (int_eq (panel_weight stage panel) stage.cap)) (listed course.lottery))

@@ -1,4 +1,5 @@
--- Households by number, so that those of a panel are compared as numbers. For `quotas`.
+-- Households by number, so that the households of a panel's members are compared as numbers. The contracts of src/quotas.rt and
+-- src/lotteries.rt cite it.
 use Rattle.std.specs.Prelude.{ℕ, ◌==◌, Bool, true, not, ◌&&◌, ◌||◌, List, [], ◌∷◌, length, map, unwrap_or}
 use Rattle.std.specs.List.{find, range_with_len}
 use Rattle.define_pools.specs.Lists.{includes}

@@ -1,4 +1,4 @@
--- A verdict, made of a refusal or of none. The contracts of `Verdict` and of the checks cite it.
+-- The verdict for a refusal, or for none. The contracts of `Verdict` cite it.
 use Rattle.std.specs.Prelude.{Bool, true, false, Option, Some, None}
 use Rattle.define_checks.specs.Reasons.{Refusal, Refused, Valid, Verdict}
 

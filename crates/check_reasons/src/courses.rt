@@ -1,5 +1,5 @@
 //! A check between two stages of a certificate: what it keeps of the lottery and of the stages that it passed, and the reasons of a stage,
-//! all except reason 8, that a quota panel is above its cap.
+//! all except reason 8: a quota panel is above the stage's cap.
 
 ghost use Rattle.std.specs.Prelude.{◌≡◌, ◌∷◌, [], ◌+◌, ◌<◌, ◌-◌, ◌≤◌, ◌^◌, ◌||◌, ℕ, false, IfOk, filter, int_lt, length, map, not, option_map, pos, reverse, slice_index_or, sum_by, unsigned_abs};
 ghost use Rattle.std.specs.List.{find, range_with_len};
@@ -38,7 +38,7 @@ impl<'a> Model for Course<'a> {
 }
 
 impl<'a> Course<'a> {
-    /// Begins a check of an answer whose lottery was not refused, before its first stage.
+    /// Begins a check of an answer, before its first stage. The total of the answer's lottery is the sum of its weights.
     pub fn begin(
         alloc: Global,
         pool: &'a Pool,

@@ -68,7 +68,7 @@ fn are_below(members: &[usize], count: usize) -> bool
     members.iter().all(|i| *i < count)
 }
 
-/// True if each seated volunteer is a member, and none who is gone is.
+/// True if each seated volunteer is a member, and no volunteer who is gone is a member.
 fn keep_standings(
     alloc: Global,
     volunteers: &[Volunteer],
@@ -124,7 +124,7 @@ fn mark(marks: &mut [bool], members: &[usize])
     }
 }
 
-/// True if for each value of each category the number of members is within its bounds.
+/// True if, for each value of each category, the number of members who have it is within its bounds.
 fn meet_quotas(
     alloc: Global,
     categories: &[Category],

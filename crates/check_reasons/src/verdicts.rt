@@ -1,4 +1,4 @@
-//! Verdicts as values: a certificate is valid, or refused for a reason.
+//! Verdicts as values: a certificate or a proof is valid, or refused for a reason.
 
 ghost use Rattle.std.specs.Prelude.{◌≡◌, option_map, IfOk};
 ghost use Rattle.define_checks.specs.Reasons.{Refused, Valid};
@@ -7,7 +7,7 @@ ghost use Rattle.check_reasons.specs.Sayings.{holds, verdict_of};
 use std::alloc::{AllocError, Global};
 use std::marker::Model;
 
-/// Why a certificate is refused.
+/// Why a certificate or a proof is refused.
 #[derive(Debug, Drop)]
 pub struct Refusal {
     stage: usize,
@@ -24,7 +24,7 @@ impl Model for Refusal {
 }
 
 impl Refusal {
-    /// Returns the number of the stage, from 1, or 0 for the lottery itself.
+    /// Returns the number of the stage, from 1, or 0 for the lottery itself and for a proof that there is no quota panel.
     pub fn stage(&self) -> usize
         ensures { result ≡ self.now.stage }
     {
@@ -38,7 +38,8 @@ impl Refusal {
         self.reason
     }
 
-    /// Returns the numbers of the volunteers who show the reason.
+    /// Returns the numbers of the volunteers who show the reason. For the reasons 11 and 12, which only a proof has, it has instead the
+    /// number of the faulty line in the proof's text.
     pub fn who(&self) -> &[usize]
         ensures { result.now ≡ self.now.who }
     {
@@ -46,7 +47,7 @@ impl Refusal {
     }
 }
 
-/// The outcome of a check of a certificate: valid, or why it is refused.
+/// The outcome of a check of a certificate or of a proof: valid, or why it is refused.
 #[derive(Debug, Drop)]
 pub struct Verdict {
     refusal: Option<Refusal>,
@@ -62,15 +63,15 @@ impl Model for Verdict {
 }
 
 impl Verdict {
-    /// Returns the verdict that the certificate is valid.
+    /// Returns the verdict that the certificate or the proof is valid.
     pub fn valid() -> Verdict
         ensures { result ≡ Valid }
     {
         Verdict { refusal: None }
     }
 
-    /// Returns the verdict that the certificate is refused at a stage, or at 0 for the lottery itself, for a reason that the volunteers
-    /// `who` show.
+    /// Returns the verdict that the certificate or the proof is refused. `stage`, `reason` and `who` are what the calls of these names of
+    /// `Refusal` return.
     pub fn refused(
         alloc: Global,
         stage: usize,
@@ -84,14 +85,14 @@ impl Verdict {
         Ok(Verdict { refusal })
     }
 
-    /// True if the certificate is valid.
+    /// True if the certificate or the proof is valid.
     pub fn is_valid(&self) -> bool
         ensures { result ≡ holds self.now }
     {
         self.refusal.is_none()
     }
 
-    /// Returns why the certificate is refused, or None if it is valid.
+    /// Returns why the certificate or the proof is refused, or None if it is valid.
     pub fn refusal(&self) -> Option<&Refusal>
         ensures { self.now ≡ verdict_of (option_map (λ refusal. refusal.now) result) }
     {

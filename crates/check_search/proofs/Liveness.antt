@@ -21,7 +21,8 @@ values_fail all front class count tally limits places stands tracks (c, bound, b
     false_from_ne_true (values_reachable all (front ++ count ∷ []))
     (λ yes. false≢true (sym fails ∙ reach_of_child all front class count tally limits places stands tracks yes c bound below has))
 
--- If the child's size can still be met, its size and its values are reachable exactly if `answer`, the test of the class's values, is true.
+-- If the size can still be met with the child, `answer`, which is the test of the class's values, is true exactly if the child's size and
+-- values are reachable.
 pub child_live : (all : Classes) (front : List ℕ) (class : Class) (count : ℕ) (tally : FrontTally) → KeepsLimits all → HasPlaces all.bounds class → Stands all (length front) class → is_reachable all front ≡ true →
     Tracks all front (drop (length front + 1) all.classes) tally → (leb (tally.taken + count) all.size && leb all.size (tally.taken + count + tally.later_taken)) ≡ true →
     (answer : Bool) → (answer ≡ true → AllReach all.bounds tally.held tally.later class.values count) → (answer ≡ false → OneFails all.bounds tally.held tally.later class.values count) →

@@ -17,7 +17,7 @@ use Rattle.laws_of_fronts.proofs.Fronts.{within_more, placed, front_length}
 use Rattle.laws_of_fronts.proofs.WeightLaws.{weighs_back}
 use Rattle.define_searches.proofs.FirstSearch.{taken_none}
 
--- If only the tally changes, and it is right for the front with `rest'` to come, the search is still at the front.
+-- If only the tally changes, and is then right for the front with the classes `rest'` to come, the search is still at the front.
 pub stands_with : (all : Classes) (closed : List Row) (row : Row) (depth : ℕ) (rest rest' : List Class) (before after : Search) → StandsAt all closed row depth rest before → after.counts.items ≡ before.counts.items →
     after.weights ≡ before.weights → after.closed.items ≡ before.closed.items → Tracks all (take depth before.counts.items) rest' after.tally → StandsAt all closed row depth rest' after
 stands_with all closed row depth rest rest' before after stands e g h tracks = record {
@@ -30,7 +30,7 @@ stands_with all closed row depth rest rest' before after stands e g h tracks = r
   closed_rows = subst (λ xs. WeighEach all closed (take depth xs) after.closed.items) (sym e) (subst (WeighEach all closed (take depth before.counts.items)) (sym h) stands.closed_rows);
 }
 
--- If the empty front is live, a search that begins is at it.
+-- If the empty front is live, a search that begins is at this front.
 pub begins_there : (all : Classes) (closed : List Row) (row : Row) (search : Search) → Begins all closed row search → is_live_above all closed row row.b [] ≡ true → StandsAt all closed row 0 all.classes search
 begins_there all closed row search begins live =
     let parts = and_parts (is_reachable all [] && list_all (λ r. int_le r.b (optimistic all r [])) closed) (int_lt row.b (optimistic all row [])) live in

@@ -53,9 +53,9 @@ children_next all closed row depth front least (suc more) some =
     children_more all closed row (drop (depth + 1) all.classes) front (least + suc more) (counts_down least more)
     ∙ ap (λ n. then_next (child_at all closed row depth front (least + suc more)) (children_at all closed row depth front least n)) (sym less)
 
--- ---- steps
+-- ---- two searches, one after the other, in one step
 
--- If the search `one` finds nothing and a step then makes the search `rest`, the whole is a step that makes both.
+-- If the search `one` finds nothing, and a step after it makes the search `rest`, the two together are one step that makes both searches.
 pub both : (all : Classes) (closed : List Row) (row : Row) (depth : ℕ) (later : List Class) (one rest : Due) (before mid : Search) (result : Result Bool BudgetSpent) (after : Search) →
     before.left ≡ mid.left + one.visits → one.found ≡ None → take depth mid.counts.items ≡ take depth before.counts.items →
     Steps all closed row depth later rest mid result after → Steps all closed row depth later (then_next one rest) before result after
@@ -66,7 +66,7 @@ both all closed row depth later one rest before mid (Ok false) after left none s
 both all closed row depth later one rest before mid (Err spent) after left none same steps =
     let due = found_later one rest none in rw due (omega arith)
 
--- ---- in the words of the code
+-- ---- steps by what they return: a spent budget, true or false
 
 pub steps_err : (all : Classes) (closed : List Row) (row : Row) (depth : ℕ) (later : List Class) (due : Due) (before : Search) (result : Result Bool BudgetSpent) (after : Search) → IsErr result → before.left < due.visits → Steps all closed row depth later due before result after
 steps_err all closed row depth later due before (Ok found) after e lt = absurd (false≢true e)
@@ -199,7 +199,7 @@ module _ (all : Classes) (closed : List Row) (row : Row) (depth : ℕ) (front : 
         | false ↦ λ t. let lt = leb-false c top t in above c lt (omega (arith, n, e))
       ]) refl)
 
--- ---- entering
+-- ---- the search that enters a front
 
 pub enter_visits : (all : Classes) (closed : List Row) (row : Row) (later : List Class) (front : List ℕ) → 0 < (enter_above all closed row later front).visits
 enter_visits all closed row [] front = omega arith

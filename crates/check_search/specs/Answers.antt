@@ -1,4 +1,4 @@
--- The answer of a search under a budget of visits. Over Visits of `define_checks`. The promise of `panel_above_cap` cites it.
+-- The answer of a search under a budget of visits. Builds on Visits of `define_checks`. The promise of `panel_above_cap` cites it.
 use Rattle.std.specs.Prelude.{◌≡◌, ◌≤◌, ◌<◌, ℕ, List, Option, Result, Ok, Err}
 use Rattle.define_checks.specs.Caps.{first_above_cap}
 use Rattle.define_checks.specs.Visits.{stage_search}
@@ -16,7 +16,7 @@ Answers search nodes (Err Spent) = nodes < search.visits
 Answers search nodes (Err OutOfMemory) = Unit {0}
 
 -- the answer of the search at `stage`: the first panel above its cap if the search's visits are within `nodes`, else that the budget is
--- spent; running out of memory is allowed at any time. The earlier stages have the latest first
+-- spent; running out of memory is allowed at any time. The list of earlier stages begins with the latest
 abbrev pub AnswersAt : Pool → List Stage → Stage → ℕ → Result (Option (List ℕ)) CapStop → Type 0
 AnswersAt pool earlier stage nodes (Ok found) = ((stage_search pool earlier stage).visits ≤ nodes) × (found ≡ first_above_cap pool earlier stage)
 AnswersAt pool earlier stage nodes (Err Spent) = nodes < (stage_search pool earlier stage).visits

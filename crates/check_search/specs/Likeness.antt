@@ -1,4 +1,4 @@
--- Who is alike at a stage, after earlier stages. For `likeness`.
+-- Who is alike at a stage, after earlier stages. The contracts of src/likeness.rt and src/grouping.rt cite it.
 use Rattle.std.specs.Prelude.{◌≡◌, ◌∷◌, ℕ, Bool, List, Option, length, map}
 use Rattle.std.specs.List.{range_with_len}
 use Rattle.define_checks.specs.Caps.{alike_at}

@@ -1,4 +1,4 @@
--- One step of the search. For `searching`.
+-- One step of the search. The contracts of src/searching.rt cite it.
 use Rattle.std.specs.Prelude.{◌≡◌, ◌≤◌, ◌<◌, ◌+◌, ℕ, if◌then◌else◌, Bool, true, false, List, [], ◌∷◌, ◌++◌, length, take, drop, filter, map, Result, Ok, Err, Some, None}
 use Rattle.define_checks.specs.Visits.{enter_above}
 use Rattle.define_rows.specs.Row.{Row}

@@ -1,4 +1,4 @@
--- What a search reads. For `terms`.
+-- What a search reads. The contracts of src/terms.rt and src/searching.rt cite it.
 use Rattle.std.specs.Prelude.{◌≡◌, ◌∷◌, List, map}
 use Rattle.define_checks.specs.Caps.{classes_at, stage_row}
 use Rattle.define_pools.specs.Certificate.{Stage}
@@ -14,7 +14,7 @@ pub record AreTerms (terms : Terms) : Type 0 where
   pub summed : IsSummed terms.classes terms.row terms.sums
   pub closed_summed : SumEach terms.classes terms.closed.items terms.closed_sums.items
 
--- the classes and rows are those of `stage` after the stages `earlier`, of which the latest is first
+-- the classes and rows are those of `stage` after the stages `earlier`, which are listed with the latest first
 pub record AreOfStage (pool : Pool) (earlier : List Stage) (stage : Stage) (terms : Terms) : Type 0 where
   pub classes : terms.classes ≡ classes_at pool (stage ∷ earlier)
   pub closed : terms.closed.items ≡ map (stage_row pool (stage ∷ earlier)) earlier

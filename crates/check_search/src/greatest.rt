@@ -118,9 +118,9 @@ fn put_unit(sums: &mut [i128], units: usize, weight: i128)
     }
 }
 
-// Returns the greatest sum of `count` units, out of `units` units and one more. `without` is the greatest sum without the one more, and
-// `with_it` the greatest with it. If `count` is above `units`, returns `with_it`, since the one more must be taken; else returns the
-// greater of the two.
+// Returns the greatest sum of `count` units if a new unit joins `units` units. `without` is the greatest sum without the new unit, and
+// `with_it` the greatest sum with it. If `count` is above `units`, returns `with_it`, since the new unit must be taken; else returns the
+// greater of the two sums.
 fn greater(units: usize, count: usize, without: i128, with_it: i128) -> i128
     ensures { IsGreater units count without with_it result }
 {

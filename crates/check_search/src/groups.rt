@@ -205,7 +205,7 @@ impl Classes {
         self.classes.iter().map(|class| class.size()).sum()
     }
 
-    // Returns the class at `place`. Its contract also has what holds of each class of a `Classes`.
+    // Returns the class at `place`. Its contract also says what holds of each class of a `Classes`.
     pub(crate) fn class_at(&self, place: usize) -> &Class
         requires { place < length self.now.classes }
         ensures limits { KeepsLimits self.now }
@@ -216,7 +216,7 @@ impl Classes {
         &self.classes()[place]
     }
 
-    // Does nothing; its contract has what holds of each `Classes`.
+    // Does nothing; its contract says what holds of each `Classes`.
     pub(crate) fn facts(&self)
         ensures { KeepsLimits self.now }
     {

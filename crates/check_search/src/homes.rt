@@ -27,7 +27,7 @@ pub(crate) fn take_at(homes: &mut [usize], household: Option<usize>, count: usiz
     }
 }
 
-// True if, with `count` more, at most one member of the household is taken, or if there is no household.
+// True if at most one member of the household is taken after `count` more are taken, or if there is no household.
 pub(crate) fn has_room(homes: &[usize], household: Option<usize>, count: usize) -> bool
     requires known { IsKnownHousehold (length homes.now) household }
     requires small { AreFew homes.now }

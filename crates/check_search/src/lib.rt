@@ -1,5 +1,6 @@
-//! A check's search for a quota panel above the cap of a stage, under a budget of visits. It makes classes of its own, also by the weights
-//! of the stages, and goes through their compositions. It shares no code with the solver. Stands on `define_checks`, which says what it
+//! A check's search for a quota panel above the cap of a stage, under a budget of visits. It makes classes of its own, which also
+//! depend on the weights of the stages, and goes through their compositions. It uses none of the crates of the
+//! solver: `alike`, `exact_table`, `panel_search`, `pricing_pool` and `leximin_run`. Stands on `define_checks`, which says what the search
 //! finds and what a visit is, `laws_of_fronts`, and `pool_model`. Used by `cert_check`.
 //!
 //! Promise: `panel_above_cap`. All else is a helper.

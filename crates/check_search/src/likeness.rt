@@ -14,8 +14,8 @@ use define_pools::Standing;
 use pool_model::{Pool, Stage, Volunteer, share_household};
 use std::alloc::{AllocError, Global};
 
-// What decides whether volunteers are alike: a stage and the earlier ones, the latest first, and for each volunteer the number of the
-// household that they share with somebody.
+// What decides whether volunteers are alike: the pool, a stage and the earlier ones, the latest first, and for each volunteer the number
+// of the household that they share with somebody.
 #[derive(Debug, Drop)]
 pub(crate) struct Likeness<'a> {
     pub(crate) pool: &'a Pool,

@@ -33,7 +33,7 @@ pub enum CapStop {
 
 // Searches for a composition that attains the closed rows and weighs more than the right side of the row. Returns the first one, in order
 // of classes with the greater count first, or None if there is none. Fails if the search needs more than `nodes` visits: each front that is
-// entered is one, also the empty front. All memory is taken before the first visit.
+// entered counts as one visit, also the empty front. All memory is taken before the first visit.
 pub(crate) fn first_above(
     alloc: Global,
     terms: &Terms,
@@ -100,7 +100,7 @@ impl Search {
         })
     }
 
-    // Makes the whole search. All its memory is taken before, so only the budget can stop it.
+    // Makes the whole search. `new` took all memory that it needs, so only the budget can stop it.
     fn run(mut self, terms: &Terms) -> Result<Option<Composition>, BudgetSpent>
         requires terms { AreTerms terms.now }
         requires begins { Begins terms.now.classes terms.now.closed.items terms.now.row self }
@@ -164,8 +164,8 @@ impl Search {
         Ok(())
     }
 
-    // True if the child's optimistic weights are at least the closed rows' right sides, and more than the row's. The row is tried
-    // first, which rules out the most children.
+    // True if the child's optimistic weight in each closed row is at least the right side of that row, and in the row more than its right
+    // side. The row is tried first, since it rules out the most children.
     fn weights_allow(&mut self, terms: &Terms, depth: usize, count: usize) -> bool
         requires terms { AreTerms terms.now }
         requires below { depth < length terms.now.classes.classes }

@@ -39,8 +39,8 @@ pub(crate) fn take_from(cells: &mut [usize], values: &[usize], count: usize)
     }
 }
 
-// True if the bounds of each value in `values` can be met: with `count` more members who have it, its number is at most the upper bound,
-// and with `later` more reaches the lower one.
+// True if the bounds of each value in `values` can still be met after `count` more members with these values are taken: the value's number
+// is then at most its upper bound, and with the members that `later` has for the value it reaches its lower bound.
 pub(crate) fn values_allow(
     bounds: &[ValueBounds],
     held: &[usize],
@@ -67,7 +67,8 @@ pub(crate) fn values_allow(
     true
 }
 
-// Returns the greatest count, at most `most`, that the upper bounds of `values` allow. With more, some value exceeds its bound.
+// Returns the greatest count, at most `most`, that the upper bounds of `values` allow. With more, up to `most`, some value exceeds its
+// bound.
 pub(crate) fn room_left(
     bounds: &[ValueBounds],
     held: &[usize],
@@ -87,7 +88,8 @@ pub(crate) fn room_left(
     room
 }
 
-// Returns the least count, at least `least`, that the lower bounds of `values` need. With fewer, some value can't reach its bound.
+// Returns the least count, at least `least`, that the lower bounds of `values` need. With fewer, down to `least`, some value can't reach
+// its bound.
 pub(crate) fn number_needed(
     bounds: &[ValueBounds],
     held: &[usize],
@@ -112,7 +114,7 @@ pub(crate) fn number_needed(
     needed
 }
 
-// True if each value's number is at most its upper bound and with `later` reaches its lower one.
+// True if each value's number in `held` is at most its upper bound, and with its number in `later` added reaches its lower bound.
 pub(crate) fn all_within_reach(bounds: &[ValueBounds], held: &[usize], later: &[usize]) -> bool
     requires held { FitCells bounds.now held.now }
     requires later { FitCells bounds.now later.now }

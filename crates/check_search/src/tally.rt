@@ -124,8 +124,8 @@ impl Tally {
             )
     }
 
-    // Returns the greatest count of the next class, at most `most`, that the size and the upper bounds allow. With more, the front isn't
-    // reachable.
+    // Returns the greatest count of the next class, at most `most`, that the size and the upper bounds allow. With more, up to `most`, the
+    // front isn't reachable.
     pub(crate) fn greatest_count(&self, classes: &Classes, front: &[usize], most: usize) -> usize
         requires below { length front.now < length classes.now.classes }
         requires stands { Tracks classes.now front.now (drop (length front.now + 1) classes.now.classes) self.now }
@@ -137,8 +137,8 @@ impl Tally {
         room_left(classes.bounds(), &self.held, class.values(), most.min(lack))
     }
 
-    // Returns the least count of the next class, at least `least`, that the size and the lower bounds need. With fewer, the front isn't
-    // reachable.
+    // Returns the least count of the next class, at least `least`, that the size and the lower bounds need. With fewer, down to `least`,
+    // the front isn't reachable.
     pub(crate) fn least_count(&self, classes: &Classes, front: &[usize], least: usize) -> usize
         requires below { length front.now < length classes.now.classes }
         requires live { is_reachable classes.now front.now ≡ true }

@@ -26,7 +26,7 @@ pub(crate) struct Terms {
 }
 
 impl Terms {
-    // Makes the terms of a stage after the earlier stages, which have the latest first.
+    // Makes the terms of a stage after the earlier stages, which are listed with the latest first.
     pub(crate) fn new(
         alloc: Global,
         pool: &Pool,

@@ -28,7 +28,7 @@ use Rattle.command_questions.specs.Questions.{QuestionMeans}
 use Rattle.command_questions.specs.declared.questions.Question.TheVariants.{Chances}
 use Rattle.command_browser.specs.Told.{Answers, NotUtf8, Read, TextOf, TooLong, WithWords}
 
--- ---- texts of lines
+-- ---- a text of at least one line has bytes
 
 line_some : (line : List ℕ) (rest : List (List ℕ)) → 1 ≤ length (text_of (line ∷ rest))
 line_some line rest = grind (arith, length-append)
@@ -43,11 +43,11 @@ fields_some fields = line_some (line_of fields) []
 left_some : (first second : List ℕ) → 1 ≤ length first → 1 ≤ length (first ++ second)
 left_some first second some = grind (arith, length-append)
 
--- what equals a text that has bytes has bytes
+-- if a text equals one that has bytes, it has bytes
 so : (text other : List ℕ) → text ≡ other → 1 ≤ length other → 1 ≤ length text
 so text other is some = rw is some
 
--- ---- meanings
+-- ---- the right answers of each command have bytes
 
 abbrev pub HasBytes : RightAnswers → Type 0
 HasBytes meaning = (answer : Saying) → IsRight meaning answer → 1 ≤ length (bytes_of answer)
@@ -135,7 +135,7 @@ drawn_page_of_bundle_some digits bundle answer right = absurd right
 pub drawn_page_some : (digits : List ℕ) (input : BundleOrProof) → HasBytes (DrawnPageMeans None digits input)
 drawn_page_some digits input = about_some (DrawnPageOfBundle None digits) (drawn_page_of_bundle_some digits) (bundle_in input)
 
--- ---- texts about bytes
+-- ---- the texts that exported calls give have bytes
 
 about_bytes_some : {Value : Type 0} (format : Format Value) (meaning : Value → RightAnswers) → ((value : Value) → HasBytes (meaning value)) →
     (bytes : List ℕ) (answer : Saying) → About format (λ value. IsTheAnswer (meaning value)) bytes answer → 1 ≤ length (bytes_of answer)

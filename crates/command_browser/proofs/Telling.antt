@@ -1,4 +1,4 @@
--- If a text is right, and it was put, or there is none for want of memory, a right text was told, or memory was wanting.
+-- If a right text was put into the room, or no text was made for want of memory, the call ends as `Told` says.
 use Rattle.std.proofs.Common.{◌≡◌, ℕ, List, Result, Ok, Err, None, subst}
 use Rattle.std.specs.Prelude.{IfErr, IfOk}
 use Rattle.command_shell.specs.Formats.{bundle_format}
@@ -13,14 +13,14 @@ pub told_so : {Text Error : Type 0} (items : Text → List ℕ) (Right : List �
 told_so items Right (Ok it) before after count right put none alone = Tells (items it) right put
 told_so items Right (Err error) before after count right put none alone = WantsMemory none alone
 
--- what is told for a draw is told for equal words
+-- a text that is right for a draw is right for a draw with an equal seal and equal digits
 pub draws_so : (seal digits given_seal given_digits bytes text : List ℕ) → seal ≡ given_seal → digits ≡ given_digits →
     TextOf bundle_format (DrawMeans seal digits) bytes text → TextOf bundle_format (DrawMeans given_seal given_digits) bytes text
 draws_so seal digits given_seal given_digits bytes text same_seal same_digits right =
     subst (λ one. TextOf bundle_format (DrawMeans given_seal one) bytes text) same_digits
     (subst (λ one. TextOf bundle_format (DrawMeans one digits) bytes text) same_seal right)
 
--- and for a page
+-- a text that is right for a page with the digits of dice is right for a page with equal digits
 pub pages_so : (digits given bytes text : List ℕ) → digits ≡ given → TextOf bundle_or_proof_format (DrawnPageMeans None digits) bytes text →
     TextOf bundle_or_proof_format (DrawnPageMeans None given) bytes text
 pages_so digits given bytes text same right = subst (λ one. TextOf bundle_or_proof_format (DrawnPageMeans None one) bytes text) same right

@@ -1,5 +1,5 @@
--- What a call tells a page in a browser: the text that the command tells for the same bytes and words, and where it is put. Over the shell's
--- answers, lines and subjects. The contract of every exported call cites it.
+-- What an exported call gives a page in a browser: the text that the command answers for the same bytes and words, and where the text is
+-- put. Builds on the shell's answers, lines and subjects. The contract of every exported call cites it.
 use Rattle.std.specs.Prelude.{◌≡◌, ◌≤◌, ◌<◌, ℕ, List, length, drop, ◌++◌, codes}
 use Rattle.command_shell.specs.Answers.{IsTheAnswer, RightAnswers, Saying, bytes_of}
 use Rattle.command_shell.specs.Lines.{input_limit, too_long_line}
@@ -13,7 +13,7 @@ pub data TextAbout {Value : Type 0} (format : Format Value) (Means : Value → S
   Answers : (answer : Saying) → length bytes ≤ input_limit → About format Means bytes answer → text ≡ bytes_of answer → TextAbout format Means bytes text
   TooLong : input_limit < length bytes → text ≡ too_long_line → TextAbout format Means bytes text
 
--- the text that a command of this meaning tells for these bytes: that of the one right answer
+-- the text that a command of this meaning answers about these bytes: that of its one right answer
 abbrev pub TextOf : {Value : Type 0} → Format Value → (Value → RightAnswers) → List ℕ → List ℕ → Type 0
 TextOf format meaning bytes text = TextAbout format (λ value. IsTheAnswer (meaning value)) bytes text
 
@@ -21,15 +21,15 @@ TextOf format meaning bytes text = TextAbout format (λ value. IsTheAnswer (mean
 abbrev pub words_not_utf8_line : List ℕ
 words_not_utf8_line = codes "error: invalid UTF-8 was detected in one or more arguments\n"
 
--- the text is right, and the words of the call are UTF-8; or they aren't, and it is the line that says so
+-- the words of the call are UTF-8 and the text is right, or the words aren't UTF-8 and the text is the line that says so
 pub data WithWords (AreUtf8 : Type 0) (Right : List ℕ → Type 0) (text : List ℕ) : Type 0 where
   Read : AreUtf8 → Right text → WithWords AreUtf8 Right text
   NotUtf8 : (AreUtf8 → ⊥) → text ≡ words_not_utf8_line → WithWords AreUtf8 Right text
 
--- ---- where it is put
+-- ---- where the text is put
 
--- the count is the length of the text, which no text has as 0. If the room is long enough, the text is at its beginning, and the rest is as
--- before; else all of it is as before
+-- `count` is the length of the text, which is never 0. If the text fits into the room, it is at the room's beginning, and the rest of the
+-- room is as before; else the whole room is as before
 pub record IsPut (text before after : List ℕ) (count : ℕ) : Type 0 where
   pub whole : count ≡ length text
   pub some : 1 ≤ count

@@ -1,5 +1,5 @@
-//! The exported calls. The page lends `room` for the text. The result is the text's length, or 0 for want of memory; the text is put only
-//! if the room is long enough for it.
+//! The exported calls. The page lends `room` for the text. The result is the text's length, or 0 for want of memory. The text is put into
+//! `room` only if it fits.
 
 ghost use Rattle.std.specs.Prelude.{IsUtf8, None};
 ghost use Rattle.command_shell.specs.Formats.{bundle_format, proof_format};
@@ -21,7 +21,7 @@ use command_proofs::{ItsBundle, Verify};
 use command_questions::Question;
 use std::alloc::Global;
 
-/// Tells what `verify` tells of a proof.
+/// Puts into `room` the text that `verify` answers about a proof.
 #[unsafe(no_mangle)]
 pub extern "C" fn tell_verify(alloc: Global, proof: &[u8], room: &mut [u8]) -> usize
     ensures { Told (TextOf proof_format VerifyMeans proof.now) room.old room.new result }
@@ -29,7 +29,7 @@ pub extern "C" fn tell_verify(alloc: Global, proof: &[u8], room: &mut [u8]) -> u
     tell(text_of(alloc, &Verify, proof), room)
 }
 
-/// Tells what `bundle` tells of a proof: the text of its bundle, or that it has none.
+/// Puts into `room` the text that `bundle` answers about a proof: the text of its bundle, or the line that it has no lottery.
 #[unsafe(no_mangle)]
 pub extern "C" fn tell_bundle(alloc: Global, proof: &[u8], room: &mut [u8]) -> usize
     ensures { Told (TextOf proof_format BundleMeans proof.now) room.old room.new result }
@@ -37,7 +37,7 @@ pub extern "C" fn tell_bundle(alloc: Global, proof: &[u8], room: &mut [u8]) -> u
     tell(text_of(alloc, &ItsBundle, proof), room)
 }
 
-/// Tells what `seal` tells of a bundle.
+/// Puts into `room` the text that `seal` answers about a bundle.
 #[unsafe(no_mangle)]
 pub extern "C" fn tell_seal(alloc: Global, bundle: &[u8], room: &mut [u8]) -> usize
     ensures { Told (TextOf bundle_format SealMeans bundle.now) room.old room.new result }
@@ -45,7 +45,7 @@ pub extern "C" fn tell_seal(alloc: Global, bundle: &[u8], room: &mut [u8]) -> us
     tell(text_of(alloc, &Seal, bundle), room)
 }
 
-/// Tells what `draw` tells of a bundle for this seal and these digits.
+/// Puts into `room` the text that `draw` answers about a bundle for this seal and these digits, or the line for words that aren't UTF-8.
 #[unsafe(no_mangle)]
 pub extern "C" fn tell_draw(
     alloc: Global,
@@ -60,7 +60,7 @@ pub extern "C" fn tell_draw(
     tell(text_of_draw(alloc, bundle, seal, digits), room)
 }
 
-/// Tells what `chances` tells of a bundle.
+/// Puts into `room` the text that `chances` answers about a bundle.
 #[unsafe(no_mangle)]
 pub extern "C" fn tell_chances(alloc: Global, bundle: &[u8], room: &mut [u8]) -> usize
     ensures { Told (TextOf bundle_format (QuestionMeans Chances) bundle.now) room.old room.new result }
@@ -68,7 +68,7 @@ pub extern "C" fn tell_chances(alloc: Global, bundle: &[u8], room: &mut [u8]) ->
     tell(text_of(alloc, &Question::Chances, bundle), room)
 }
 
-/// Tells what `page` tells of a bundle or a proof: a whole HTML page, or why there is none.
+/// Puts into `room` the text that `page` answers about a bundle or a proof: a whole HTML page, or why there is none.
 #[unsafe(no_mangle)]
 pub extern "C" fn tell_page(alloc: Global, input: &[u8], room: &mut [u8]) -> usize
     ensures { Told (TextOf bundle_or_proof_format PageMeans input.now) room.old room.new result }
@@ -76,7 +76,8 @@ pub extern "C" fn tell_page(alloc: Global, input: &[u8], room: &mut [u8]) -> usi
     tell(text_of(alloc, &Page, input), room)
 }
 
-/// Tells what `page --drawn` tells of a bundle or a proof for these digits.
+/// Puts into `room` the text that `page --drawn` answers about a bundle or a proof for these digits, or the line for words that aren't
+/// UTF-8.
 #[unsafe(no_mangle)]
 pub extern "C" fn tell_drawn_page(
     alloc: Global,

@@ -1,4 +1,4 @@
-//! The texts that commands tell for some bytes, as the shell's `call` tells them for a source that holds these bytes.
+//! The texts that commands answer about some bytes: those that the shell's `call` prints if its source holds these bytes.
 
 ghost use Rattle.std.specs.Prelude.{◌≡◌, IfOk, IsUtf8, None};
 ghost use Rattle.command_shell.specs.Answers.{Stops, bytes_of, saying};
@@ -25,7 +25,7 @@ const TOO_LONG_LINE: &[u8] = b"input\t0\t10\n";
 
 const WORDS_NOT_UTF8_LINE: &[u8] = b"error: invalid UTF-8 was detected in one or more arguments\n";
 
-/// Returns the text that `draw` tells about a bundle for this seal and these digits.
+/// Returns the text that `draw` answers about a bundle for this seal and these digits, or the line for words that aren't UTF-8.
 pub(crate) fn text_of_draw(
     alloc: Global,
     bundle: &[u8],
@@ -41,7 +41,7 @@ pub(crate) fn text_of_draw(
     }
 }
 
-/// Returns the text that `page --drawn` tells about a bundle or a proof for these digits.
+/// Returns the text that `page --drawn` answers about a bundle or a proof for these digits, or the line for words that aren't UTF-8.
 pub(crate) fn text_of_drawn_page(
     alloc: Global,
     input: &[u8],
@@ -63,7 +63,7 @@ pub(crate) fn text_of_drawn_page(
     }
 }
 
-/// Returns the text that `command` tells for `bytes`.
+/// Returns the text that `command` answers about `bytes`.
 pub(crate) fn text_of<C: Command>(
     alloc: Global,
     command: &C,

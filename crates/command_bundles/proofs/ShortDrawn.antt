@@ -1,4 +1,4 @@
--- The answers of `short-draw`: at most one is right, and a refused draw is told.
+-- At most one answer of `short-draw` is right, and the line of a refused draw is a right answer.
 use Rattle.std.proofs.Common.{true, ◌≡◌, ◌≤◌, ◌^◌, ◌∙◌, ℕ, List, Result, Ok, Err, length, ltb, map, refl, ap, ap₂, sym, subst, rules}
 use Rattle.std.specs.List.{list_all}
 use Rattle.define_pools.specs.Lottery.{TotalAgrees}

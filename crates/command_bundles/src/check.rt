@@ -61,7 +61,7 @@ fn told(alloc: Global, verdict: &Verdict) -> Result<Answer, AllocError>
     }
 }
 
-/// Returns the answer for a check without a verdict, since a search spent its visits. Fails if memory runs out.
+/// Returns the answer for a check that has no verdict because a search spent its visits. Fails if memory ran out.
 fn stopped(alloc: Global, nodes: u64, stop: &CheckStop) -> Result<Answer, AllocError>
     ensures { IfOk result (λ answer. TellsStop nodes stop.now (saying answer)) }
 {

@@ -1,4 +1,4 @@
-//! The lines that `seal`, `draw` and `check` print.
+//! The lines that `seal`, `draw`, `short-draw` and `check` print.
 
 ghost use Rattle.std.specs.Prelude.{◌≡◌, ◌++◌, ◌∷◌, [], ◌≤ℤ◌, pos, codes, length, nat_lt, string_bytes, unsigned_abs, IfOk, IsTrue, OnOk};
 ghost use Rattle.std.specs.Fmt.{decimal};
@@ -100,7 +100,7 @@ pub fn valid_line(alloc: Global) -> Result<Vec<u8>, AllocError>
 }
 
 /// Returns the line for a refused certificate or proof: the stage, the reason, and the numbers of the volunteers who show it. For the
-/// reasons 11 and 12, which only a proof has, the last number is that of a line of the proof's text.
+/// reasons 11 and 12, which only a proof has, it names no volunteers, but the number of the faulty line in the proof's text.
 pub fn refused_line(alloc: Global, refusal: &Refusal) -> Result<Vec<u8>, AllocError>
     ensures { IfOk result (λ line. line.items ≡ words_of_refused refusal.now) }
 {

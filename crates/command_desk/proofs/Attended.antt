@@ -1,4 +1,4 @@
--- Visits that follow visits, and no visits.
+-- Visits after earlier visits, and the case without visits.
 use Rattle.std.proofs.Common.{◌≡◌, ℕ, ◌+◌, ◌++◌, List, [], ◌∷◌, length, take, drop, Option, Some, None, refl, sym, ap, subst, ◌∙◌, append_assoc, append-nil, length-append, arith}
 use Rattle.std.specs.Prelude.{map, option_map, IfSome}
 use Rattle.std.proofs.Math.Seq.{take-add}
@@ -7,11 +7,11 @@ use Rattle.office_http.specs.Visits.{Kept, LinkTold, Visit}
 use Rattle.outside.specs.Links.{DoorLinks}
 use Rattle.command_desk.specs.Serving.{AreAttended, AreVisits, after_visits}
 
--- the links of these parts
+-- the links of a door, made of the record's three fields
 abbrev pub links_of : List LinkTold → ℕ → List LinkTold → DoorLinks LinkTold
 links_of coming given back = record { coming = coming; given = given; back = back }
 
--- links of equal parts are equal
+-- links of a door are equal if their fields are equal
 pub same_links : (coming other back others : List LinkTold) (given number : ℕ) → coming ≡ other → given ≡ number → back ≡ others → links_of coming given back ≡ links_of other number others
 same_links coming other back others given number c g b =
     ap (λ (l : List LinkTold). links_of l given back) c ∙ ap (λ (n : ℕ). links_of other n back) g ∙ ap (λ (l : List LinkTold). links_of other number l) b
@@ -70,6 +70,6 @@ given_none : (links : Option (DoorLinks LinkTold)) → IfSome links (λ told. ma
 given_none None = tt
 given_none (Some told) = refl
 
--- nothing was attended
+-- if the door's links and the keeper are as before, no link was attended
 pub none_attended : (links after : Option (DoorLinks LinkTold)) (kept left : Kept) → after ≡ links → left ≡ kept → AreAttended links kept [] after left
 none_attended links after kept left door same = record { chain = same; given = given_none links; door = door ∙ after_none links }

@@ -20,7 +20,7 @@ counted (visit ∷ visits) =
     let others = counted visits in
     omega (arith, ok, err, one, others)
 
--- one more visit counts as it ended
+-- one more visit adds 1 to the number of visits that ended with a status if this visit did, else 0
 pub served_more : (visits : List Visit) (visit : Visit) → served_of (visits ++ visit ∷ []) ≡ served_of visits + cond (is_ok visit.ended) 1 0
 served_more visits visit = omega (arith, sum_by-append (λ (v : Visit). cond (is_ok v.ended) 1 0) visits (visit ∷ []))
 

@@ -1,5 +1,5 @@
--- From what a call of `serve` does to keeper and door, and what it tells, to how it ends.
-use Rattle.std.proofs.Common.{◌≡◌, ℕ, List, Option, Some, Result, Ok, Err, refl, sym, ap, subst, ◌∙◌, ◌⊎◌, inl, inr}
+-- How a call of `serve` ends follows from what it does to keeper and door, and from what it tells.
+use Rattle.std.proofs.Common.{◌≡◌, ℕ, List, Option, Result, Ok, Err, refl, sym, ap, subst, ◌∙◌, ◌⊎◌, inl, inr}
 use Rattle.std.specs.Fmt.{decimal}
 use Rattle.command_shell.specs.Answers.{Prints, Saying}
 use Rattle.command_shell.specs.Lines.{door_fault_line}
@@ -11,7 +11,7 @@ use Rattle.outside.specs.declared.source.Failed.{Failed}
 use Rattle.command_desk.specs.DeskTold.{Door, DeskTold, Ports, desk_told}
 use Rattle.command_desk.specs.Rooms.{numbers_line}
 use Rattle.command_desk.specs.ServeOutcomes.{Done, DoorFault, HasServed, ServeOutcome, WriteFault, kept_after, kept_before}
-use Rattle.command_desk.specs.Turns.{AreCounted, ServesDoor}
+use Rattle.command_desk.specs.Turns.{AreCounted, ServesAt}
 use Rattle.command_desk.specs.Serving.{served_line, served_of}
 use Rattle.command_desk.specs.declared.serving.Counts.{Counts}
 use Rattle.define_offices.specs.Tables.{Tables}
@@ -20,26 +20,26 @@ use Rattle.office_http.specs.Visits.{Kept, Visit, kept}
 line_of_counts : (visits : List Visit) (counts : Counts) → AreCounted visits counts → numbers_line counts.served counts.broken ≡ served_line visits
 line_of_counts visits counts are = ap (λ (n : ℕ). numbers_line n counts.broken) are.served ∙ ap (λ (n : ℕ). numbers_line (served_of visits) n) are.broken
 
--- the door was served to its end, and the line was told, whole or cut off
+-- if the door was served without a failure, and the line was told, whole or cut off, the call ends as `ServeOutcome` says
 pub served : (path : List ℕ) (port connections : ℕ) (call : Told) (keeper : Keeper) (door : Door) (ports : Ports) (counts : Counts) (saying : Saying) → IsAttached path keeper →
-    ports.after ≡ Some port →
-    ServesDoor connections door (kept_before keeper) (kept_after keeper) (Ok counts) → saying ≡ Prints printed.Done (numbers_line counts.served counts.broken) →
+    ServesAt port connections door ports.after (kept_before keeper) (kept_after keeper) (Ok counts) → saying ≡ Prints printed.Done (numbers_line counts.served counts.broken) →
     IsToldOrCutOff saying call → ServeOutcome path port connections (desk_told (store_told call keeper) door ports)
-served path port connections call keeper door ports counts saying attached opened (visits, attended, within, end, counted) says tells =
+served path port connections call keeper door ports counts saying attached ((visits, attended, within, end, counted), opened) says tells =
     let line = says ∙ ap (λ (text : List ℕ). Prints printed.Done text) (line_of_counts visits counts counted) in
     let so : IsPrinted 0 (served_line visits) call ⊎ IsCutOff (served_line visits) call = subst (λ (s : Saying). IsToldOrCutOff s call) line tells in
     let has : HasServed path connections (desk_told (store_told call keeper) door ports) visits = record { attached = attached; attended = attended; within = within } in
     elim so [ inl whole ↦ Done visits opened has end whole | inr cut ↦ WriteFault visits opened has end cut ]
 
--- the door failed, and that was told
+-- if the door failed, and the call told so, the call ends as `ServeOutcome` says
 pub door_failed : (path : List ℕ) (port connections : ℕ) (call : Told) (keeper : Keeper) (door : Door) (ports : Ports) (failed : Failed) → IsAttached path keeper →
-    ServesDoor connections door (kept_before keeper) (kept_after keeper) (Err failed) → IsStopped 10 door_fault_line call → ServeOutcome path port connections (desk_told (store_told call keeper) door ports)
-door_failed path port connections call keeper door ports failed attached (visits, attended, within, faulted) stopped =
-    DoorFault visits (record { attached = attached; attended = attended; within = within }) faulted stopped
+    ServesAt port connections door ports.after (kept_before keeper) (kept_after keeper) (Err failed) → IsStopped 10 door_fault_line call → ServeOutcome path port connections (desk_told (store_told call keeper) door ports)
+door_failed path port connections call keeper door ports failed attached (visits, attended, within, faulted, at) stopped =
+    DoorFault visits at (record { attached = attached; attended = attended; within = within }) faulted stopped
 
--- if attaching left what the keeper tells and its count of faults, what the serving does after it, it does from before it
-pub from_before : (connections : ℕ) (door : Door) (tables now : Option Tables) (faults count : ℕ) (after : Kept) (result : Result Counts Failed) → now ≡ tables → count ≡ faults →
-    ServesDoor connections door (kept now count) after result → ServesDoor connections door (kept tables faults) after result
-from_before connections door tables now faults count after result same none serves =
-    subst (λ (t : Option Tables). ServesDoor connections door (kept t faults) after result) same
-    (subst (λ (f : ℕ). ServesDoor connections door (kept now f) after result) none serves)
+-- if attaching changed neither the tables that the keeper tells nor its count of faults, what `ServesAt` says of the keeper as it was
+-- attached, it also says of the keeper as it was before
+pub from_before : (port connections : ℕ) (door : Door) (opened : Option ℕ) (tables now : Option Tables) (faults count : ℕ) (after : Kept) (result : Result Counts Failed) → now ≡ tables → count ≡ faults →
+    ServesAt port connections door opened (kept now count) after result → ServesAt port connections door opened (kept tables faults) after result
+from_before port connections door opened tables now faults count after result same none serves =
+    subst (λ (t : Option Tables). ServesAt port connections door opened (kept t faults) after result) same
+    (subst (λ (f : ℕ). ServesAt port connections door opened (kept now f) after result) none serves)

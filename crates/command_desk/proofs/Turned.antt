@@ -1,4 +1,4 @@
--- Turns after turns, and how they end.
+-- The turns of `serve`, one after the other, and how they end.
 use Rattle.std.proofs.Common.{◌≡◌, ◌≤◌, ◌<◌, ◌⊎◌, ℕ, ◌+◌, ◌++◌, List, [], ◌∷◌, length, Option, Some, None, Result, Ok, Err, refl, sym, ap, subst, ◌∙◌, inl, inr, length-append, arith, cond}
 use Rattle.std.specs.Prelude.{IfSome, is_err, is_ok, option_map}
 use Rattle.command_shell.specs.Told.{HasFaulted, HasNoFault}
@@ -9,16 +9,16 @@ use Rattle.outside.specs.Links.{DoorLinks}
 use Rattle.outside.specs.declared.source.Failed.{Failed}
 use Rattle.command_desk.specs.DeskTold.{Door, door_told, seen_links}
 use Rattle.command_desk.specs.Serving.{AreAttended, broken_of, served_of}
-use Rattle.command_desk.specs.Turns.{AreUnderWay, ServesDoor, TakesTurn}
+use Rattle.command_desk.specs.Turns.{AreUnderWay, ServesAt, ServesDoor, TakesTurn}
 use Rattle.command_desk.specs.declared.serving.Counts.{Counts}
 use Rattle.command_desk.proofs.Attended.{attended_more, none_attended}
 use Rattle.command_desk.proofs.Counting.{broken_more, served_more}
 
--- no turn was made
+-- before the first turn: there is no visit, and both counts are 0
 pub no_turn : (links : Option (DoorLinks LinkTold)) (kept : Kept) → AreUnderWay links kept (record { served = 0; broken = 0 }) 0 links kept
 no_turn links kept = record { visits = []; attended = none_attended links links kept kept refl refl; counted = record { served = refl; broken = refl }; number = refl }
 
--- if the turns so far are counted, and one more is made and counted, the turns are counted again
+-- if the turns so far are counted, and one more turn is made and added to the counts, all turns are counted
 pub one_turn : (links between after : Option (DoorLinks LinkTold)) (before kept left : Kept) (counts more : Counts) (turns : ℕ) (ended : Result ℕ LinkFault) →
     AreUnderWay links before counts turns between kept → TakesTurn between after kept left (Ok (Some ended)) →
     more.served ≡ counts.served + cond (is_ok ended) 1 0 → more.broken ≡ counts.broken + cond (is_err ended) 1 0 → AreUnderWay links before more (turns + 1) after left
@@ -36,7 +36,7 @@ one_turn links between after before kept left counts more turns ended way (visit
       number = number;
     }
 
--- all turns were made that may be
+-- if as many turns were made as the call may make, and the door has no fault, the serving ends with the counts
 pub all_turns : (connections turns : ℕ) (door : Door) (before after : Kept) (counts : Counts) → AreUnderWay door.before before counts turns door.after after → turns ≡ connections → HasNoFault door →
     ServesDoor connections door before after (Ok counts)
 all_turns connections turns door before after counts way all none =
@@ -65,7 +65,8 @@ failed_turn connections turns door between before kept after counts failed way f
 
 -- ---- the door is opened first
 
--- if opening the door leaves its links and faults as they were, what the serving does from there it does from the start
+-- if opening the door changed neither its links nor its count of faults, what `ServesDoor` says of the open door, it also says of the door
+-- as it was before
 pub opened : {L : Type 0} (sees : L → LinkTold) (connections : ℕ) (links between after : Option (DoorLinks L)) (faults faults_between faults_after : ℕ) (before left : Kept) (result : Result Counts Failed) →
     between ≡ links → faults_between ≡ faults → ServesDoor connections (door_told sees between after faults_between faults_after) before left result →
     ServesDoor connections (door_told sees links after faults faults_after) before left result
@@ -73,9 +74,15 @@ opened {L} sees connections links between after faults faults_between faults_aft
     subst (λ (l : Option (DoorLinks L)). ServesDoor connections (door_told sees l after faults faults_after) before left result) same
     (subst (λ (f : ℕ). ServesDoor connections (door_told sees between after f faults_after) before left result) none served)
 
+-- if the open door listens at `port`, and still does after the serving, `ServesAt` follows from `ServesDoor`
+pub at_port : (port connections : ℕ) (door : Door) (listens opened : Option ℕ) (before after : Kept) (result : Result Counts Failed) → listens ≡ Some port → opened ≡ listens →
+    ServesDoor connections door before after result → ServesAt port connections door opened before after result
+at_port port connections door listens opened before after (Ok counts) at stays served = (served, stays ∙ at)
+at_port port connections door listens opened before after (Err failed) at stays (visits, attended, within, faulted) = (visits, attended, within, faulted, inr (stays ∙ at))
+
 -- if opening the door fails, no link is attended, and the serving ends with the failure
-pub not_opened : {L : Type 0} (sees : L → LinkTold) (connections : ℕ) (links after : Option (DoorLinks L)) (faults faults_after : ℕ) (kept : Kept) (failed : Failed) → after ≡ links → Rose faults faults_after →
-    ServesDoor connections (door_told sees links after faults faults_after) kept kept (Err failed)
-not_opened {L} sees connections links after faults faults_after kept failed same rose =
+pub not_opened : {L : Type 0} (sees : L → LinkTold) (port connections : ℕ) (links after : Option (DoorLinks L)) (faults faults_after : ℕ) (opened : Option ℕ) (kept : Kept) (failed : Failed) → after ≡ links →
+    Rose faults faults_after → ServesAt port connections (door_told sees links after faults faults_after) opened kept kept (Err failed)
+not_opened {L} sees port connections links after faults faults_after opened kept failed same rose =
     let within : 0 ≤ connections = omega arith in
-    ([], none_attended _ _ kept kept (ap (λ (l : Option (DoorLinks L)). option_map (seen_links sees) l) same) refl, within, rose)
+    ([], none_attended _ _ kept kept (ap (λ (l : Option (DoorLinks L)). option_map (seen_links sees) l) same) refl, within, rose, inl refl)

@@ -1,4 +1,4 @@
--- A turn at a door of whatever links: one is given, is attended, and comes back.
+-- One turn at a door with links of any type: the door gives a link, the link is attended, and it comes back.
 use Rattle.std.proofs.Common.{◌≡◌, ◌≤◌, ℕ, ◌+◌, ◌++◌, List, [], ◌∷◌, length, take, drop, Option, Some, None, Result, refl, sym, ap, subst, ◌∙◌, length-append, arith}
 use Rattle.std.specs.Prelude.{map, min, option_map, IfSome}
 use Rattle.std.proofs.lemmas.List.{map-append}
@@ -9,11 +9,11 @@ use Rattle.command_desk.specs.DeskTold.{NoMoreBack, seen_links}
 use Rattle.command_desk.specs.Serving.{AreAttended, after_visits}
 use Rattle.command_desk.proofs.Attended.{same_links}
 
--- the links of these parts
+-- the links of a door, made of the record's three fields
 abbrev pub parts : {L : Type 0} → List L → ℕ → List L → DoorLinks L
 parts coming given back = record { coming = coming; given = given; back = back }
 
--- ---- the link that was given is out, and then no longer
+-- ---- a link is out from when it was given until it came back
 
 is_out : {L : Type 0} (coming : List L) (given : ℕ) (back : List L) (link : L) → Some link ≡ first_of coming → length back ≤ given → IsOneOut (Some (after_next (parts coming given back)))
 is_out [] given back link gave even = absurd (cc)

@@ -1,12 +1,12 @@
--- What a call of the program told of the outside: what a call over a store tells, and the door and its port before and after. The links of
--- a door are seen by what they tell. Over StoreTold. ServeOutcomes and the contract of `office` cite it.
+-- What a call of the program did, as seen from outside: what `StoreTold` has of a call over a store, and the door and its port before and
+-- after the call. A link of a door is seen by what it tells. ServeOutcomes and the contract of `office` cite it.
 use Rattle.std.specs.Prelude.{◌≡◌, ◌≤◌, ℕ, List, length, map, Option, IfSome, option_map}
 use Rattle.command_shell.specs.Told.{IsUntouched, Object, object}
 use Rattle.command_stores.specs.StoreTold.{StoreTold}
 use Rattle.office_http.specs.Visits.{LinkTold}
 use Rattle.outside.specs.Links.{DoorLinks}
 
--- links, seen by what each tells
+-- the links of a door as contracts see them: each link by what it tells
 abbrev pub seen_links : {L : Type 0} → (L → LinkTold) → DoorLinks L → DoorLinks LinkTold
 seen_links sees links = record { coming = map sees links.coming; given = links.given; back = map sees links.back }
 
@@ -18,7 +18,7 @@ abbrev pub door_told : {L : Type 0} → (L → LinkTold) → Option (DoorLinks L
 door_told sees before after faults_before faults_after =
     object (option_map (seen_links sees) before) (option_map (seen_links sees) after) faults_before faults_after
 
--- the port at which a door listens before and after the call, if it does
+-- the port at which a door listens, before and after the call; None if it doesn't listen
 pub record Ports : Type 0 where
   pub before : Option ℕ
   pub after : Option ℕ

@@ -1,5 +1,5 @@
--- Visits, one after the other: what they make of a door and a keeper, and how many ended with a status. Over the visits of `office_http`.
--- ServeOutcomes cites it.
+-- Visits, one after the other: what they make of a door and a keeper, and how many ended with a status. Builds on the visits of
+-- `office_http`. ServeOutcomes cites it.
 use Rattle.std.specs.Prelude.{◌≡◌, ℕ, ◌+◌, ◌++◌, List, [], ◌∷◌, length, map, take, drop, codes, Option, IfSome, option_map, is_ok, is_err}
 use Rattle.std.specs.Fmt.{decimal}
 use Rattle.std.specs.List.{count_by}
@@ -12,7 +12,7 @@ abbrev pub AreVisits : Kept → List Visit → Kept → Type 0
 AreVisits before [] after = after ≡ before
 AreVisits before (visit ∷ visits) after = (visit.keeper ≡ before) × IsAttended visit × AreVisits visit.keeper_after visits after
 
--- the links of a door after these visits: as many of those that were to come were given, and they came back as the visits left them
+-- the links of a door after these visits: the door gave a link to each visit, in order, and the links came back as the visits left them
 abbrev pub after_visits : List Visit → DoorLinks LinkTold → DoorLinks LinkTold
 after_visits visits links = record {
   coming = drop (length visits) links.coming;
@@ -27,7 +27,7 @@ pub record AreAttended (links : Option (DoorLinks LinkTold)) (before : Kept) (vi
   pub given : IfSome links (λ told. map (λ visit. visit.link) visits ≡ take (length visits) told.coming)
   pub door : links_after ≡ option_map (after_visits visits) links
 
--- how many visits ended with a status, and how many with a fault of the link
+-- how many visits ended with a status; `broken_of` is how many ended with a fault of the link
 abbrev pub served_of : List Visit → ℕ
 served_of visits = count_by (λ visit. is_ok visit.ended) visits
 

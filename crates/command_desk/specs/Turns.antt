@@ -1,5 +1,5 @@
--- What a turn of `serve` does, and what all turns do. For `visiting` and `serving`.
-use Rattle.std.specs.Prelude.{◌≡◌, ◌≤◌, ℕ, List, [], ◌∷◌, length, Option, Some, None, IfSome, Result, Ok, Err}
+-- What a turn of `serve` does, and what all turns do. The contracts of src/visiting.rt and src/serving.rt cite it.
+use Rattle.std.specs.Prelude.{◌≡◌, ◌⊎◌, ◌≤◌, ℕ, List, [], ◌∷◌, length, Option, Some, None, IfSome, Result, Ok, Err}
 use Rattle.command_shell.specs.Told.{HasFaulted}
 use Rattle.outside.specs.Links.{DoorLinks}
 use Rattle.outside.specs.declared.source.Failed.{Failed}
@@ -10,7 +10,7 @@ use Rattle.command_desk.specs.Serving.{AreAttended, broken_of, served_of}
 use Rattle.command_desk.specs.ServeOutcomes.{IsAtEnd}
 use Rattle.command_desk.specs.declared.serving.Counts.{Counts}
 
--- one link was attended; or none is to come; or the door failed
+-- one link was attended; or none is to come, or the door failed, and then links and keeper are as before
 abbrev pub TakesTurn : Option (DoorLinks LinkTold) → Option (DoorLinks LinkTold) → Kept → Kept → Result (Option (Result ℕ LinkFault)) Failed → Type 0
 TakesTurn links links_after before after (Ok (Some ended)) = (visit : Visit) × (visit.ended ≡ ended) × AreAttended links before (visit ∷ []) links_after after
 TakesTurn links links_after before after (Ok None) = (links_after ≡ links) × (after ≡ before) × IfSome links (λ told. told.coming ≡ [])
@@ -34,3 +34,10 @@ ServesDoor connections door before after (Ok counts) =
     (visits : List Visit) × AreAttended door.before before visits door.after after × (length visits ≤ connections) × IsAtEnd connections door visits × AreCounted visits counts
 ServesDoor connections door before after (Err failed) =
     (visits : List Visit) × AreAttended door.before before visits door.after after × (length visits ≤ connections) × HasFaulted door
+
+-- the door was opened at `port`, and links were attended as `ServesDoor` says; or the door failed: either no link was attended, or the door
+-- listens at `port`. `opened` is the port at which it listens afterwards
+abbrev pub ServesAt : ℕ → ℕ → Door → Option ℕ → Kept → Kept → Result Counts Failed → Type 0
+ServesAt port connections door opened before after (Ok counts) = ServesDoor connections door before after (Ok counts) × (opened ≡ Some port)
+ServesAt port connections door opened before after (Err failed) =
+    (visits : List Visit) × AreAttended door.before before visits door.after after × (length visits ≤ connections) × HasFaulted door × ((visits ≡ []) ⊎ (opened ≡ Some port))

@@ -27,7 +27,7 @@ pub struct Serve {
     pub connections: usize,
 }
 
-/// Makes one call of `serve` over the store at `path`. Nothing wants memory once the door is opened, but for the reply to a link.
+/// Makes one call of `serve` over the store at `path`. Once the door is open, only replies to links need memory.
 pub fn call_serve<R: Threads + Sync, W: Watch + Sync, K: Keeper, D: Door, O: Sink, E: Sink>(
     resources: &Resources<'_, R, W>,
     serve: Serve,

@@ -9,10 +9,10 @@ use command_shell::{Answer, Printed};
 use itoa::Buffer;
 use std::alloc::{AllocError, Global};
 
-/// More bytes than the line has with numbers of any size.
+/// How many bytes the room has: more than the line needs, whatever its numbers are.
 pub(crate) const ROOM: usize = 128;
 
-/// Returns room for the line.
+/// Returns an empty text with room for the line.
 pub(crate) fn room_for_line(alloc: Global) -> Result<Vec<u8>, AllocError>
     ensures { IfOk result IsRoom }
 {
@@ -36,7 +36,7 @@ pub(crate) fn served_answer(room: Vec<u8>, served: usize, broken: usize) -> Answ
     }
 }
 
-/// Appends the digits of a number, for which there is room.
+/// Appends the digits of a number. The text has room for 40 more bytes.
 fn append_number(text: &mut Vec<u8>, number: usize)
     requires { length text.old.items + 40 ≤ vec_capacity text.old }
     ensures items { text.new.items ≡ text.old.items ++ decimal number }
@@ -47,7 +47,7 @@ fn append_number(text: &mut Vec<u8>, number: usize)
     append(text, digits.format(number).as_bytes());
 }
 
-/// Appends a piece, for which there is room.
+/// Appends `piece`. The text has room for it.
 fn append(text: &mut Vec<u8>, piece: &[u8])
     requires { length text.old.items + length piece.now ≤ vec_capacity text.old }
     ensures items { text.new.items ≡ text.old.items ++ piece.now }

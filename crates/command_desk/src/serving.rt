@@ -1,9 +1,9 @@
 //! The links that come through a door, one after the other.
 
-ghost use Rattle.std.specs.Prelude.{◌≡◌, ◌+◌, ◌-◌, ◌<◌, ◌^◌, Some, if◌then◌else◌, is_err, is_ok, OnOk};
+ghost use Rattle.std.specs.Prelude.{◌≡◌, ◌+◌, ◌-◌, ◌<◌, ◌^◌, if◌then◌else◌, is_err, is_ok};
 ghost use Rattle.office_http.specs.Visits.{kept, link_told};
 ghost use Rattle.command_desk.specs.DeskTold.{NoMoreBack, door_told};
-ghost use Rattle.command_desk.specs.Turns.{ServesDoor};
+ghost use Rattle.command_desk.specs.Turns.{ServesAt, ServesDoor};
 
 use crate::calling::Serve;
 use crate::visiting::visit_next;
@@ -28,11 +28,11 @@ pub(crate) fn serve_door<R: Threads + Sync, W: Watch + Sync, K: Keeper, D: Door>
     door: &mut D,
 ) -> Result<Counts, Failed>
     requires { NoMoreBack (D.links door.old) }
-    ensures served { ServesDoor serve.connections
+    ensures served { ServesAt serve.port serve.connections
         (door_told (λ link. link_told (D.Link.left link) (D.Link.written link) (D.Link.faults link))
         (D.links door.old) (D.links door.new) (D.faults door.old) (D.faults door.new))
+        (D.opened_at door.new)
         (kept (K.tables keeper.old) (K.faults keeper.old)) (kept (K.tables keeper.new) (K.faults keeper.new)) result }
-    ensures port { OnOk result (D.opened_at door.new ≡ Some serve.port) }
     ensures place { K.place keeper.new ≡ K.place keeper.old }
 {
     match door.listen(serve.port) {

@@ -12,7 +12,7 @@ use office_http::{LinkFault, attend};
 use outside::{Door, Failed, Watch};
 use std::thread::Threads;
 
-/// Attends the next link, if one is to come, and gives it back. Returns how the visit ended.
+/// Attends the next link and gives it back. Returns how the visit ended, or None if no link is to come.
 pub(crate) fn visit_next<R: Threads + Sync, W: Watch + Sync, K: Keeper, D: Door>(
     resources: &Resources<'_, R, W>,
     keeper: &mut K,

@@ -1,4 +1,4 @@
--- A reading that returns a value for a text and a fault for any other bytes decides whether they are a text.
+-- A reading that returns a value if the bytes are a text, and else a fault, decides whether they are a text.
 use Rattle.std.specs.Prelude.{Bool, true, false, if◌then◌else◌, Result, Ok, Err, MatchResult}
 use Rattle.std.specs.Bool.{MatchBool}
 use Rattle.define_lines.specs.Lines.{Fault}

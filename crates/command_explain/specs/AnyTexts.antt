@@ -1,5 +1,5 @@
--- What any bytes are: the text of a pool, a bundle or a proof, or none, with a first fault. They are read as the text of what their first
--- word says: a bundle's, a proof's, or else a pool's. Over the definitions of the texts.
+-- Whether bytes are the text of a pool, a bundle or a proof, and if they aren't, their first fault. The word that they begin with says how
+-- they are read: as a bundle, as a proof, or else as a pool. Builds on the definitions of the texts.
 use Rattle.std.specs.Prelude.{◌≡◌, ℕ, Bool, List, take, codes, bytes_eq, if◌then◌else◌, Result, Ok, Err}
 use Rattle.std.specs.Bool.{MatchBool}
 use Rattle.define_additions.specs.ProofVerdict.{Proof}
@@ -19,12 +19,12 @@ use Rattle.command_explain.specs.declared.any_text.AnyText.TheVariants.{Right, F
 abbrev pub begins_as_proof : List ℕ → Bool
 begins_as_proof bytes = bytes_eq (codes "proof") (take 5 bytes)
 
--- what a reading in one format says
+-- the result of reading bytes in one format: `Right` if they are read as a value, else `Faulty` with their first fault
 abbrev pub looked_as : {Value : Type 0} → Result Value Fault → AnyText
 looked_as (Ok value) = Right
 looked_as (Err fault) = Faulty (record { line = fault.line; kind = fault.kind })
 
--- what is known of any bytes
+-- `Right` if the bytes are a text, else `Faulty` with their first fault. The word that they begin with chooses the format
 abbrev pub looked_at : List ℕ → AnyText
 looked_at bytes =
     if begins_as_bundle bytes then looked_as (read_bundle bytes)
@@ -39,7 +39,7 @@ IsSomeBundle bytes = (bundle : Bundle) × (IsBundle bundle × (bytes ≡ bundle_
 abbrev pub IsSomeProof : List ℕ → Type 0
 IsSomeProof bytes = (proof : Proof) × (IsProof proof × (bytes ≡ proof_spelling proof))
 
--- the bytes are the text of a pool, a bundle or a proof. Which of the three is told by the word that they begin with
+-- the bytes are a text: of a bundle if they begin with `bundle`, of a proof if they begin with `proof`, else of a pool
 abbrev pub IsText : List ℕ → Type 0
 IsText bytes =
     MatchBool (begins_as_bundle bytes) (IsSomeBundle bytes) (MatchBool (begins_as_proof bytes) (IsSomeProof bytes) (IsSomePool bytes))

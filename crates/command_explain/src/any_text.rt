@@ -13,22 +13,22 @@ use proof_model::Proof;
 use std::alloc::{AllocError, Global};
 use text_lines::{TextFault, TextStop};
 
-/// A text that begins with this word is read as a bundle's.
+/// A text that begins with this word is read as a bundle.
 const BUNDLE: &[u8] = b"bundle";
 
-/// A text that begins with this word is read as a proof's.
+/// A text that begins with this word is read as a proof.
 const PROOF: &[u8] = b"proof";
 
-/// What is known of any bytes.
+/// Whether some bytes are a text of the program.
 #[derive(Clone, Copy, Debug)]
 pub enum AnyText {
-    /// They are the text of a pool, a bundle or a proof.
+    /// The bytes are the text of a pool, a bundle or a proof.
     Right,
-    /// They are none, and this is their first fault.
+    /// The bytes are no such text, and this is their first fault.
     Faulty(TextFault),
 }
 
-/// Any bytes are a right text, or they are none and have a first fault.
+/// Any bytes either are a right text, or are no text and have a first fault.
 pub fn right_or_faulty()
     ensures { (bytes : List ℕ) → IsRightOrFaulty bytes (looked_at bytes) }
 {
@@ -51,7 +51,7 @@ impl Subject for AnyText {
     }
 }
 
-/// Reads the bytes by the word that they begin with.
+/// Reads the bytes in the format that the word at their beginning names.
 fn look_at(alloc: Global, bytes: &[u8]) -> Result<AnyText, AllocError>
     ensures { IfOk result (λ text. text ≡ looked_at bytes.now) }
 {

@@ -30,7 +30,7 @@ impl Command for Explain {
     }
 }
 
-/// Returns the words about the bytes `text`, of which `about` is known.
+/// Returns the words about the bytes `text`, which were read as `about`.
 fn explained(alloc: Global, about: AnyText, text: &[u8]) -> Result<Answer, AllocError>
     ensures { IfOk result (λ answer. Explains about (saying answer)) }
 {
@@ -46,7 +46,7 @@ fn explained(alloc: Global, about: AnyText, text: &[u8]) -> Result<Answer, Alloc
     }
 }
 
-/// Returns the line of the first fault, and behind it the words about the bytes.
+/// Returns the line of the first fault, and after it the words about the bytes.
 fn fault_lines(alloc: Global, fault: TextFault, text: &[u8]) -> Result<Vec<u8>, AllocError>
     ensures { IfOk result (λ lines. StartsWith lines.items (words_of_input (record { line = fault.line; kind = fault.kind }))) }
 {

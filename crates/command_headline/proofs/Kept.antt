@@ -18,7 +18,8 @@ use Rattle.command_headline.proofs.Workers.{tell_the_same}
 
 -- ---- commands that use no store
 
--- what is said of a call without a store is said of the call alone
+-- for a command that uses no store: `AnswersRightly` gives `AnswersAlone`, and what the definitions without a store say of a status
+-- (`DoneAlone`, `NoneAlone` and the others) gives what those over a store say (`TellsDone`, `TellsNone` and the others)
 record IsAlone (it : Option Asked) (told : StoreTold) : Type 0 where
   answers : AnswersRightly it told → LeavesStore (AnswersAlone it) told
   done : DoneAlone it told.call → TellsDone it told
@@ -77,7 +78,7 @@ wants_keep it told want = let twelve = want.call.stopped.status in record {
   proof = λ verify is proof is_proof from n8 n12. absurd (n12 twelve);
 }
 
--- ---- the desk
+-- ---- calls of `serve`, which opens the desk
 
 serve_keeps : (path : List ℕ) (port connections : ℕ) (told : DeskTold) → ServeOutcome path port connections told → KeepsDesk path port connections told
 serve_keeps path port connections told (Done visits opened has end printed) = let status = printed.status in record {
@@ -90,7 +91,7 @@ serve_keeps path port connections told (Done visits opened has end printed) = le
 }
 serve_keeps path port connections told (WriteFault visits opened has end cut) = let status = cut.status in record {
   done = λ s. absurd (cc (status, s));
-  write_fault = λ s. (cut.faulted, (visits, has));
+  write_fault = λ s. (cut.faulted, (visits, has), opened);
   keeper_fault = λ s. absurd (cc (status, s));
   door_fault = λ s. absurd (cc (status, s));
   memory = λ s. absurd (cc (status, s));
@@ -104,11 +105,11 @@ serve_keeps path port connections told (KeeperFault untouched failed stopped) = 
   memory = λ s. absurd (cc (status, s));
   statuses = ap is_serve_status status;
 }
-serve_keeps path port connections told (DoorFault visits has faulted stopped) = let status = stopped.status in record {
+serve_keeps path port connections told (DoorFault visits at has faulted stopped) = let status = stopped.status in record {
   done = λ s. absurd (cc (status, s));
   write_fault = λ s. absurd (cc (status, s));
   keeper_fault = λ s. absurd (cc (status, s));
-  door_fault = λ s. (faulted, (visits, has));
+  door_fault = λ s. (faulted, (visits, has, at));
   memory = λ s. absurd (cc (status, s));
   statuses = ap is_serve_status status;
 }

@@ -78,19 +78,19 @@ module _ (tables : Tables) (number : ℕ) where
   none_of pool (Finds answer) change h = absurd (cc)
   none_of pool FindsNone change h = (refl, cc)
 
-  -- A proof that replies that there is no panel changes nothing.
+  -- If keeping a proof replies that there is no panel, it changes nothing.
   pub keep_none_stays : (proof : Proof) (change : Option Change) → KeepComes tables number proof (Replies change NoPanel) → change ≡ None
   keep_none_stays proof change (Kept pool is valid same e) = (none_of pool (shown proof) change e).1
   keep_none_stays proof change (NotValid refusal says e) = absurd (cc (e))
   keep_none_stays proof change (Had round bundle there has e) = absurd (cc (e))
   keep_none_stays proof change (Denied refusal e) = absurd (cc (e))
 
-  -- no rule refuses a round that is answered
+  -- the outcome of a round that is answered is no refusal
   pub answered_not_refused : (pool : Pool) (found : Answered) (refusal : Refusal) → Refuses refusal ≡ answered number pool found → ⊥
   answered_not_refused pool (Finds answer) refusal h = cc
   answered_not_refused pool FindsNone refusal h = cc
 
-  -- A proof is refused only if it is not valid.
+  -- If keeping a proof ends with a refusal of the proof, the verdict on the proof is this refusal.
   pub keep_unproved : (proof : Proof) (refusal : reasons.Refusal) → KeepComes tables number proof (Unproved refusal) → verdict proof ≡ Refused refusal
   keep_unproved proof refusal (Kept pool is valid same e) = absurd (no_verdict pool (shown proof) e)
     where
@@ -102,14 +102,14 @@ module _ (tables : Tables) (number : ℕ) where
   keep_unproved proof refusal (Denied own e) = absurd (cc (e))
 
   module _ (keeps : IsTables tables) where
-    -- what a valid proof of the round's pool says of this pool
+    -- a lottery that is certified over the proof's own pool is certified over the round's pool, which is the same
     lottery_kept : (pool own : Pool) (answer : Answer) → IsPool own → IsPool pool → is_same_pool own pool ≡ true → Certifies own answer.lottery answer.stages → Certifies pool answer.lottery answer.stages
     lottery_kept pool own answer is also same certified = subst (λ (p : Pool). Certifies p answer.lottery answer.stages) (same_pools own pool is also same) certified
 
     is_pool : (proof : Proof) (pool : Pool) → IsOpenWith tables number pool → IsPool pool
     is_pool proof pool is = (pool_of_has tables keeps number pool is.is).is.is_pool
 
-    -- If a kept proof replies with a text, an open round got a bundle whose lottery is leximin greatest, or the round had its bundle.
+    -- If keeping a proof replies with a text, an open round got a bundle whose lottery is leximin greatest, or the round had its bundle.
     pub keep_done : (proof : Proof) → IsProof proof → (change : Option Change) (text : List ℕ) → KeepComes tables number proof (Replies change (Lines text)) → SolvesRound number tables change
     keep_done (OfLottery own answer trees) fits change text (Kept pool is valid same e) =
         let certified = lottery_kept pool own answer fits.is_bundle.is_pool (is_pool (OfLottery own answer trees) pool is) same (certified_where_valid own answer trees fits.is_bundle.in_ranges valid).0 in
@@ -119,7 +119,7 @@ module _ (tables : Tables) (number : ℕ) where
     keep_done proof fits change text (Had round bundle there has e) = HadBundle round bundle there has (cc (e))
     keep_done proof fits change text (Denied refusal e) = absurd (cc (e))
 
-    -- If a proof replies that there is no panel, the round is open and its pool has no quota panel.
+    -- If keeping a proof replies that there is no panel, the round is open and its pool has no quota panel.
     pub keep_none : (proof : Proof) → IsProof proof → (change : Option Change) → KeepComes tables number proof (Replies change NoPanel) → (pool : Pool) × IsOpenWith tables number pool × (panels pool ≡ [])
     keep_none (OfLottery own answer trees) fits change (Kept pool is valid same e) = absurd (cc (e))
     keep_none (OfNoPanel own lines) fits change (Kept pool is valid same e) =

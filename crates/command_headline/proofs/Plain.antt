@@ -1,5 +1,5 @@
--- The outcomes of the commands of the office that words can ask for: but for a solve of an open round, each is a reply with lines or a
--- refusal.
+-- The outcomes of the commands of the office: except for a solve of an open round, the keeping of a proof and a withdrawal, each is a reply
+-- with lines or a refusal.
 use Rattle.std.proofs.Common.{◌≡◌, ℕ, Bool, true, false, cond, not, ◌==◌, List, [], ◌∷◌, length, Option, Some, None, Result, Ok, Err, refl, subst}
 use Rattle.std.specs.Str.{bytes_eq}
 use Rattle.std.specs.List.{list_all}
@@ -33,7 +33,7 @@ is_plain_command (Keep round proof) = false
 is_plain_command (Withdraw key) = false
 is_plain_command other = true
 
--- the outcome is plain. A record, so that a proof about a choice finds the two outcomes
+-- the outcome is plain. This is a record, so that the two outcomes of a choice can be inferred from the proofs about them
 pub record IsPlain (outcome : Outcome) : Type 0 where
   pub plain : is_plain outcome ≡ true
 
@@ -124,7 +124,7 @@ module _ (tables : Tables) where
   asked_plain (Show number) outcome plain h = decided_so _ outcome (show_plain (named_round tables.rounds number)) h
   asked_plain other outcome plain h = absurd (false≢true plain)
 
-  -- But for a solve, a proof and a withdrawal, a command replies with lines or is refused.
+  -- A command other than a solve, the keeping of a proof and a withdrawal replies with lines or is refused.
   pub plain_comes : (command : Command) (outcome : Outcome) → is_plain_command command ≡ true → Comes tables command outcome → is_plain outcome ≡ true
   plain_comes command outcome plain (AtOnce h) = asked_plain command outcome plain h
   plain_comes command outcome plain (ByRun n l pool own same needs ends comes) = absurd (false≢true (subst (λ c. is_plain_command c ≡ true) same plain))
@@ -152,7 +152,7 @@ rows_plain : (rules : Option (List Category)) (bytes : List ℕ) (command : Comm
 rows_plain None bytes command reads = absurd reads
 rows_plain (Some rules) bytes command (said, reads, is) = read_plain Register (λ content. refl) said command is
 
--- a file of the tables, not a proof
+-- what is imported is a charter, rules or rows of the register, and no proof
 abbrev pub is_plain_import : Import → Bool
 is_plain_import (imports.Proof round) = false
 is_plain_import other = true

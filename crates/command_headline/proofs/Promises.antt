@@ -118,7 +118,7 @@ module _ (told : Told) where
       inl (record { pool = pool; answer = its }, inr (trees, held_proof (OfLottery pool its trees) bytes held is), right)
   page_about Means answer (paged.Proof (OfNoPanel pool lines)) bytes held is right = inr (pool, lines, held_proof (OfNoPanel pool lines) bytes held is, right)
 
-  -- an answer that is right for no bundle, and for no proof without a lottery
+  -- if an answer is right neither for a bundle nor for a proof without a lottery, it isn't about a page
   not_about : (Means : Bundle → RightAnswers) (answer : Saying) → ((bundle : Bundle) → IsRight (Means bundle) answer → ⊥) → (IsRight WithoutLottery answer → ⊥) →
       PageAbout Means answer → ⊥
   not_about Means answer never none (inl (bundle, held, right)) = never bundle right
@@ -322,7 +322,8 @@ module _ (told : Told) where
 
   -- ---- refusals
 
-  -- how a call ends whose words ask for `it`: they ask for nothing, or for a command that reads the source, or for one that reads nothing
+  -- how a call ends whose words ask for `it`: for nothing (`ByWords`), for a command that reads the source (`ByText`), or for a command
+  -- that reads nothing (`InSilence`)
   data HowItEnds (it : Option Asked) : Type 1 where
     ByWords : it ≡ None → IsUsage told → HowItEnds it
     ByText : (Means : List ℕ → Saying → Type 0) → TextOutcome Means told → HowItEnds it
@@ -486,7 +487,7 @@ module _ (told : Told) where
       (is.0, (subst (λ said. IsTold said told) is.1 at.2.is_told).errs, (subst (IsTheAnswer (MakeMeans it.seed it.volunteers it.limits)) is.1 at.2.right).right)
   budget other right s = absurd right
 
-  -- if `bundle` refuses the proof that the source held, this proof is one that there is no quota panel
+  -- if `bundle` refuses the proof that the source held, it is a proof that there is no quota panel
   no_lottery : (proof : Proof) (bytes line : List ℕ) → HeldAll told.source bytes → IsProofText proof bytes → GainsLine told.errs line → IsRight (BundleMeans proof) (Stops Rule line) →
       BrokenAlone (Some (asks.Bundle (record {}))) told
   no_lottery (OfLottery pool its trees) bytes line held is gained right = absurd right
@@ -603,6 +604,6 @@ module _ (told : Told) where
   not_nine_so it (ByText Means ends) s = text_not_nine told ends s
   not_nine_so it (InSilence Right silent) s = outcome_not_nine told silent.ends s
 
-  -- without a store no status is that of a keeper's fault
+  -- without a store the status is never 9, which is that of a keeper's fault
   pub not_nine : (it : Option Asked) → AnswersAlone it told → told.status ≡ 9 → ⊥
   not_nine it right s = not_nine_so it (how_it_ends it right) s

@@ -1,4 +1,5 @@
--- Calls of `keep`, and of `prove` over a store, keep the promises. Over StorePromises, which proves the promises once for every meaning.
+-- Calls of `keep`, and of `prove` over a store, keep the promises. Builds on StorePromises, which proves the promises once for every
+-- meaning.
 use Rattle.std.proofs.Common.{◌≡◌, ◌∙◌, ℕ, true, List, [], Option, Some, None, Result, Ok, Err, refl, sym, subst, inl, inr}
 use Rattle.std.specs.Prelude.{◌≢◌, ◌⊎◌}
 use Rattle.std.proofs.lemmas.Bool.{false≢true}
@@ -63,7 +64,7 @@ module _ (round : ℕ) (proof : Proof) (tables : Tables) (change : Option Change
       (refusal, keep_unproved tables round proof refusal (keep_comes tables round proof _ (subst (Comes tables (Keep round proof)) same means.comes)), line)
 
 module _ (path : List ℕ) (told : StoreTold) (round : ℕ) (proof : Proof) (Means : StoreMeaning) where
-  -- a call that told the answer of keeping the proof
+  -- if a call told that the proof was kept, the round got a bundle, or had one
   keep_solves : (text : List ℕ) (says : Says path Means told (Prints Done text)) → StepMeans (Keep round proof) says.is.tables (Prints Done text) says.is.change → SolvesRound round says.is.tables says.is.change
   keep_solves text says means =
       let it = reply path told (Keep round proof) text (as_step path told (Keep round proof) Means (Prints Done text) says means) in
@@ -170,7 +171,7 @@ module _ (path : List ℕ) (told : StoreTold) (proving : ProveRound) where
   abbrev round_pool : (tables : Tables) (pool : Pool) → IsLoaded told.keeper.object.before tables → IsOpenWith tables proving.round pool → IsRoundPool proving.round told pool
   round_pool tables pool loaded is = record { tables = tables; loaded = loaded; open_now = is.open_now; is = is.is }
 
-  -- a solve that needs no run
+  -- a solve that needs no run replies with lines or is refused
   plain_outcome : (tables : Tables) (limits : Limits) (outcome : Outcome) → NeedsNoRun tables proving.round → Comes tables (Solve proving.round limits) outcome → is_plain outcome ≡ true
   plain_outcome tables limits outcome no_run comes =
       solve_plain tables proving.round (named_round tables.rounds proving.round) outcome (solve_at_once tables proving.round limits outcome no_run comes)
@@ -219,7 +220,7 @@ module _ (path : List ℕ) (told : StoreTold) (proving : ProveRound) where
   proved_spent line says (NoProof pool left is spends right none) = (pool, round_pool says.is.tables pool says.is.loaded is, left, spends, line, says.is_told.errs, right)
   proved_spent line says (AsSolve limits no_run means) = absurd (as_solve_stops says.is.tables limits (StopsBy Spent line) says.is.change no_run (inr refl) means)
 
-  -- a proof that was made of the round's pool is never refused by a rule
+  -- no rule refuses a valid proof that was made of the round's pool
   kept_by_rule : (tables : Tables) (pool : Pool) (proof : Proof) (line : List ℕ) (change : Option Change) → IsOpenWith tables proving.round pool → proof_pool proof ≡ pool → verdict proof ≡ Valid →
       StepMeans (Keep proving.round proof) tables (StopsBy Rule line) change → ⊥
   kept_by_rule tables pool proof line change is of valid means =

@@ -1,4 +1,5 @@
--- The status of a call determines how the answer that was told begins, and about which value it is right.
+-- What the status of a call says of the answer that was told: its form (`Prints Done`, `Stops Input` and so on), and that it is right about
+-- a value whose text the source held.
 use Rattle.std.proofs.Common.{◌≡◌, ◌∙◌, ℕ, true, List, Ok, ap, refl, sym, subst}
 use Rattle.std.specs.Prelude.{◌≢◌, Err}
 use Rattle.command_shell.specs.declared.status.Printed.TheVariants.{Done, NoPanel, Refused}

@@ -66,7 +66,7 @@ module _ (tables : Tables) (number : ℕ) (limits : Limits) where
   solve_at_once outcome no_run (AtOnce h) = h
   solve_at_once outcome (own, decided) (ByRun n l pool ending same needs ends comes) = absurd (cc (decided, needs))
 
-  -- ---- no panel
+  -- ---- a solve that replies that there is no panel
 
   none_at_once : (change : Option Change) → solve_in tables number (named_round tables.rounds number) ≡ IsDecided (Replies change NoPanel) → ⊥
   none_at_once change h = false≢true (solve_plain tables number (named_round tables.rounds number) (Replies change NoPanel) h)
@@ -91,7 +91,7 @@ module _ (tables : Tables) (number : ℕ) (limits : Limits) where
   none_stays change (AtOnce h) = absurd (none_at_once change h)
   none_stays change (ByRun n l pool own same needs ends comes) = (none_run n pool own change comes).1
 
-  -- ---- no refused proof
+  -- ---- no solve ends with a refused proof
 
   check_run : (n : ℕ) (pool : Pool) (ending : Ending) (refusal : reasons.Refusal) → Unproved refusal ≡ solved n pool ending → ⊥
   check_run n pool (run.Found last answer) refusal h = cc
@@ -119,7 +119,7 @@ module _ (tables : Tables) (number : ℕ) (limits : Limits) where
   had_bundle (Some (Sealed bundle)) change text at h = HadBundle (Sealed bundle) bundle at refl (cc)
   had_bundle (Some (Drawn bundle digits dropped)) change text at h = HadBundle (Drawn bundle digits dropped) bundle at refl (cc)
 
-  -- If a run's outcome is a reply with a text, it makes a change.
+  -- If the outcome of a run is a reply with a text, the reply has a change.
   no_stay : (n : ℕ) (pool : Pool) (ending : Ending) (change : Option Change) (text : List ℕ) → Stays (Replies change (Lines text)) → Replies change (Lines text) ≡ solved n pool ending → ⊥
   no_stay n pool (run.Found last answer) change text stays h =
       let e : change ≡ Some (SolvedWith n (record { pool = pool; answer = answer })) = cc in subst (λ c. Stays (Replies c (Lines text))) e stays

@@ -1,5 +1,5 @@
--- Every call over a store that is right keeps the promises. First what the answers of such calls are by their statuses, then what each kind
--- of command gives for each status, and at last the promises, proved once for every kind.
+-- Every right call over a store keeps the promises. First the promises are proved once for all kinds of commands, from what the answers of
+-- a kind give for each status (`Gives`). Then follows what the answers of each kind give.
 use Rattle.std.proofs.Common.{◌≡◌, ◌∙◌, ℕ, Bool, true, false, ◌==◌, List, [], ◌∷◌, Option, Some, None, Result, Ok, Err, refl, ap, sym, subst, inl, inr}
 use Rattle.std.specs.Prelude.{◌≢◌, ◌⊎◌, option_map}
 use Rattle.std.specs.List.{list_any}
@@ -76,7 +76,7 @@ module _ (path : List ℕ) (Means : StoreMeaning) (told : StoreTold) where
   said_at number said s (KeeperFault failed stopped) = absurd (false≢true (ap is_said (sym stopped.status ∙ s) ∙ said))
   said_at number said s (WantOfMemory nothing stopped) = absurd (false≢true (ap is_said (sym stopped.status ∙ s) ∙ said))
 
-  -- the answers with this status have this form
+  -- if every answer of status `number` has the form `form`, a call that ends with this status told an answer of this form
   said_as : (number : ℕ) (form : List ℕ → Saying) → ((answer : Saying) → status_of answer ≡ number → (text : List ℕ) × (answer ≡ form text)) → is_said number ≡ true →
       StoreOutcome path Means told → told.call.status ≡ number → (text : List ℕ) × Says path Means told (form text)
   said_as number form forms said outcome s =
@@ -114,7 +114,7 @@ module _ (path : List ℕ) (Means : StoreMeaning) (told : StoreTold) where
   statuses (KeeperFault failed stopped) = ap is_status stopped.status
   statuses (WantOfMemory nothing stopped) = ap is_status stopped.status
 
-  -- if only answers of status 0 come with a change, a call of another status than 0 and 8 leaves the tables
+  -- if only answers of status 0 come with a change, a call whose status is neither 0 nor 8 leaves the tables as they are
   stays : ((tables : Tables) (answer : Saying) (change : Option Change) → Means tables answer change → status_of answer ≢ 0 → change ≡ None) →
       StoreOutcome path Means told → told.call.status ≢ 0 → told.call.status ≢ 8 → KeepsTables told.keeper
   stays quiet (Tells answer is is_told) n0 n8 =
@@ -136,7 +136,7 @@ module _ (path : List ℕ) (Means : StoreMeaning) (told : StoreTold) where
     pub no_check : (check : Check) → Some it ≡ Some (asks.Check check) → ⊥
     pub no_verify : (verify : Verify) → Some it ≡ Some (asks.Verify verify) → ⊥
 
-  -- a call over the store keeps the promises, if its answers give what they should
+  -- a call over the store keeps the promises, if its answers give what `Gives` says
   pub keeps_promises : (it : Asked) → Gives it → StoreOutcome path Means told → Keeps (Some it) told
   keeps_promises it gives outcome = record {
     done = λ s. let at = said_as 0 (Prints Done) is_done refl outcome s in gives.done at.0 at.1;
@@ -304,7 +304,7 @@ module _ (path : List ℕ) (told : StoreTold) (command : Command) where
         errs = subst (GainsLine told.call.errs) of_rule.2 says.is_told.errs;
       }
 
-  -- a call that answers by another meaning, as this command does, told what the command does
+  -- if a call told an answer by some meaning, and the answer is right for this command, the call told an answer of this command
   abbrev pub as_step : (Means : StoreMeaning) (answer : Saying) (says : Says path Means told answer) → StepMeans command says.is.tables answer says.is.change → Says path (StepMeans command) told answer
   as_step Means answer says means = record {
     is = record { attached = says.is.attached; tables = says.is.tables; loaded = says.is.loaded; change = says.is.change; means = means; stored = says.is.stored; no_fault = says.is.no_fault };
@@ -333,7 +333,7 @@ module _ (path : List ℕ) (told : StoreTold) (round : ℕ) (limits : Limits) wh
   solve_quiet tables (StopsBy Input line) change means n0 = means.changes ∙ told_change (Solve round limits) means.outcome (StopsBy Input line) n0 (λ e. absurd (cc)) means.tells
   solve_quiet tables other change means n0 = means.changes ∙ told_change (Solve round limits) means.outcome other n0 (λ e. absurd (cc)) means.tells
 
-  -- a run that stopped over the round's pool
+  -- the answer is about the end of a run over the pool of the round, which is open
   record StopTold (answer : Saying) : Type 0 where
     pool : Pool
     is : IsRoundPool round told pool
@@ -520,7 +520,7 @@ module _ (path : List ℕ) (told : StoreTold) (import : Import) where
       proof = λ verify e proof is_proof from n8 n12. absurd (cc (e));
     }
 
-  -- a call about a file keeps the promises, if its answers about each file give what they should
+  -- a call about a file keeps the promises, if its answers about each file give what `Gives` says
   pub file_keeps : ((bytes : List ℕ) → HeldAll told.call.source bytes → Gives path (ImportMeans import bytes) told (asks.Import path import)) →
       TextStoreOutcome path (ImportMeans import) told → Keeps (Some (asks.Import path import)) told
   file_keeps gives (Read bytes input outcome) = keeps_promises path (ImportMeans import bytes) told (asks.Import path import) (gives bytes input.held) outcome

@@ -1,12 +1,12 @@
--- What the program promises, in one file. Each field of `Headline` is one promise, and the law `headline` (src/headline.rt) proves them of
--- every call of `office`. Beside this file, a reader needs what a pool, a quota panel, a lottery and a certificate are (define_pools: Pool,
--- Lottery, Certificate), when a proof holds (define_additions: ProofVerdict, Refusals), how they are spelled (PoolText, BundleText,
--- ProofText), what the words ask for (Asked), what was read and printed (Told), and the limits and lines that the imports below name.
+-- What the program promises, in one file. Each field of `Keeps` and `KeepsDesk` is one promise, and the law `headline` (src/lib.rt) proves
+-- them of every call of `office`. Beside this file, a reader needs what a pool, a quota panel, a lottery and a certificate are
+-- (define_pools: Pool, Lottery, Certificate), when a proof holds (define_additions: ProofVerdict, Refusals), how they are spelled
+-- (PoolText, BundleText, ProofText), what the words ask for (Asked), what was read and printed (Told), and the limits and lines that the
+-- imports below name.
 --
--- Most promises say what holds if a call has some status; only those on `check` and `verify` also say when the status is 0. When the other
--- statuses come is said by the contract of `office` (Office). That out is untouched at status 2 to 7, 9, 10 and 12, and errs at 0, 1 and
--- 11, is said only by `IsStopped` and `IsPrinted` (command_shell/specs/Outcomes.antt). What is promised of `serve` is in `KeepsDesk`, near
--- the end.
+-- Most promises say what holds if a call has some status; only those on `check` and `verify` also say when the status is 0. The
+-- contract of `office` (Office) says when the other statuses come. Only `IsStopped` and `IsPrinted` (command_shell/specs/Outcomes.antt) say
+-- that out is untouched at status 2 to 7, 9, 10 and 12, and errs at 0, 1 and 11. The promises of `serve` are in `KeepsDesk`, near the end.
 use Rattle.std.specs.List.{list_all, list_any}
 use Rattle.std.specs.Prelude.{◌≡◌, ◌≢◌, ◌↔◌, ◌⊎◌, ◌≤◌, ◌==◌, ℕ, nat_lt, Bool, IsTrue, IsFalse, List, [], ◌∷◌, length, Option, Some, None, Ok, Err, option_map}
 use Rattle.command_bundles.specs.declared.check.Check.{Check}
@@ -208,7 +208,8 @@ pub record TellsPage (told : Told) : Type 0 where
   pub out : Gains told.out text
   pub page : PrintsPage bundle text
 
--- and with digits of dice the page with the panel that they draw from it, in a round number of tickets if there is one
+-- `page --drawn` printed the page about the bundle that the source held, by itself or in a proof, with the panel that the digits of dice
+-- draw from it, in a round number of tickets if one was given
 pub record TellsDrawnPage (tickets : Option ℕ) (digits : List ℕ) (told : Told) : Type 0 where
   pub bundle : Bundle
   pub held : HeldBundleOrProof told.source bundle
@@ -292,7 +293,7 @@ DoneAlone (Some (asks.Check it)) told = TellsValid told
 DoneAlone (Some (asks.Question it)) told = TellsAnswer it told
 DoneAlone (Some (asks.Explain it)) told = HeldText told
 DoneAlone (Some (asks.Make it)) told = TellsSummary it.limits (made_pool it.seed it.volunteers) told
--- words that ask for nothing never have status 0; for commands over a store see `TellsDone`
+-- a call whose words ask for nothing never has status 0; for commands over a store see `TellsDone`
 DoneAlone other told = ⊥
 
 -- ---- status 1: there is no quota panel
@@ -306,7 +307,8 @@ NoneAlone (Some (asks.Loosen it)) told = (pool : Pool) × HeldPool told.source p
 NoneAlone (Some (asks.LoosenByProof it)) told = (pool : Pool) × HeldPool told.source pool × (text : List ℕ) × Gains told.out text × PrintsNone pool text
 NoneAlone (Some (asks.Prove it)) told = (pool : Pool) × HeldEither told.source pool × (panels pool ≡ [])
 NoneAlone (Some (asks.Make it)) told = panels (made_pool it.seed it.volunteers) ≡ []
--- no other command without a store has status 1, nor have words that ask for nothing; for a solve see `TellsNone`
+-- no call of another command without a store has status 1, and no call whose words ask for nothing; for commands over a store see
+-- `TellsNone`
 NoneAlone other told = ⊥
 
 -- ---- every other answer is a refusal whose cause holds
@@ -318,7 +320,8 @@ abbrev pub HeldNoText : {Value : Type 0} → Format Value → Told → Type 0
 HeldNoText format told =
     ((bytes : List ℕ) × (fault : Fault) × HeldAll told.source bytes × (format.read bytes ≡ Err fault)) ⊎ HeldMore told.source input_limit
 
--- for `page`: no bundle and no proof, or a bundle whose weights don't sum to its total
+-- status 3 of `page`: the source held neither a bundle nor a proof, or too many bytes; or it held a bundle, by itself or in a proof, whose
+-- weights don't sum to its total
 abbrev pub HeldNoPage : Told → Type 0
 HeldNoPage told =
     HeldNoText bundle_or_proof_format told ⊎ ((bundle : Bundle) × HeldBundleOrProof told.source bundle × (TotalAgrees bundle.answer.lottery → ⊥))
@@ -327,7 +330,7 @@ HeldNoPage told =
 abbrev pub HasNoLottery : Told → Type 0
 HasNoLottery told = (pool : Pool) × (lines : List TreeLine) × HeldProof told.source (OfNoPanel pool lines) × GainsLine told.errs no_lottery_line
 
--- status 3: the input is outside its format, or too long
+-- status 3: the input is outside its format or too long, or has a bundle whose weights don't sum to its total
 abbrev pub WrongAlone : Option Asked → Told → Type 0
 WrongAlone (Some (asks.Prove it)) told = HeldNoText pool_or_bundle_format told
 WrongAlone (Some (asks.Verify it)) told = HeldNoText proof_format told
@@ -336,14 +339,14 @@ WrongAlone (Some (asks.Seal it)) told = HeldNoText bundle_format told
 -- status 3 of `draw` also means a bundle whose weights don't sum to its total
 WrongAlone (Some (asks.Draw seal digits)) told =
     HeldNoText bundle_format told ⊎ ((bundle : Bundle) × HeldBundle told.source bundle × (TotalAgrees bundle.answer.lottery → ⊥))
--- the same for `short-draw`, and for a question about a bundle
+-- status 3 of `short-draw`, and of a question about a bundle, means the same
 WrongAlone (Some (asks.ShortDraw tickets seal digits)) told =
     HeldNoText bundle_format told ⊎ ((bundle : Bundle) × HeldBundle told.source bundle × (TotalAgrees bundle.answer.lottery → ⊥))
 WrongAlone (Some (asks.Question it)) told =
     HeldNoText bundle_format told ⊎ ((bundle : Bundle) × HeldBundle told.source bundle × (TotalAgrees bundle.answer.lottery → ⊥))
 WrongAlone (Some (asks.Page it)) told = HeldNoPage told
 WrongAlone (Some (asks.DrawnPage tickets digits)) told = HeldNoPage told
--- for `explain` the bytes are none of the three texts
+-- status 3 of `explain`: the bytes aren't the text of a pool, a bundle or a proof, or they are too many
 WrongAlone (Some (asks.Explain it)) told =
     ((bytes : List ℕ) × HeldAll told.source bytes × (IsText bytes → ⊥)) ⊎ HeldMore told.source input_limit
 WrongAlone (Some (asks.Panel it)) told = HeldNoText pool_format told
@@ -352,11 +355,11 @@ WrongAlone (Some (asks.LoosenByProof it)) told = HeldNoText pool_format told
 WrongAlone (Some (asks.Why it)) told = HeldNoText pool_or_proof_format told
 WrongAlone (Some (asks.Lottery it)) told = HeldNoText pool_format told
 WrongAlone (Some (asks.Check it)) told = HeldNoText bundle_format told
--- `make` and words that ask for nothing never have status 3; for imports see `TextIsWrong`
+-- `make`, and a call whose words ask for nothing, never have status 3; for imports see `TextIsWrong`
 WrongAlone other told = ⊥
 
--- status 4: an operation or a total passed its limit, and errs gained the line that says which. For `prove`, `why` and `loosen-by-proof` the
--- line may name any operation whose result is too great, not only one of the run
+-- status 4: an operation or a total passed its limit, and errs gained the line that says which. For `prove`, `why` and `loosen-by-proof`
+-- the line may name any operation whose result is too great, not only one of the run
 abbrev pub PassedAlone : Option Asked → Told → Type 0
 PassedAlone (Some (asks.Lottery it)) told = (pool : Pool) × HeldPool told.source pool × (line : List ℕ) × GainsLine told.errs line × PassesWidth it.limits pool line
 PassedAlone (Some (asks.Make it)) told = (line : List ℕ) × GainsLine told.errs line × PassesWidth it.limits (made_pool it.seed it.volunteers) line
@@ -365,8 +368,8 @@ PassedAlone (Some (asks.LoosenByProof it)) told = (line : List ℕ) × GainsLine
 PassedAlone (Some (asks.Why it)) told = (line : List ℕ) × GainsLine told.errs line × PassesProofWidth line
 PassedAlone other told = ⊥
 
--- status 5: a budget was spent, and errs gained the line that says which. For `prove`, `why` and `loosen-by-proof` nothing says what a search
--- leaves of its budget, so each of their lines is right at any time
+-- status 5: a budget was spent, and errs gained the line that says which. For `prove`, `why` and `loosen-by-proof` nothing says how much of
+-- its budget a search spends, so each of their lines about a spent budget can be right
 abbrev pub SpentAlone : Option Asked → Told → Type 0
 SpentAlone (Some (asks.Panel it)) told = (pool : Pool) × HeldPool told.source pool × (line : List ℕ) × GainsLine told.errs line × SpendsVisits it.nodes pool line
 SpentAlone (Some (asks.Loosen it)) told = (pool : Pool) × HeldPool told.source pool × (line : List ℕ) × GainsLine told.errs line × SpendsSearch it.nodes pool line
@@ -378,7 +381,7 @@ SpentAlone (Some (asks.LoosenByProof it)) told = (left : Left) × SpendsOn (unsp
 SpentAlone (Some (asks.Why it)) told = (left : Left) × SpendsOn (unspent it.pivots it.nodes) left × (line : List ℕ) × GainsLine told.errs line × SpendsWhyBudget left line
 SpentAlone other told = ⊥
 
--- the digits draw nothing from the bundle, as `draw` says, or as `short-draw` says in a round number of tickets
+-- the digits draw nothing from the bundle, and `line` says why, as `draw` says it, or `short-draw` if a number of tickets is given
 abbrev pub RefusesPage : Option ℕ → List ℕ → Bundle → List ℕ → Type 0
 RefusesPage None digits bundle line = RefusesDraw (bundle_seal bundle) digits bundle line
 RefusesPage (Some tickets) digits bundle line = RefusesShortDraw tickets (bundle_seal bundle) digits bundle line
@@ -394,9 +397,9 @@ BrokenAlone (Some (asks.DrawnPage tickets digits)) told =
     HasNoLottery told ⊎ ((bundle : Bundle) × HeldBundleOrProof told.source bundle × (line : List ℕ) × GainsLine told.errs line × RefusesPage tickets digits bundle line)
 BrokenAlone other told = ⊥
 
--- status 11: the certificate or the proof doesn't hold. For `prove`: with some trees, the bundle is a proof that is refused for the printed
--- reason. If the reason's number is below 11, the certificate doesn't hold. The reasons from 11 on concern the trees alone, and say nothing
--- of the certificate
+-- status 11: the certificate or the proof doesn't hold. For `prove`: there are trees with which the bundle is a proof that is refused for
+-- the printed reason. If the reason's number is below 11, the certificate doesn't hold. The reasons from 11 on concern the trees alone, and
+-- say nothing of the certificate
 abbrev pub CheckFailed : Option Asked → Told → Type 0
 CheckFailed (Some (asks.Check it)) told =
     (bundle : Bundle) × HeldBundle told.source bundle × (Certifies bundle.pool bundle.answer.lottery bundle.answer.stages → ⊥)
@@ -508,13 +511,14 @@ pub record HeldFault (file : Import) (told : StoreTold) : Type 0 where
   pub reads : ReadsFile file tables bytes (Err fault)
   pub errs : GainsLine told.call.errs (input_line (record { line = fault.place; kind = fault.kind }))
 
--- status 3: the input is outside its format, or too long. Over a store only an import and `keep` can end with it
+-- status 3: the input is outside its format or too long. Over a store only an import and `keep` can end with it. For commands without a
+-- store see `WrongAlone`
 abbrev pub TextIsWrong : Option Asked → StoreTold → Type 0
 TextIsWrong (Some (asks.Import store file)) told = HeldFault file told ⊎ HeldMore told.call.source input_limit
 TextIsWrong other told = WrongAlone other told.call
 
--- status 4: a number passed its limit. Over a store only `solve` and `prove` of an open round can end with it. For `prove` alone see
--- `PassedAlone`
+-- status 4: a number passed its limit. Over a store only `solve` and `prove` of an open round can end with it. For commands without a store
+-- see `PassedAlone`
 abbrev pub NumberPassed : Option Asked → StoreTold → Type 0
 NumberPassed (Some (asks.Step store (steps.Solve round limits workers))) told =
     (pool : Pool) × IsRoundPool round told pool × (line : List ℕ) × GainsLine told.call.errs line × PassesWidth limits pool line
@@ -538,7 +542,7 @@ pub data RefusesImport (file : Import) (source : Bytes) (tables : Tables) (refus
       RefusesImport file source tables refusal
   NoRules : file ≡ import.Register → tables.rules ≡ None → refusal ≡ Incomplete part.Rules → RefusesImport file source tables refusal
 
--- there was a refusal over the tables, and errs gained the line that says which
+-- a refusal is right over the tables that were loaded, and errs gained its line
 pub record TellsRefusal (Refused : Tables → Refusal → Type 0) (told : StoreTold) : Type 0 where
   pub tables : Tables
   pub loaded : IsLoaded told.keeper.object.before tables
@@ -546,11 +550,11 @@ pub record TellsRefusal (Refused : Tables → Refusal → Type 0) (told : StoreT
   pub refused : Refused tables refusal
   pub errs : GainsLine told.call.errs (text_of (rule_line refusal ∷ []))
 
--- status 6: a rule refused
+-- status 6: a rule was broken. For commands without a store see `BrokenAlone`
 abbrev pub RuleBroken : Option Asked → StoreTold → Type 0
 RuleBroken (Some (asks.Step store step)) told = TellsRefusal (λ tables refusal. Comes tables (step_command step) (Refuses refusal)) told
 RuleBroken (Some (asks.Import store file)) told = TellsRefusal (RefusesImport file told.call.source) told
--- for `prove`: a solve of the round is refused for this, whatever its limits
+-- for `prove`: a solve of the round has the same refusal, whatever its limits
 RuleBroken (Some (asks.ProveRound store proving)) told = TellsRefusal (λ tables refusal. (limits : Limits) → Comes tables (Solve proving.round limits) (Refuses refusal)) told
 RuleBroken (Some (asks.Text store text)) told = TellsRefusal (λ tables refusal. stored_text text tables ≡ Err refusal) told
 RuleBroken other told = BrokenAlone other told.call
@@ -571,7 +575,7 @@ pub record Keeps (it : Option Asked) (told : StoreTold) : Type 0 where
   -- status 2 comes only if the words ask for nothing: they are outside their form, or ask for help. (That such words have status 2, unless
   -- memory is wanting, is said in Office, not here.)
   pub usage : told.call.status ≡ 2 → it ≡ None
-  -- status 3 comes only if the input is outside its format or too long, or is a bundle whose weights don't sum to its total
+  -- status 3 comes only if the input is outside its format or too long, or has a bundle whose weights don't sum to its total
   pub text : told.call.status ≡ 3 → TextIsWrong it told
   -- status 4 comes only if a number passed its limit
   pub number : told.call.status ≡ 4 → NumberPassed it told
@@ -607,8 +611,8 @@ pub record Keeps (it : Option Asked) (told : StoreTold) : Type 0 where
 abbrev pub Serves : List ℕ → ℕ → DeskTold → Type 0
 Serves path connections told = (visits : List Visit) × HasServed path connections told visits
 
--- the door listens at `port`, links were attended, and out gained the line that counts them. They are as many as `connections`, or, as far
--- as the door tells, no link is still to come
+-- the door listens at `port`, links were attended, and out gained the line that counts them. Either `connections` links were attended, or,
+-- as far as the door tells, no link is still to come
 pub record TellsServed (path : List ℕ) (port connections : ℕ) (told : DeskTold) : Type 0 where
   pub opened : told.ports.after ≡ Some port
   pub visits : List Visit
@@ -628,26 +632,27 @@ is_serve_status number = list_any (λ status. number == status) (0 ∷ 8 ∷ 9 �
 pub record KeepsDesk (path : List ℕ) (port connections : ℕ) (told : DeskTold) : Type 0 where
   -- status 0: links were attended and counted, and the door listens at the port
   pub done : told.store.call.status ≡ 0 → TellsServed path port connections told
-  -- status 8 comes only if out counted a fault, and what the visits changed is kept
-  pub write_fault : told.store.call.status ≡ 8 → HasFaulted told.store.call.out × Serves path connections told
+  -- status 8 comes only if out counted a fault. The door listens at the port, and what the visits changed is kept
+  pub write_fault : told.store.call.status ≡ 8 → HasFaulted told.store.call.out × Serves path connections told × (told.ports.after ≡ Some port)
   -- status 9 comes only if the keeper of the store counted a fault when it was attached; no link was given
   pub keeper_fault : told.store.call.status ≡ 9 → HasFaulted told.store.keeper.object × ServesNothing told
-  -- status 10 comes only if the door counted a fault, and what the visits changed is kept
-  pub door_fault : told.store.call.status ≡ 10 → HasFaulted told.door × Serves path connections told
+  -- status 10 comes only if the door counted a fault: as it was opened, and no link was attended; or later, and it listens at the port.
+  -- What the visits changed is kept
+  pub door_fault : told.store.call.status ≡ 10 → HasFaulted told.door × ((visits : List Visit) × HasServed path connections told visits × ((visits ≡ []) ⊎ (told.ports.after ≡ Some port)))
   -- status 12, want of memory, comes only if no link was given
   pub memory : told.store.call.status ≡ 12 → ServesNothing told
   -- there is no other status
   pub statuses : IsTrue (is_serve_status told.store.call.status)
 
--- A volunteer's reply tells nothing of others: over tables with the same view for a key, each request with this key alone gets the same
--- reply of the desk. The view has the phases of the rounds, what is published, and what is told of the row with this key (`view` of
--- `define_desk`)
+-- A volunteer's reply tells nothing of others: over tables with the same view for a key, each request with this key and no other gets the
+-- same reply of the desk. The view has the phase of the last round, what is published of each round, and the row with this key, with the
+-- rounds of which this volunteer dropped out (`view` of `define_desk`)
 abbrev pub TellsNothingOfOthers : Type 0
 TellsNothingOfOthers = (one other : Tables) → IsTables one → IsTables other → (key : List ℕ) → IsIsolated one other key
 
 -- ---- every call
 
--- the promises of a call whose words ask for `it`, or for nothing. Only `serve` opens the door
+-- the promises of a call whose words ask for this command, or for nothing. Only `serve` opens the door
 abbrev pub Promises : Option Asked → DeskTold → Type 0
 Promises (Some (asks.Serve path serve)) told = KeepsDesk path serve.port serve.connections told
 Promises other told = IsUnopened told × Keeps other told.store

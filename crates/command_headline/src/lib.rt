@@ -1,5 +1,5 @@
 //! What the program promises, for a reader who believes nothing but definitions: the laws of `specs/Headline.antt` about the contract of
-//! `office`. Each is proved as the contract of a function with an empty body. Stands on `command_office`, which has the contract, and on
+//! `office`. Each is proved as the contract of a function that does nothing. Stands on `command_office`, which has the contract, and on
 //! the definitions. Nothing stands on it.
 #![tactic(auto)]
 

@@ -12,7 +12,7 @@ use Rattle.define_searches.specs.Classes.{are_alike, classes_of}
 use Rattle.define_searches.specs.Compositions.{composition_of, first_panel}
 use Rattle.command_loosen.specs.Loosening.{IsLeastLoosening}
 
--- each quota panel is a team
+-- if there is no team, there is no quota panel, since each quota panel is a team
 pub no_panels : (pool : Pool) → ((team : List ℕ) → is_team pool team ≡ true → ⊥) → panels pool ≡ []
 no_panels pool none = by (panels pool) refl (each_filter_passes (λ panel. is_quota_panel pool panel ≡ true) (is_quota_panel pool) (λ panel h. h) _)
   where
@@ -20,7 +20,7 @@ no_panels pool none = by (panels pool) refl (each_filter_passes (λ panel. is_qu
     by [] e h = e
     by (panel ∷ later) e h = absurd (none panel (team_of_panel pool panel h.0).0)
 
--- if the first members of the cheapest counts are cheapest, the panel of the least loosening is
+-- if the first panel of the cheapest counts is a cheapest team, so is the panel of the least loosening, which is made of these counts
 pub the_least : (pool : Pool) (loosening : Loosening) →
     ((counts : List ℕ) → cheapest_team (classes_of pool) ≡ Some counts → IsCheapest pool (are_alike pool) counts (first_panel (classes_of pool) counts)) →
     IsLeast pool loosening → least_loosening pool ≡ Some loosening → IsLeastLoosening pool loosening

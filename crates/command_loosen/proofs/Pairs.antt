@@ -19,7 +19,7 @@ module _ {X Y : Type 0} (lines : X × Y → List (List ℕ)) (xs : List X) (ys :
       ∙ (flat_map-append lines before (get_or (zip xs ys) i (x, y) ∷ [])
       ∙ ap (λ more. flat_map lines before ++ more) (append-nil (lines (get_or (zip xs ys) i (x, y))) ∙ ap lines pair))
 
-  -- if a text has the lines of the first `i` pairs, and those of one more are appended
+  -- if a text has the lines of the first `i` pairs, and the lines of the next pair are appended, it has those of the first `i + 1`
   pub pair_written : (i : ℕ) (x : X) (y : Y) (start before after : List ℕ) → i < length xs → i < length ys → x ≡ get_or xs i x → y ≡ get_or ys i y →
       before ≡ start ++ text_of (flat_map lines (take i (zip xs ys))) → after ≡ before ++ text_of (lines (x, y)) →
       after ≡ start ++ text_of (flat_map lines (take (i + 1) (zip xs ys)))

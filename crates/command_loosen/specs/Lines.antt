@@ -1,4 +1,4 @@
--- What `loosen` prints about a loosening: how far bounds are moved in all, the values whose bounds are moved, and the panel. Over the
+-- What `loosen` prints about a loosening: how far bounds are moved in all, the values whose bounds are moved, and the panel. Builds on the
 -- loosenings of `define_loosenings` and the lines of commands.
 use Rattle.std.specs.Prelude.{ℕ, ◌==◌, if◌then◌else◌, Bool, not, ◌||◌, List, [], ◌∷◌, ◌++◌, codes}
 use Rattle.std.specs.Fmt.{decimal}
@@ -16,7 +16,7 @@ total_line total = line_of (codes "loosen" ∷ decimal total ∷ [])
 abbrev pub bound_line : List ℕ → BoundedValue → List ℕ
 bound_line category value = line_of (codes "bound" ∷ category ∷ value.name ∷ decimal value.lower ∷ decimal value.upper ∷ [])
 
--- a bound of the value is another one in the loosened pool
+-- a bound of the value differs in the loosened pool
 abbrev pub is_moved : BoundedValue → BoundedValue → Bool
 is_moved value loosened = not (value.lower == loosened.lower) || not (value.upper == loosened.upper)
 

@@ -1,8 +1,8 @@
--- What `loosen-by-proof` answers: a least loosening of a pool's quotas, found by integer programs and shown to be least by sums. Over the
--- loosenings of `define_loosenings` and Lines.
+-- What `loosen-by-proof` answers: a least loosening of a pool's quotas, found by integer programs and shown to be least by sums. Builds on
+-- the loosenings of `define_loosenings` and Lines.
 --
--- The search is no definition. So the meaning doesn't say which of several least loosenings is found, nor whether one is found within the
--- budget, nor what a search leaves of its budget. Where `loosen` answers too, the totals are equal: both loosenings are least.
+-- The search has no definition. So the meaning doesn't say which of several least loosenings is found, nor whether one is found within the
+-- budget, nor what a search leaves of its budget. If `loosen` finds a loosening too, the totals are equal, since both loosenings are least.
 use Rattle.std.specs.Prelude.{◌≡◌, ℕ, List, [], IsTrue}
 use Rattle.define_loosenings.specs.Loosenings.{IsLeast, Loosening}
 use Rattle.define_loosenings.specs.Teams.{is_team}
@@ -26,7 +26,7 @@ pub record PrintsNone (pool : Pool) (text : List ℕ) : Type 0 where
   pub none : panels pool ≡ []
   pub line : text ≡ no_panel_line
 
--- what is right to answer, if the search leaves `left` of its budget. At 4 and 5 it answers as `why` does
+-- what is right to answer, if the search leaves `left` of its budget. At status 4 and 5, `loosen-by-proof` answers as `why` does
 abbrev pub LoosenByProofMeans : Left → Pool → RightAnswers
 LoosenByProofMeans left pool = record (StopMeans left) {
   -- status 0

@@ -1,4 +1,4 @@
--- What `loosen` answers: the least loosening of a pool's quotas, found by a search of at most `nodes` visits. Over the loosenings of
+-- What `loosen` answers: the least loosening of a pool's quotas, found by a search of at most `nodes` visits. Builds on the loosenings of
 -- `define_loosenings` and Lines.
 use Rattle.std.specs.Prelude.{◌≡◌, ℕ, ◌≤◌, ◌<◌, List, [], Some, None, IsTrue}
 use Rattle.define_loosenings.specs.CostSearch.{cheapest_search}
@@ -17,7 +17,7 @@ abbrev pub visits_of : Pool → ℕ
 visits_of pool = (cheapest_search (classes_of pool)).visits
 
 -- The loosening is the pool's least. No pool that differs in bounds alone and has a quota panel differs by less; the total is 0 exactly if
--- the pool has a quota panel. No team costs less than the panel, and each with an earlier composition costs more
+-- the pool has a quota panel. No team costs less than the panel, and each team whose counts come earlier costs more
 pub record IsLeastLoosening (pool : Pool) (loosening : Loosening) : Type 0 where
   pub found : least_loosening pool ≡ Some loosening
   pub least : IsLeast pool loosening

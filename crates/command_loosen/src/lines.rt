@@ -1,4 +1,4 @@
-//! The lines of `loosen`: how far bounds are moved in all, the values whose bounds are moved, and a quota panel.
+//! The lines of `loosen`: how far bounds are moved in all, the values whose bounds are moved, and a quota panel of the loosened pool.
 
 ghost use Rattle.std.specs.Prelude.{◌≡◌, ◌++◌, ◌∷◌, [], length, map, nat_lt, None, IfOk, IsTrue, OnOk};
 ghost use Rattle.std.specs.List.{flat_map, list_all, zip};
@@ -88,7 +88,7 @@ fn push_moved(
     }
 }
 
-/// True if a bound of the value is another one in the loosened pool.
+/// True if a bound of the value differs in the loosened pool.
 fn is_moved(value: &BoundedValue, loosened: &BoundedValue) -> bool
     ensures { result ≡ has_moved value.now loosened.now }
 {
@@ -138,7 +138,8 @@ fn push_members(
     Ok(())
 }
 
-/// Returns the line of a search that needs more than `nodes` visits. There is no run, so it says three zeros for how far one got.
+/// Returns the line of a search that needs more than `nodes` visits. It has three zeros where
+/// other commands say how far a run got, since `loosen` makes no run.
 pub(crate) fn nodes_spent_line(alloc: Global, nodes: u64) -> Result<Vec<u8>, AllocError>
     ensures { IfOk result (λ line. line.items ≡ words_of_nodes_spent nodes None) }
 {

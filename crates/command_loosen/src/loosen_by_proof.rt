@@ -29,7 +29,7 @@ pub struct LoosenByProof {
     pub nodes: u64,
 }
 
-/// The least loosening of `loosen` and each least loosening have one total.
+/// Each least loosening has the same total as the one that `loosen` finds.
 pub fn loosen_totals_are_equal()
     ensures { (pool : SeenPool) (one other : Loosening) → IsLeastLoosening pool one → IsLeast pool other → one.total ≡ other.total }
 {

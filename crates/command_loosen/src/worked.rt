@@ -31,7 +31,8 @@ pub fn worked_unmoved()
     least_loosening_is_least();
 }
 
-/// There is no team: one volunteer is needed and there is none; two are needed, and the only two are of one household.
+/// Two pools without a team: in one, a volunteer is needed and there is none; in the other, two are needed, and the only two volunteers
+/// are of one household.
 pub fn worked_no_team()
     ensures nobody { IsRight (LoosenMeans 1 nobody) (Prints NoPanel (codes "no panel\n")) }
     ensures couple { IsRight (LoosenMeans 2 couple) (Prints NoPanel (codes "no panel\n")) }

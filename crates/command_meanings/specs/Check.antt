@@ -20,7 +20,7 @@ refused_line refusal = line (codes "refused" ∷ decimal refusal.stage ∷ decim
 abbrev pub visits_spent_line : ℕ → ℕ → List ℕ
 visits_spent_line nodes stage = line (codes "spent" ∷ codes "nodes" ∷ decimal nodes ∷ decimal stage ∷ codes "0" ∷ codes "0" ∷ [])
 
--- the certificate holds, so no lottery over the pool's quota panels is above the bundle's
+-- the certificate holds, so no lottery over the pool's quota panels is above the lottery of the bundle
 pub record IsGreatest (bundle : Bundle) : Type 0 where
   pub certified : Certifies bundle.pool bundle.answer.lottery bundle.answer.stages
   pub greatest : LeximinGreatest bundle.pool bundle.answer.lottery

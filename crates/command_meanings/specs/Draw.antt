@@ -1,5 +1,5 @@
 -- What `draw` answers: the panel that the digits of dice draw from a bundle, if the given seal is the bundle's. The bundle's seal is
--- computed from its text, so a panel is drawn only from the bundle whose seal was given.
+-- computed from its text, so a panel is drawn only from a bundle whose seal was given.
 use Rattle.std.specs.Prelude.{◌≡◌, ℕ, List, [], ◌∷◌, ◌++◌, codes, Ok, Err}
 use Rattle.std.specs.Fmt.{decimal}
 use Rattle.define_pools.specs.Lottery.{TotalAgrees}

@@ -15,6 +15,6 @@ BundleMeans (OfLottery pool its trees) = record no_answer {
   done = λ text. text ≡ bundle_spelling (record { pool = pool; answer = its });
 }
 BundleMeans (OfNoPanel pool lines) = record no_answer {
-  -- status 6: the proof is that there is no quota panel, so it has no bundle
+  -- status 6: it is a proof that there is no quota panel, which has no bundle
   rule = λ text. text ≡ no_lottery_line;
 }

@@ -1,5 +1,5 @@
--- The lines of `panel` and `lottery`; `make` and `draw` print some of them too. Over the shell's lines and the tables of a run. Panel,
--- Lottery and Draw cite them.
+-- The lines of `panel` and `lottery`; `make`, `draw` and `loosen` print some of them too. Builds on the shell's lines and the tables of a
+-- run. Panel, Lottery and Draw cite them, and so do the meanings of `loosen` and of the commands over a store.
 use Rattle.std.specs.Prelude.{ℕ, List, [], ◌∷◌, ◌++◌, length, map, codes, Option, Some, None}
 use Rattle.std.specs.Fmt.{decimal, signed_decimal}
 use Rattle.define_pools.specs.Pool.{Pool, volunteer}

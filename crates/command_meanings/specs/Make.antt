@@ -16,7 +16,7 @@ abbrev pub sizes_of : Table → Sizes
 sizes_of table = record { classes = length table.sizes; columns = length table.columns; pivots = table.pivots }
 
 -- the text is the summary of the answer that the run finds and of the run's sizes. No lottery over the pool's quota panels is above the
--- answer's
+-- lottery of the answer
 pub record PrintsSummary (limits : Limits) (pool : Pool) (text : List ℕ) : Type 0 where
   pub answer : Answer
   pub last : Table

@@ -1,8 +1,9 @@
 -- What `prove` answers: a valid proof over the pool of the input, or a reason why none was made.
 --
--- The run that makes the proof is no definition. So the meaning doesn't say whether a proof is found, nor which of the statuses 4, 5 and
--- 11 comes if none is. At 4, any operation that passes 2^62 is right. At 5, a spent lottery or a lost step is always right. At 11, which
--- only a bundle can have, any trees may be the refused ones: a refusal of the trees can be right even if the bundle's certificate holds.
+-- The run that makes the proof has no definition. So the meaning doesn't say whether a proof is found, nor which of the statuses 4, 5 and
+-- 11 comes if none is. At 4, the line of any operation that passes 2^62 is right. At 5, the line that all turns of peeling are made
+-- (`lottery`), or that a step was lost, is always right. At 11, which only a bundle can have, any trees may be the refused ones: a refusal
+-- of the trees can be right even if the bundle's certificate holds.
 use Rattle.std.specs.Prelude.{◌≡◌, ℕ, List, [], ◌∷◌, codes, Option, None, Some, ⊤}
 use Rattle.std.specs.Fmt.{decimal, signed_decimal}
 use Rattle.define_additions.specs.ProofVerdict.{OfLottery, OfNoPanel, verdict}
@@ -32,7 +33,7 @@ abbrev pub given_in : PoolOrBundle → Option Answer
 given_in (either.Pool pool) = None
 given_in (either.Bundle bundle) = Some bundle.answer
 
--- ---- lines
+-- ---- the lines of status 4 and status 5
 
 abbrev pub proof_operation : Op → List ℕ
 proof_operation Mul = codes "mul"
@@ -52,15 +53,15 @@ proof_spent_line what most = line (codes "spent" ∷ what ∷ decimal most ∷ [
 abbrev pub lottery_tries : ℕ
 lottery_tries = 168
 
--- ---- answers
+-- ---- the right answers, status by status
 
 -- the answer `its` is the given one, if one was given
 abbrev pub IsGiven : Option Answer → Answer → Type 0
 IsGiven None its = ⊤
 IsGiven (Some given) its = its ≡ given
 
--- the text is a valid proof, so no lottery over the pool's quota panels is above the proof's. If a bundle was given, this is the bundle's
--- lottery
+-- the text is a valid proof, so no lottery over the pool's quota panels is above the lottery of the proof. If a bundle was given, it is
+-- the bundle's lottery
 pub record PrintsProof (about : PoolOrBundle) (text : List ℕ) : Type 0 where
   pub its : Answer
   pub is_given : IsGiven (given_in about) its
@@ -90,12 +91,12 @@ pub data SpendsProofBudget (left : Left) (text : List ℕ) : Type 0 where
   NodesSpent : left.nodes ≡ 0 → text ≡ proof_spent_line (codes "nodes") left.most_nodes → SpendsProofBudget left text
   -- all turns of peeling are made; no condition is put on `left`
   LotterySpent : text ≡ proof_spent_line (codes "lottery") lottery_tries → SpendsProofBudget left text
-  -- no budget: a step of the run led to a state that exact arithmetic never leads to, or its proof was refused. No condition is put on
-  -- `left`
+  -- this is no budget: a step of the run led to a state that exact arithmetic never leads to, or the proof that the run made was refused.
+  -- No condition is put on `left`
   StepLost : text ≡ proof_spent_line (codes "lost") 0 → SpendsProofBudget left text
 
--- With some trees, the lottery and stages of the given bundle are refused as a proof. Whether the run found these trees isn't said. If
--- the reason is below 11, the bundle's certificate doesn't hold; a reason from 11 on is about the trees alone
+-- There are trees with which the lottery and the stages of the given bundle make a proof that is refused. Whether the run found these
+-- trees isn't said. If the reason is below 11, the bundle's certificate doesn't hold; a reason from 11 on is about the trees alone
 pub record PrintsGivenRefusal (about : PoolOrBundle) (text : List ℕ) : Type 0 where
   pub its : Answer
   pub is_given : given_in about ≡ Some its

@@ -1,5 +1,5 @@
 //! Laws of what commands mean: at most one answer is right. The functions have no body; their contracts are the laws. `prove` has no such
-//! law, since the run that makes its proof is no definition.
+//! law, since the run that makes its proof has no definition.
 
 ghost use Rattle.std.specs.Prelude.{ℕ, List};
 ghost use Rattle.define_additions.specs.ProofVerdict.{Proof};

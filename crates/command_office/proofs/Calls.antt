@@ -24,11 +24,11 @@ use Rattle.office_core.specs.Keeping.{Place}
 use Rattle.command_office.specs.Office.{Answers, EndsRightly, LeavesDoor, LeavesStore}
 use Rattle.command_office.specs.declared.asked.Asked.{Asked}
 
--- a call that is right and leaves the keeper alone
+-- if a call is right, and the keeper's tables, faults and place are as before, the call leaves the store alone
 pub leaves : (Right : Told → Type 0) (call : Told) (kept : Option Tables) (faults : ℕ) (place : Place) → Right call → LeavesStore Right (store_told call (keeper_told (object kept kept faults faults) place place))
 leaves Right call kept faults place right = record { keeper = record { object = record { same = refl; no_fault = refl }; place = refl }; call = right }
 
--- a call that is right and leaves the door alone
+-- if a call is right, and the door's links, faults and port are as before, the call leaves the door alone
 pub shut : (Right : StoreTold → Type 0) (call : StoreTold) (links : Option (DoorLinks LinkTold)) (faults : ℕ) (port : Option ℕ) → Right call →
     LeavesDoor Right (desk_told call (object links links faults faults) (ports port port))
 shut Right call links faults port right = record { door = record { links = record { same = refl; no_fault = refl }; port = refl }; call = right }

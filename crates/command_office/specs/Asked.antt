@@ -26,7 +26,7 @@ limits_from bits pivots nodes =
     if nat_le 1 bits && nat_le bits 127 && nat_le pivots 1000000000 && nat_le nodes 1000000000000
     then Some (record { bits = bits; pivots = pivots; nodes = nodes }) else None
 
--- the limits of a run, by `bits`, `pivots` and `nodes`; None if one is missing or out of its range
+-- the limits of a run, from the options `bits`, `pivots` and `nodes`; None if one is missing or out of its range
 abbrev pub limits_in : Given → Option Limits
 limits_in given =
     option_and_then (λ bits.
@@ -37,14 +37,14 @@ limits_in given =
 abbrev pub workers_from : ℕ → Option ℕ
 workers_from number = if nat_le 1 number && nat_le number 64 then Some number else None
 
--- how many workers price, by `workers`: from 1 to 64, else None
+-- how many workers price, from the option `workers`; None if it is missing or not from 1 to 64
 abbrev pub workers_in : Given → Option ℕ
 workers_in given = option_and_then workers_from (number_of (codes "workers") given)
 
 abbrev pub volunteers_from : ℕ → Option ℕ
 volunteers_from number = if nat_le 1 number && nat_le number 400 then Some number else None
 
--- how many volunteers a made pool has, by `volunteers`: from 1 to 400, else None
+-- how many volunteers a made pool has, from the option `volunteers`; None if it is missing or not from 1 to 400
 abbrev pub volunteers_in : Given → Option ℕ
 volunteers_in given = option_and_then volunteers_from (number_of (codes "volunteers") given)
 
@@ -56,23 +56,23 @@ make_asked given =
     option_map (λ workers. asks.Make (record { seed = seed; volunteers = volunteers; limits = limits; workers = workers }))
     (workers_in given)) (limits_in given)) (volunteers_in given)) (number_of (codes "seed") given)
 
--- the number of the round
+-- the number of the round, from the option `round`; None if it is missing
 abbrev pub round_in : Given → Option ℕ
 round_in given = number_of (codes "round") given
 
--- a command of the office over the store that the words name
+-- a command of the office over the store that the words name; None if they name none
 abbrev pub step_asked : Step → Given → Option Asked
 step_asked step given = option_map (λ store. asks.Step store step) (text_of (codes "store") given)
 
--- an import into the store that the words name
+-- an import into the store that the words name; None if they name none
 abbrev pub import_asked : Import → Given → Option Asked
 import_asked import given = option_map (λ store. asks.Import store import) (text_of (codes "store") given)
 
--- a text that is made of the tables of the store that the words name
+-- a text that is made of the tables of the store that the words name; None if they name none
 abbrev pub text_asked : StoreText → Given → Option Asked
 text_asked text given = option_map (λ store. asks.Text store text) (text_of (codes "store") given)
 
--- without a store a proof is that of a pool or of a bundle
+-- `prove`: for a round of the store if the words name one, else for the pool or bundle that is read
 abbrev pub prove_from : Given → Prove → Option (List ℕ) → Option Asked
 prove_from given prove (Some store) = option_map (λ round. asks.ProveRound store (record { round = round; prove = prove })) (round_in given)
 prove_from given prove None = Some (asks.Prove prove)
@@ -93,7 +93,7 @@ loosen_by_proof_asked given =
     option_and_then (λ pivots. option_map (λ nodes. asks.LoosenByProof (record { pivots = pivots; nodes = nodes })) (number_of (codes "nodes") given))
     (number_of (codes "pivots") given)
 
--- without a store a draw is from a bundle
+-- `draw`: from a round of the store if the words name one, else from the bundle that is read
 abbrev pub draw_from : Given → List ℕ → List ℕ → Option (List ℕ) → Option Asked
 draw_from given seal digits (Some store) = option_and_then (λ round. step_asked (steps.Draw round seal digits) given) (round_in given)
 draw_from given seal digits None = Some (asks.Draw seal digits)
@@ -106,7 +106,7 @@ draw_asked given =
 abbrev pub tickets_from : ℕ → Option ℕ
 tickets_from number = if nat_le 1 number && nat_le number 1000000000 then Some number else None
 
--- the number of tickets, by `tickets`: from 1 to 10 ^ 9, else None
+-- the number of tickets, from the option `tickets`; None if it is missing or not from 1 to 10 ^ 9
 abbrev pub tickets_in : Given → Option ℕ
 tickets_in given = option_and_then tickets_from (number_of (codes "tickets") given)
 
@@ -118,7 +118,8 @@ abbrev pub question_from : Question → InTickets → Option ℕ → Option Aske
 question_from whole short (Some number) = option_map (in_tickets_asked short) (tickets_from number)
 question_from whole short None = Some (asks.Question whole)
 
--- a question about a bundle, or about it in a number of tickets if the words give one
+-- `whole`, a question about a bundle; or, if the words give a number of tickets, `short` about the bundle in that number of tickets. None
+-- if this number isn't from 1 to 10 ^ 9
 abbrev pub question_asked : Question → InTickets → Given → Option Asked
 question_asked whole short given = question_from whole short (number_of (codes "tickets") given)
 
@@ -128,12 +129,13 @@ short_draw_asked given =
     option_and_then (λ seal. option_map (λ digits. asks.ShortDraw tickets seal digits) (text_of (codes "digits") given)) (text_of (codes "seal") given))
     (tickets_in given)
 
--- the page about a bundle with the panel that the digits draw, in a number of tickets if there is one
+-- the page about a bundle with the panel that the digits draw, in a round number of tickets if one is given; None if this number isn't from
+-- 1 to 10 ^ 9
 abbrev pub drawn_page_from : List ℕ → Option ℕ → Option Asked
 drawn_page_from digits (Some number) = option_map (λ tickets. asks.DrawnPage (Some tickets) digits) (tickets_from number)
 drawn_page_from digits None = Some (asks.DrawnPage None digits)
 
--- the page about a bundle without a panel. It takes no number of tickets
+-- the page about a bundle without a panel; None if a number of tickets is given
 abbrev pub plain_page_from : Option ℕ → Option Asked
 plain_page_from (Some number) = None
 plain_page_from None = Some (asks.Page (record {}))
@@ -142,13 +144,13 @@ abbrev pub page_from : Option (List ℕ) → Option ℕ → Option Asked
 page_from (Some digits) tickets = drawn_page_from digits tickets
 page_from None tickets = plain_page_from tickets
 
--- the page of a round. It takes no digits and no number of tickets
+-- the page of a round; None if digits or a number of tickets are given
 abbrev pub round_page_from : Given → Option (List ℕ) → Option ℕ → Option Asked
 round_page_from given (Some digits) tickets = None
 round_page_from given None (Some number) = None
 round_page_from given None None = option_and_then (λ round. text_asked (texts.Page round) given) (round_in given)
 
--- without a store a page is about a bundle
+-- `page`: about a round of the store if the words name one, else about the bundle or proof that is read
 abbrev pub page_by : Given → Option (List ℕ) → Option ℕ → Option (List ℕ) → Option Asked
 page_by given digits tickets (Some store) = round_page_from given digits tickets
 page_by given digits tickets None = page_from digits tickets
@@ -156,7 +158,7 @@ page_by given digits tickets None = page_from digits tickets
 abbrev pub page_asked : Given → Option Asked
 page_asked given = page_by given (text_of (codes "drawn") given) (number_of (codes "tickets") given) (text_of (codes "store") given)
 
--- without a store a seal is that of a bundle
+-- `seal`: of a round of the store if the words name one, else of the bundle that is read
 abbrev pub seal_from : Given → Option (List ℕ) → Option Asked
 seal_from given (Some store) = option_and_then (λ round. step_asked (steps.Seal round) given) (round_in given)
 seal_from given None = Some (asks.Seal (record {}))
@@ -176,7 +178,7 @@ serve_from port connections =
     if nat_le 1 port && nat_le port 65535 && nat_le 1 connections && nat_le connections 1000000
     then Some (record { port = port; connections = connections }) else None
 
--- the desk over the store that the words name; None if a number is missing or out of its range
+-- the desk over the store that the words name; None if the store or a number is missing, or a number is out of its range
 abbrev pub serve_asked : Given → Option Asked
 serve_asked given =
     option_and_then (λ port.
@@ -218,10 +220,11 @@ command_asked name.ImportRules given = import_asked imports.Rules given
 command_asked name.ImportRegister given = import_asked imports.Register given
 command_asked name.Serve given = serve_asked given
 
--- the command with its arguments, or None if a value is missing or out of its range
+-- the command with its arguments; None if a value is missing or out of its range, or options don't go together
 abbrev pub asked_by : Given → Option Asked
 asked_by given = command_asked given.command given
 
--- the command that the words ask for; None if the words are not of the forms, or ask for help
+-- the command that the words ask for; None if the words have none of the program's forms, have a value out of its range or options that
+-- don't go together, or ask for help
 abbrev pub asked : List (List ℕ) → Option Asked
 asked words = option_and_then asked_by (given_in words)

@@ -45,19 +45,20 @@ use Rattle.command_office.specs.declared.asked.Asked.TheVariants as asks
 abbrev pub Answers : {Value : Type 0} → Format Value → (Value → RightAnswers) → Told → Type 0
 Answers format Means told = TextOutcome (About format (λ value. IsTheAnswer (Means value))) told
 
--- the outcome of words that ask for nothing: they are not of the forms, or ask for help
+-- the outcome of words that ask for nothing: they have none of the program's forms, have options that don't go together, or ask for help
 pub record IsUsage (told : Told) : Type 0 where
   pub source : IsUntouched told.source
-  -- status 2: errs got a text. That the text is `clap`'s is tested, not proved
+  -- status 2: errs got a text. That it is `clap`'s, or the program's own if options don't go together, is tested, not proved
   pub text : List ℕ
   pub stopped : IsStopped 2 text told
 
--- the outcomes that a call may have whose words ask for nothing, or for a command that uses no store
+-- the outcomes that a call may have if its words ask for nothing, or for a command that uses no store
 abbrev pub AnswersAlone : Option Asked → Told → Type 0
 AnswersAlone None told = IsUsage told
 -- the run that makes a proof has no definition, so nothing says which of the statuses 0, 1, 4, 5 and 11 comes
 AnswersAlone (Some (asks.Prove it)) told = TextOutcome (About pool_or_bundle_format (ProvesWithin it.pivots it.nodes)) told
--- so is the search of `why`: nothing says which of the conflicts of the pool is told, nor which of the statuses 0, 4 and 5 comes
+-- the search of `why` has no definition either: nothing says which of the pool's conflicts is told, nor which of the statuses 0, 4 and 5
+-- comes
 AnswersAlone (Some (asks.Why it)) told = TextOutcome (About pool_or_proof_format (λ about. ExplainsWithin it.pivots it.nodes (pool_in about))) told
 AnswersAlone (Some (asks.Verify it)) told = Answers proof_format VerifyMeans told
 AnswersAlone (Some (asks.Bundle it)) told = Answers proof_format BundleMeans told
@@ -69,10 +70,10 @@ AnswersAlone (Some (asks.DrawnPage tickets digits)) told = Answers bundle_or_pro
 AnswersAlone (Some (asks.Panel it)) told = Answers pool_format (PanelMeans it.nodes) told
 AnswersAlone (Some (asks.Loosen it)) told = Answers pool_format (LoosenMeans it.nodes) told
 AnswersAlone (Some (asks.LoosenByProof it)) told = TextOutcome (About pool_format (LoosensWithin it.pivots it.nodes)) told
--- no meaning names the number of workers, neither here nor for `make` nor for a solve over a store, so it changes nothing that is told
+-- neither this meaning nor those of `make` and of a solve over a store name the number of workers, so it changes nothing that is told
 AnswersAlone (Some (asks.Lottery it)) told = Answers pool_format (LotteryMeans it.limits) told
 AnswersAlone (Some (asks.Check it)) told = Answers bundle_format (CheckMeans it.nodes) told
--- any bytes; the words of the answer aren't defined, only when they come and the line that they begin with at status 3
+-- `explain` reads any bytes. What its words are isn't defined, only which status comes, and the first line of the words at status 3
 AnswersAlone (Some (asks.Explain it)) told = TextOutcome (About any_format Explains) told
 -- one line for every question about a bundle
 AnswersAlone (Some (asks.Question it)) told = Answers bundle_format (QuestionMeans it) told
@@ -84,7 +85,7 @@ pub record LeavesStore (Right : Told → Type 0) (told : StoreTold) : Type 0 whe
   pub keeper : IsLeftAlone told.keeper
   pub call : Right told.call
 
--- the outcomes that a call may have whose words ask for nothing, or for a command that opens no desk
+-- the outcomes that a call may have if its words ask for nothing, or for a command that opens no desk
 abbrev pub AnswersRightly : Option Asked → StoreTold → Type 0
 -- one line for every command of the office: the answer is the outcome of the command over the store's tables. At most one answer is right
 -- (`steps_answer_once` of `command_stores`)

@@ -1,9 +1,9 @@
--- The commands of the office that words can ask for, and those of the definitions that they are. The contract of `office` cites it.
+-- The commands of the office that words can ask for, each as a command of `define_offices`. The contract of `office` cites it.
 use Rattle.define_offices.specs.Commands as office
 use Rattle.command_office.specs.declared.steps.Step.{Step}
 use Rattle.command_office.specs.declared.steps.Step.TheVariants.{Solve, Seal, Draw, Drop, NextRound, Show}
 
--- the number of workers is no part of a command's meaning
+-- the command of `define_offices` for a step that words ask for. It has no number of workers, on which no outcome depends
 abbrev pub step_command : Step → office.Command
 step_command (Solve round limits workers) = office.Solve round limits
 step_command (Seal round) = office.Seal round

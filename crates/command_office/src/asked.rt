@@ -51,8 +51,8 @@ use define_runs::{Limits, Workers};
 use short_draws::TicketCount;
 use std::alloc::Global;
 
-/// The text for options that don't go together, or a number that `clap` accepts and that is out of its range. No words lead to the second,
-/// since `clap` tests the ranges.
+/// The text for `errs` if options don't go together, or if a number is out of its range though `clap` accepted it. The second case never
+/// comes, since `clap` tests the ranges.
 const OUT_OF_RANGE: &str =
     "error: these options don't go together, or a number is out of its range\n";
 
@@ -89,7 +89,7 @@ pub enum Asked<'a> {
     Loosen(Loosen),
     /// Quotas of a pool that can't be met together, or a quota panel.
     Why(Why),
-    /// A least loosening of a pool's quotas, shown by sums.
+    /// A least loosening of a pool's quotas, found by integer programs and shown to be least by sums.
     LoosenByProof(LoosenByProof),
     /// A page about the lottery of a bundle.
     Page(Page),
@@ -147,8 +147,8 @@ pub enum Asked<'a> {
     },
 }
 
-/// Returns the command that the words ask for. `words` don't include the program's name. Fails with `Usage` if they ask for nothing, or if
-/// memory runs out.
+/// Returns the command that the words ask for. `words` don't include the program's name. Fails with `Usage` if they ask for nothing, and
+/// with `OutOfMemory` if memory runs out.
 pub(crate) fn read_asked<'a>(alloc: Global, words: &'a [String]) -> Result<Asked<'a>, WordsStop>
     ensures { Says (asked (map string_bytes words.entry.now)) result }
 {
@@ -236,7 +236,7 @@ fn asked_by<'a>(given: &Given<'a>) -> Option<Asked<'a>>
     }
 }
 
-/// Returns a command of the office over the store that the words name.
+/// Returns a command of the office over the store that the words name, or None if they name none.
 fn step_of<'a>(given: &Given<'a>, step: Step<'a>) -> Option<Asked<'a>>
     ensures { result ≡ words_of_step step.entry given.now }
 {
@@ -244,7 +244,7 @@ fn step_of<'a>(given: &Given<'a>, step: Step<'a>) -> Option<Asked<'a>>
     Some(Asked::Step { store, step })
 }
 
-/// Returns an import into the store that the words name.
+/// Returns an import into the store that the words name, or None if they name none.
 fn import_of<'a>(given: &Given<'a>, import: Import) -> Option<Asked<'a>>
     ensures { result ≡ words_of_import import given.now }
 {
@@ -252,7 +252,7 @@ fn import_of<'a>(given: &Given<'a>, import: Import) -> Option<Asked<'a>>
     Some(Asked::Import { store, import })
 }
 
-/// Returns a text of the store that the words name.
+/// Returns a text that is made of the tables of the store that the words name, or None if they name none.
 fn text_of<'a>(given: &Given<'a>, text: StoreText) -> Option<Asked<'a>>
     ensures { result ≡ words_of_text text given.now }
 {
@@ -416,7 +416,8 @@ fn solve_of<'a>(given: &Given<'a>) -> Option<Asked<'a>>
     step_of(given, step)
 }
 
-/// Returns a question about a bundle, or about it in the number of tickets that the words give.
+/// Returns `whole`, a question about a bundle; or, if the words give a number of tickets, `short` about the bundle in that number of
+/// tickets.
 fn question_of<'a>(given: &Given<'a>, whole: Question, short: InTickets) -> Option<Asked<'a>>
     ensures { result ≡ words_of_question whole short given.now }
 {
@@ -455,7 +456,7 @@ fn tickets_of(given: &Given<'_>) -> Option<TicketCount>
     TicketCount::new(given.number("tickets")?)
 }
 
-/// Returns the number of a round.
+/// Returns the number of the round, or None if the words give none.
 fn round_of(given: &Given<'_>) -> Option<usize>
     ensures { result ≡ number_of (codes "round") given.now }
 {
@@ -513,7 +514,7 @@ fn workers_from(number: u64) -> Option<Workers>
     Workers::new(u32::try_from(number).ok()?)
 }
 
-/// Returns the desk over the store that the words name.
+/// Returns the desk over the store that the words name, or None if the store or a number is missing, or a number is out of its range.
 fn serve_of<'a>(given: &Given<'a>) -> Option<Asked<'a>>
     ensures { result ≡ words_of_serve given.now }
 {

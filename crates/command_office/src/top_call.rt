@@ -26,7 +26,7 @@ use std::thread::Threads;
 ///
 /// The contract says for each list of words what each status means, and what `out` and `errs` gained.
 ///
-/// The caller must show that no more links came back to the door than it gave, if it tells them; a new door has given none.
+/// If the door tells its links, the caller must show that no more links came back to it than it gave. A new door has given none.
 ///
 /// For `lottery` and `make`, workers search the pieces of a pricing on threads, and `watch` is told of each piece as it starts. No answer
 /// depends on the workers or the watch.

@@ -32,12 +32,12 @@ bundle_once bundle first second x y = search rules
 pub page_once : (input : BundleOrProof) → HasOneAnswer (PageMeans input)
 page_once input = about_once PageOfBundle bundle_once (bundle_in input)
 
--- what is said of a draw out of `tickets` tickets
+-- the answer about a draw from `tickets` tickets: the page with the draw, or the line of the refusal
 abbrev said : Bundle → List ℕ → ℕ → Result Drawn Refused → Saying
 said bundle digits tickets (Ok drawn) = Prints Done (drawn_page_text bundle (bundle_seal bundle) digits tickets drawn)
 said bundle digits tickets (Err refused) = Stops Rule (refused_draw_line (bundle_seal bundle) (bundle_seal bundle) refused)
 
--- the weights sum to the total where a draw is refused, and the line is the refusal's
+-- the weights sum to the total, the draw is refused, and the text is the line of the refusal
 pub record Refuses (tickets : Option ℕ) (digits : List ℕ) (bundle : Bundle) (text : List ℕ) : Type 0 where
   pub refused : Refused
   pub total : TotalAgrees bundle.answer.lottery

@@ -27,7 +27,8 @@ refuses_alike (Some tickets) digits bundle why none (Stops Input line) right = r
 refuses_alike (Some tickets) digits bundle why none (Stops Rule line) right = right
 refuses_alike (Some tickets) digits bundle why none answer right = search rules
 
--- If the draw from a bundle under its own seal stops, but not for want of memory, the answer of `draw` is right.
+-- If the draw from a bundle under its own seal stops, but not for want of memory, an answer that is right for `draw` or `short-draw` is
+-- right for `page`.
 pub refused_so : (tickets : Option ℕ) (digits seal : List ℕ) (bundle : Bundle) (stop : DrawStop) (made : Result Answer AllocError) → seal ≡ bundle_seal bundle →
     DrawSays (lottery_in tickets bundle.answer.lottery) seal seal digits (Err stop) → (stop ≡ OutOfMemory → ⊥) →
     IfOk made (λ answer. IsRight (draw_means tickets seal digits bundle) (saying answer)) → IfOk made (λ answer. IsRight (DrawnPageOfBundle tickets digits bundle) (saying answer))

@@ -1,4 +1,4 @@
--- A bundle or a proof as the input of a command. Over the formats of both texts.
+-- A bundle or a proof as the input of a command. Builds on the formats of both texts.
 use Rattle.std.specs.Prelude.{ℕ, Bool, List, take, codes, bytes_eq, if◌then◌else◌, Option, Some, None, Result, Ok, Err}
 use Rattle.define_additions.specs.ProofVerdict.{OfLottery, OfNoPanel, Proof}
 use Rattle.define_bundles.specs.BundleReading.{read_bundle}
@@ -10,7 +10,7 @@ use Rattle.command_shell.specs.Subjects.{Format}
 use Rattle.command_page.specs.declared.inputs.BundleOrProof.{BundleOrProof}
 use Rattle.command_page.specs.declared.inputs.BundleOrProof.TheVariants as either
 
--- a text that begins with `proof` is read as a proof's, and any other as a bundle's
+-- a text that begins with `proof` is read as a proof, and any other as a bundle
 abbrev pub begins_as_proof : List ℕ → Bool
 begins_as_proof bytes = bytes_eq (codes "proof") (take 5 bytes)
 

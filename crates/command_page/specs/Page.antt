@@ -1,5 +1,5 @@
 -- What `page` answers: the page about a bundle, or about the bundle that a proof holds; with the digits of dice, also about the panel that
--- they draw, from all tickets or in a round number of them. Nothing is verified. Over Inputs, and the pages of `bundle_page`.
+-- they draw, from all tickets or in a round number of them. Nothing is verified. Builds on Inputs, and the pages of `bundle_page`.
 use Rattle.std.specs.Prelude.{◌≡◌, ℕ, List, Option, Some, None, Ok}
 use Rattle.define_bundles.specs.BundleText.{Bundle}
 use Rattle.define_draws.specs.Draw.{Drawn, draw}
@@ -14,7 +14,7 @@ use Rattle.command_meanings.specs.Seal.{bundle_seal}
 use Rattle.command_page.specs.declared.inputs.BundleOrProof.{BundleOrProof}
 use Rattle.command_page.specs.Inputs.{bundle_in}
 
--- ---- without digits
+-- ---- the page about a bundle, without the digits of dice
 
 -- the weights sum to the total, and the text is the page, with the bundle's own seal
 pub record PrintsPage (bundle : Bundle) (text : List ℕ) : Type 0 where
@@ -29,14 +29,14 @@ PageOfBundle bundle = record no_answer {
   input = HasWrongTotal bundle;
 }
 
--- ---- with digits
+-- ---- the page about a bundle and the draw of some digits
 
--- the lottery that the digits draw from: the bundle's, or the bundle's in a round number of tickets
+-- the lottery that the digits draw from: the bundle's own, or that lottery shortened to a round number of tickets
 abbrev pub lottery_in : Option ℕ → Lottery → Lottery
 lottery_in None lottery = lottery
 lottery_in (Some tickets) lottery = shortened lottery tickets
 
--- what `draw` answers, or `short-draw` in a round number of tickets
+-- which answers are right for the draw alone: those of `draw`, or of `short-draw` if a number of tickets is given
 abbrev pub draw_means : Option ℕ → List ℕ → List ℕ → Bundle → RightAnswers
 draw_means None given digits bundle = DrawMeans given digits bundle
 draw_means (Some tickets) given digits bundle = ShortDrawMeans tickets given digits bundle
@@ -54,13 +54,13 @@ DrawnPageOfBundle tickets digits bundle = record no_answer {
   done = PrintsDrawnPage tickets digits bundle;
   -- status 3
   input = HasWrongTotal bundle;
-  -- status 6: as `draw` or `short-draw` refuses, given the bundle's own seal
+  -- status 6: the refusal of `draw` or `short-draw` for the bundle's own seal
   rule = (draw_means tickets (bundle_seal bundle) digits bundle).rule;
 }
 
--- ---- about a bundle or a proof
+-- ---- what `page` answers about a bundle or a proof
 
--- about a proof that there is no quota panel, which has no lottery
+-- what is right to answer about a proof that there is no quota panel, which has no lottery
 abbrev pub WithoutLottery : RightAnswers
 WithoutLottery = record no_answer {
   -- status 6

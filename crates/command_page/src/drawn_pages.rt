@@ -91,7 +91,7 @@ fn about_bundle(
     drawn(alloc, bundle, &text, &seal, tickets, digits)
 }
 
-/// Returns what `page --drawn` answers about a bundle whose weights sum to its total, whose text is `text`.
+/// Returns what `page --drawn` answers about `bundle`, whose weights sum to its total and whose text is `text`.
 fn drawn(
     alloc: Global,
     bundle: &Bundle,
@@ -165,7 +165,8 @@ fn draw_in(
     }
 }
 
-/// Returns what `draw` answers about a bundle, or `short-draw` in a round number of tickets.
+/// Returns the answer of `draw` about a bundle, or of `short-draw` if a number of tickets is given. `page` answers so if nothing
+/// is drawn.
 fn refused(
     alloc: Global,
     bundle: &Bundle,

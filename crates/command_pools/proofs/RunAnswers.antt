@@ -17,7 +17,7 @@ use Rattle.command_meanings.specs.Lottery.{LotteryMeans, PassesWidth, SpendsBudg
 use Rattle.command_meanings.specs.Make.{MakeMeans, sizes_of}
 use Rattle.command_pools.specs.Found.{TellsStop}
 
--- an answer for a stop of the run, which is of status 4 or 5
+-- the answer says that the run stops because a number is too great (status 4) or a budget is spent (status 5)
 data TellsRefusal (limits : Limits) (pool : Pool) (answer : Saying) : Type 0 where
   IsWidth : (line : List ℕ) → PassesWidth limits pool line → answer ≡ Stops Wide line → TellsRefusal limits pool answer
   IsBudget : (line : List ℕ) → SpendsBudget limits pool line → answer ≡ Stops Spent line → TellsRefusal limits pool answer

@@ -42,7 +42,7 @@ impl Meaning for Lottery {
     ghost means = { λ command pool. IsTheAnswer (LotteryMeans command.limits pool) };
 }
 
-/// Makes one call of `lottery`. A closure answers it, since the run starts threads, which a method of a trait can't.
+/// Makes one call of `lottery`. A closure answers it, since the run starts threads, which a method of a trait can't do.
 pub fn call_lottery<R: Threads + Sync, W: Watch + Sync, S: Source, O: Sink, E: Sink>(
     resources: &Resources<'_, R, W>,
     command: &Lottery,

@@ -87,7 +87,7 @@ impl Meaning for Make {
     ghost means = { λ command nothing. IsTheAnswer (MakeMeans command.seed command.volunteers command.limits) };
 }
 
-/// Makes one call of `make`. A closure answers it, since the run starts threads, which a method of a trait can't.
+/// Makes one call of `make`. A closure answers it, since the run starts threads, which a method of a trait can't do.
 pub fn call_make<R: Threads + Sync, W: Watch + Sync, O: Sink, E: Sink>(
     resources: &Resources<'_, R, W>,
     command: &Make,

@@ -1,4 +1,5 @@
--- A proof of a run, or the answer that says why there is none, is right by `ProveMeans`, about the pool or the bundle that the run was given.
+-- A proof of a run, or the answer that says why there is none, is right by `ProveMeans`, about the pool or the bundle that the run was
+-- given.
 use Rattle.std.proofs.Common.{◌≡◌, List, [], Some, refl, ap, sym, subst}
 use Rattle.define_additions.specs.ProofVerdict.{OfLottery, OfNoPanel, Proof, verdict}
 use Rattle.define_additions.specs.TreeLines.{TreeLine}
@@ -38,7 +39,7 @@ no_proof left about (Prints printed.NoPanel text) right = absurd right
 no_proof left about (Prints printed.Refused text) right = absurd right
 
 module _ (left : Left) (answer : Saying) where
-  -- if a proof of a lottery is valid, and the input has its pool, and its answer if it has one, the proof's text is a right answer
+  -- the text of a valid proof of a lottery is a right answer if the proof has the input's pool and, where the input is a bundle, its answer
   lottery_proved : (about : PoolOrBundle) (own : Pool) (its : Answer) (trees : List (List TreeLine)) → own ≡ pool_in about → IsGiven (given_in about) its →
       verdict (OfLottery own its trees) ≡ Valid → LeximinGreatest own its.lottery × Certifies own its.lottery its.stages → answer ≡ proof_said (OfLottery own its trees) → IsRight (ProveMeans left about) answer
   lottery_proved about own its trees same is valid shown tells =

@@ -16,7 +16,7 @@ pub(crate) fn valid_none_line(alloc: Global) -> Result<Vec<u8>, AllocError>
     Ok(line)
 }
 
-/// Returns the line of the rule that refuses a proof without a lottery: one that there is no quota panel.
+/// Returns the line of the rule that refuses a proof that there is no quota panel, since it has no lottery.
 pub(crate) fn no_lottery_line(alloc: Global) -> Result<Vec<u8>, AllocError>
     ensures { IfOk result (λ line. line.items ≡ words_of_no_lottery) }
 {

@@ -13,8 +13,8 @@ use proof_limits::{Budget, Limit, Op, Pass, ProveStop};
 use std::alloc::{AllocError, Global};
 use text_lines::{end_line, push_field, push_number, push_signed};
 
-/// How many turns of peeling all rounds of `proof_peeling` have together: the most by which the run tries to make the lottery of a point
-/// out of panels.
+/// The most turns of peeling that a run makes when it tries to turn a point into a lottery over panels: the turns of all rounds of
+/// `proof_peeling` together.
 const LOTTERY_TRIES: u64 = 168;
 
 /// Returns the answer for a run that stops and leaves `left` of its budget. Want of memory is `Err`.
@@ -33,7 +33,7 @@ pub(crate) fn stopped(alloc: Global, left: &Budget, stop: &ProveStop) -> Result<
     }
 }
 
-/// Returns the answer that a step of the run was lost, or that what it made is refused. Fails for want of memory.
+/// Returns the answer for a run in which a step was lost, or whose proof is refused. Fails for want of memory.
 pub fn lost(alloc: Global) -> Result<Answer, AllocError>
     ensures { IfOk result (λ answer. saying answer ≡ Stops cause.Spent (proof_spent_line (codes "lost") 0)) }
 {

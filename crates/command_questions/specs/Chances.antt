@@ -1,5 +1,5 @@
 -- What `chances` prints: the chance of each volunteer, the chances added up for each value, and the least and greatest chance. `counts` is
--- each volunteer's count, which is the chance times the total. Over the numbers of `chance_numbers`.
+-- each volunteer's count, which is the chance times the total. Builds on the numbers of `chance_numbers`.
 use Rattle.std.specs.Prelude.{ℕ, ◌==◌, List, [], ◌∷◌, ◌++◌, codes, count_by, map, slice_index}
 use Rattle.std.specs.Fmt.{decimal}
 use Rattle.std.specs.List.{enumerate_from, flat_map}
@@ -12,7 +12,7 @@ use Rattle.define_pools.specs.Pool.{BoundedValue, Category, Pool, Volunteer, vol
 use Rattle.chance_numbers.specs.Decimals.{fixed_point, ten_thousandths}
 use Rattle.chance_numbers.specs.Sums.{count_with}
 
--- ---- the volunteers
+-- ---- the chance of each volunteer
 
 -- the line of a chance, in lowest terms and rounded to four places
 abbrev pub chance_line : List ℕ → ℕ → ℕ → List ℕ
@@ -23,9 +23,9 @@ abbrev pub chance_lines : List Volunteer → List ℕ → ℕ → List (List ℕ
 chance_lines volunteers counts total =
     map (λ (i, volunteer). chance_line volunteer.id (slice_index counts i) total) (enumerate_from 0 volunteers)
 
--- ---- the values
+-- ---- the chances added up for each value
 
--- the line of a value: its category, its bounds, and the sum of the chances, which is the number of members with it that is expected
+-- the line of a value: its category, its bounds, and the sum of the chances, which is the expected number of members with the value
 abbrev pub sum_line : List ℕ → BoundedValue → ℕ → ℕ → List ℕ
 sum_line category value count total =
     line_of (codes "sum" ∷ category ∷ value.name ∷ decimal value.lower ∷ decimal value.upper ∷ fraction_text (lowest_of count total) ∷ [])
@@ -61,7 +61,7 @@ end_lines counts total =
     ∷ number_line_of (codes "greatest") counts total (greatest counts)
     ∷ []
 
--- ---- all lines
+-- ---- all lines of `chances`
 
 abbrev pub lines_of_counts : Pool → List ℕ → ℕ → List (List ℕ)
 lines_of_counts pool counts total =

@@ -1,4 +1,4 @@
--- What `dice` prints: what those who throw the dice must know of a bundle. Over the decimals of `chance_numbers`, and the dice of
+-- What `dice` prints: what those who throw the dice must know of a bundle. Builds on the decimals of `chance_numbers`, and the dice of
 -- `define_draws`.
 use Rattle.std.specs.Prelude.{ℕ, ◌*◌, ◌-◌, ◌^◌, List, [], ◌∷◌, codes}
 use Rattle.frac128.specs.Fractions.{fraction_text, lowest_of}

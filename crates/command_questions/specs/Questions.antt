@@ -1,5 +1,5 @@
--- What each question about a bundle answers: a text that is made of the bundle alone. A further question is a line of `question_text`.
--- Over Dice, Tickets, Chances and Short.
+-- What each question about a bundle answers: a text that is made of the bundle alone. Each further question adds a line to `question_text`.
+-- Builds on Dice, Tickets, Chances and Short.
 use Rattle.std.specs.Prelude.{◌≡◌, ℕ, List}
 use Rattle.define_bundles.specs.BundleText.{Bundle}
 use Rattle.define_lines.specs.Lines.{text_of}

@@ -1,4 +1,4 @@
--- What `tickets` prints: which tickets draw which panel of a bundle. Over the tickets of `define_draws`.
+-- What `tickets` prints: which tickets draw which panel of a bundle. Builds on the tickets of `define_draws`.
 use Rattle.std.specs.Prelude.{ℕ, ◌+◌, ◌-◌, ◌==◌, if◌then◌else◌, List, ◌∷◌, ◌++◌, map}
 use Rattle.std.specs.Fmt.{decimal}
 use Rattle.std.specs.List.{enumerate_from}
@@ -8,7 +8,7 @@ use Rattle.define_lines.specs.Lines.{line_of}
 use Rattle.define_pools.specs.Lottery.{Lottery, LotteryRow}
 use Rattle.define_pools.specs.Pool.{Volunteer, volunteer}
 
--- the first ticket of a range and the last, or the one that it has
+-- the first and the last ticket of a range, or its only ticket
 abbrev pub range_text : ℕ → ℕ → List ℕ
 range_text first weight = if weight == 1 then decimal first else decimal first ++ 45 ∷ decimal (first + weight - 1)
 

@@ -1,4 +1,4 @@
--- A bundle of four volunteers, of whom two have a greater chance than the others, on which the definitions compute.
+-- A bundle of four volunteers, for worked examples. Two of them have the chance 1/3, and two the chance 2/3.
 use Rattle.std.specs.Prelude.{[], ◌∷◌}
 use Rattle.define_bundles.specs.BundleText.{Bundle}
 use Rattle.define_pools.specs.WorkedExamples.{four, four_stages, row}

@@ -32,7 +32,7 @@ pub(crate) fn chances_text(alloc: Global, bundle: &Bundle) -> Result<Vec<u8>, Al
     )
 }
 
-/// Returns the text for each volunteer's count.
+/// Returns the text, made from the counts of the volunteers: `counts` has each volunteer's count.
 fn text_of_counts(
     alloc: Global,
     pool: &Pool,

@@ -1,11 +1,11 @@
 //! Questions about a bundle: commands whose answer is a text that is made of the bundle alone. `Question` has a variant for each: `dice`
 //! says how many dice are thrown and how often again, `tickets` which tickets draw which panel, and `chances` each volunteer's chance.
 //! `InTickets` are answers about a bundle in a round number of tickets: `short`, and `dice` and `tickets` with `--tickets`. Stands on the
-//! bundles of `bundle_text`, `chance_numbers`, `sealed_draw`, `short_draws`, the lines of `text_lines`, and the shell. Above:
-//! `command_office`.
+//! bundles of `bundle_text`, `chance_numbers`, `sealed_draw`, `short_draws`, the lines of `text_lines`, and the shell. Used by
+//! `command_office` and `command_browser`.
 //!
-//! Promises: `Question`, whose answers are those of `specs/Questions.antt`, and the law that each has one. A further question is a variant,
-//! a line of `question_text` with its definition, and an arm of `text_about` with its function.
+//! Promises: `Question`, whose answers are those of `specs/Questions.antt`, and the law that each question has at most one. To add a
+//! question, add a variant, a line of `question_text` with its definition, and an arm of `text_about` with its function.
 #![tactic(auto)]
 
 mod chances;

@@ -68,7 +68,7 @@ fn push_row(
     end_line(text)
 }
 
-/// Appends the first ticket of a range and its last, or the one that it has.
+/// Appends the first and the last ticket of a range, or its only ticket.
 fn push_range(text: &mut Vec<u8>, first: u128, weight: u128) -> Result<(), AllocError>
     requires some { 1 ≤ weight }
     requires tickets { first + weight ≤ 10 ^ 38 }

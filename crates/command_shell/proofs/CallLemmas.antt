@@ -13,7 +13,7 @@ answered Right told (Prints printed text) right it =
     (λ (cut : IsCutOff text told). WriteFault printed text right cut) it
 answered Right told (Stops cause line) right it = Answered (Stops cause line) right it
 
--- If the source gave no input, and the call tells why, the call ends so.
+-- If the source gave no input, and the call tells why, the call ends as `TextOutcome` says.
 pub no_input : (Means : List ℕ → Saying → Type 0) (told : Told) (stop : ReadStop) → HasNoInput stop told.source → TellsNoInput stop told → TextOutcome Means told
 no_input Means told unread.TooLong (held, no_fault) stopped = TooLong (record { held = held; no_fault = no_fault; stopped = stopped })
 no_input Means told unread.Fault faulted stopped = ReadFault (record { faulted = faulted; stopped = stopped })

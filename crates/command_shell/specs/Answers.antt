@@ -57,7 +57,7 @@ pub record RightAnswers : Type 1 where
   pub done : List ℕ → Type 0
   -- status 1: no quota panel exists
   pub no_panel : List ℕ → Type 0
-  -- status 3: the input was read, but the command doesn't accept its value. Only commands that draw from a bundle have this, for one whose
+  -- status 3: the input was read, but the command doesn't accept its value. Only commands about a bundle's lottery have this, if its
   -- weights don't sum to its total. The other cases of status 3 are in no meaning: a text outside its format is `AboutFault` (Subjects),
   -- and one that is too long `IsTooLong` (Outcomes)
   pub input : List ℕ → Type 0

@@ -1,5 +1,5 @@
--- What the inputs of commands are read as: a pool, a bundle, a proof, or either of the first two.
--- Over the definitions of the texts. The contract of `office` cites it for every command that reads its source.
+-- What the inputs of commands are read as: a pool, a bundle, a proof, or either a pool or a bundle. Builds on the definitions of
+-- the texts. The contract of `office` cites it for every command that reads its source.
 use Rattle.std.specs.Prelude.{◌≡◌, ℕ, Bool, true, false, List, take, codes, bytes_eq, if◌then◌else◌, Result, Ok, Err}
 use Rattle.define_bundles.specs.BundleReading.{read_bundle}
 use Rattle.define_bundles.specs.BundleText.{Bundle, IsBundle, bundle_spelling}
@@ -38,7 +38,7 @@ pub record IsProofText (proof : Proof) (bytes : List ℕ) : Type 0 where
 abbrev pub proof_format : Format Proof
 proof_format = record { read = read_proof; spells = IsProofText }
 
--- a text that begins with `bundle` is read as a bundle's, and any other as a pool's
+-- a text that begins with `bundle` is read as a bundle, and any other as a pool
 abbrev pub begins_as_bundle : List ℕ → Bool
 begins_as_bundle bytes = bytes_eq (codes "bundle") (take 6 bytes)
 

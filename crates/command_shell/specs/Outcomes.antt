@@ -1,6 +1,6 @@
 -- How a call of a command ends. `Right` says which answers are right. The status is computed from the answer that was told. Only this file
--- says at which status out or errs stays untouched: out at 2 to 7, 9, 10 and 12 (`IsStopped`), errs at 0, 1 and 11 (`IsPrinted`). Over Told,
--- Answers and Lines. The contract of every call cites it, up to `office`.
+-- says at which status out or errs stays untouched: out at 2 to 7, 9, 10 and 12 (`IsStopped`), errs at 0, 1 and 11 (`IsPrinted`). Builds on
+-- Told, Answers and Lines. The contract of every call cites it, up to `office`.
 use Rattle.std.specs.Prelude.{◌≡◌, ◌⊎◌, ◌≤◌, ℕ, List, length}
 use Rattle.command_shell.specs.declared.status.Printed.{Printed}
 use Rattle.command_shell.specs.Told.{Bytes, Told, Gains, GainsLine, GainsPart, HasFaulted, HasNoFault, HeldAll, HeldMore, IsUntouched}
@@ -71,7 +71,7 @@ pub record IsReadFault (told : Told) : Type 0 where
   pub faulted : HasFaulted told.source
   pub stopped : IsStopped 7 read_fault_line told
 
--- all that the source held was read without a fault, and it has no more bytes than an input may have
+-- `bytes` are all that the source held; they were read without a fault, and are no more than an input may have
 pub record IsInput (source : Bytes) (bytes : List ℕ) : Type 0 where
   pub held : HeldAll source bytes
   pub within : length bytes ≤ input_limit

@@ -1,5 +1,5 @@
--- What an input is read as, and which answers about a text are right. Over Answers and Lines. The contract of every call that reads its
--- source cites it.
+-- What an input is read as, and which answers about a text are right. Builds on Answers and Lines. The contract of every call that reads
+-- its source cites it.
 use Rattle.std.specs.Prelude.{◌≡◌, ℕ, List, Result, Ok, Err, ⊤}
 use Rattle.define_lines.specs.Lines.{Fault}
 use Rattle.command_shell.specs.declared.status.Cause.TheVariants.{Input}

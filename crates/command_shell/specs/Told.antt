@@ -1,4 +1,4 @@
--- What one call of the program did, as seen from outside: its status, and the source, out and errs before and after it. Over the
+-- What one call of the program did, as seen from outside: its status, and the source, out and errs before and after it. Builds on the
 -- definitions of `outside`. Outcomes and every contract of a call cite it.
 use Rattle.std.specs.Prelude.{◌≡◌, ℕ, List, Option}
 use Rattle.std.specs.Io.KnownBytes.{Appends}
@@ -16,11 +16,11 @@ pub record Object (Content : Type 0) : Type 0 where
 abbrev pub object : {Content : Type 0} → Option Content → Option Content → ℕ → ℕ → Object Content
 object before after faults_before faults_after = record { before = before; after = after; faults_before = faults_before; faults_after = faults_after }
 
--- an object that tells bytes
+-- an object whose content is bytes
 abbrev pub Bytes : Type 0
 Bytes = Object (List ℕ)
 
--- what a call told: its status, and the objects
+-- what a call told: its status, and the source, out and errs before and after it
 pub record Told : Type 0 where
   pub status : ℕ
   pub source : Bytes

@@ -44,7 +44,7 @@ pub fn call<C: Command, S: Source, O: Sink, E: Sink>(
 }
 
 /// Makes one call of a command that reads the source, as `call` does, but with a closure that answers. A closure can start threads, and a
-/// method of a trait can't; so the body of `call` is here once more.
+/// method of a trait can't; so this call repeats the body of `call`.
 pub fn call_answered_by<
     C: Meaning,
     F: FnOnce(&C::About) -> Result<Answer, AllocError>,

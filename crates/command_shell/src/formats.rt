@@ -1,5 +1,5 @@
-//! The formats of texts that commands read: pools, bundles, proofs, and either of the first two. `pool_text`, `bundle_text` and
-//! `proof_text` read them.
+//! The formats of texts that commands read: pools, bundles, proofs, and texts that may be of a pool or of a bundle. `pool_text`,
+//! `bundle_text` and `proof_text` read them.
 
 use crate::subject::Subject;
 use bundle_text::{Bundle, ReadBundle, read_bundle};
@@ -10,7 +10,7 @@ use proof_text::read_proof;
 use std::alloc::Global;
 use text_lines::{TextFault, TextStop};
 
-/// A text that begins with this word is read as a bundle's.
+/// A text that begins with this word is read as a bundle.
 const BUNDLE: &[u8] = b"bundle";
 
 impl Subject for Pool {
@@ -57,7 +57,7 @@ impl Subject for Proof {
     }
 }
 
-/// A pool, or a bundle over one. A text that begins with `bundle` is read as a bundle's, and any other as a pool's.
+/// A pool, or a bundle over one. A text that begins with `bundle` is read as a bundle, and any other as a pool.
 #[derive(Drop)]
 pub enum PoolOrBundle {
     /// A pool.

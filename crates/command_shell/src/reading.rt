@@ -1,5 +1,5 @@
-//! How a call reads its source, and what it tells if the source gives no input. Commands over a store, whose shell is in a crate above, read
-//! so too.
+//! How a call reads its source, and what it tells if the source gives no input. Commands over a store, whose shell is in a crate above,
+//! call these too.
 
 ghost use Rattle.std.specs.Prelude.{IfErr, IfOk};
 ghost use Rattle.command_shell.specs.Answers.{status_number};
@@ -14,7 +14,7 @@ use std::alloc::Global;
 /// The most bytes that an input may have.
 const INPUT_LIMIT: usize = 16_777_216;
 
-/// Reads the source to its end, or past the most bytes that an input may have.
+/// Reads the source to its end, or until it has given more bytes than an input may have.
 pub fn read_input<S: Source>(alloc: Global, source: &mut S) -> Result<Vec<u8>, ReadStop>
     ensures input { IfOk result (λ bytes. IsInput (object (S.left source.old) (S.left source.new) (S.faults source.old) (S.faults source.new)) bytes.items) }
     ensures none { IfErr result (λ stop. HasNoInput stop (object (S.left source.old) (S.left source.new) (S.faults source.old) (S.faults source.new))) }

@@ -23,7 +23,7 @@ pub enum Cause {
     Wide,
     /// A budget is spent.
     Spent,
-    /// A rule of `draw`, of `bundle` or of the office refuses.
+    /// A rule refuses: a rule of draws or of the office, or that a proof must have a lottery.
     Rule,
 }
 
@@ -32,7 +32,7 @@ pub enum Cause {
 pub enum Status {
     /// A text went to `out`.
     Printed(Printed),
-    /// The words are not of the forms, or ask for help.
+    /// The words have none of the program's forms, or ask for help.
     Usage,
     /// The command stopped.
     Stopped(Cause),

@@ -103,7 +103,7 @@ const SEALED: &[Row] = &[
 
 const SERVE: &str = "serve --store s --port 80";
 
-/// Serves the links, and returns what the call tells, and what was written to the links that came back, with a bar before each.
+/// Serves the links. Returns what the call tells, and then, for each link that came back, a bar and what was written to the link.
 fn served<R: Threads + Sync>(
     rt: &R,
     alloc: Global,
@@ -137,7 +137,7 @@ fn served<R: Threads + Sync>(
     Ok(told)
 }
 
-/// Returns a link over which these bytes come, and of which these calls fail.
+/// Returns a link over which `bytes` come. Its calls whose numbers are in `failing` fail.
 fn link(alloc: Global, bytes: &str, failing: &[u64]) -> Result<MemLink, AllocError> {
     MemLink::new(alloc, bytes.as_bytes(), 1000, failing)
 }
@@ -208,8 +208,8 @@ fn a_desk_over_a_store(rt: HostRuntime) -> Result<(), AllocError> {
     Ok(())
 }
 
-/// A link that fails as it is read is counted as broken, and the desk goes on; a keeper that fails as it is loaded is the reply 503. The
-/// desk closes after the last link, or after as many as it may attend; a door that fails ends the call.
+/// A link that fails as it is read is counted as broken, and the desk goes on. If the keeper fails as it is loaded, the reply is 503. The
+/// desk closes after the last link, or after as many links as it may attend. If the door fails, the call ends.
 #[test]
 fn what_fails_at_a_desk(rt: HostRuntime) -> Result<(), AllocError> {
     let alloc = rt.alloc();
@@ -239,8 +239,8 @@ fn what_fails_at_a_desk(rt: HostRuntime) -> Result<(), AllocError> {
     Ok(())
 }
 
-/// Serves a link with the request, of which these calls fail, and returns the three digits of the reply's status, or a text without a
-/// reply.
+/// Serves a link with the request. The link's calls whose numbers are in `failing` fail. Returns the three digits of the reply's status, or
+/// what the call told if there is no reply.
 fn status_of<R: Threads + Sync>(
     rt: &R,
     alloc: Global,
@@ -330,8 +330,8 @@ fn sizes_of_requests(rt: HostRuntime) -> Result<(), AllocError> {
     Ok(())
 }
 
-/// A question or a withdrawal that is cut at each byte is 400, and nothing is withdrawn. If the link fails as it is read, nothing is withdrawn
-/// either; if it fails as the reply is written, the withdrawal is kept.
+/// If a question or a withdrawal is cut off, at whatever byte, the reply is 400, and nothing is withdrawn. If the link fails as it is read,
+/// nothing is withdrawn either; if it fails as the reply is written, the withdrawal is kept.
 #[test]
 fn withdrawals_that_are_cut(rt: HostRuntime) -> Result<(), AllocError> {
     let alloc = rt.alloc();

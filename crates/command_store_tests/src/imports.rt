@@ -13,7 +13,8 @@ const RULES: &str = "import-rules --store s";
 
 const REGISTER: &str = "import-register --store s";
 
-/// Charters, by the kind of their fault. Where a kind has a second row, that file has a higher kind too.
+/// Files of charters, by the kind of their fault. The second file of kind 1 isn't UTF-8; the second files of later kinds also have a fault
+/// of a higher kind.
 const CHARTERS: &[Row] = &[
     (CHARTER, b"title = \n", "3 input\t0\t1\n"),
     (CHARTER, b"title = \"\xff\"\nsize = 2\n", "3 input\t0\t1\n"),
@@ -30,8 +31,8 @@ const CHARTERS: &[Row] = &[
     ),
 ];
 
-/// Rules, by the kind of their fault. Where a kind has a second row, that file has a higher kind in the same record and a lower one in a
-/// later record.
+/// Files of rules, by the kind of their fault; the last file has none. Most kinds have a second file, which also has a fault of a higher
+/// kind in the same record, one of a lower kind in a later record, or both.
 const FAULTY_RULES: &[Row] = &[
     (
         RULES,
@@ -98,8 +99,8 @@ const FAULTY_RULES: &[Row] = &[
     ),
 ];
 
-/// Registers for these rules, whose one category `gender` has the value `f`. Where a kind has a second row, that file has a higher kind in
-/// the same record and a lower one in a later record.
+/// Files of registers, by the kind of their fault, for rules whose one category `gender` has the value `f`. Most kinds have a second file,
+/// which also has a fault of a higher kind in the same record, one of a lower kind in a later record, or both.
 const REGISTERS: &[Row] = &[
     (REGISTER, b"id,key,gender\n\xff,k,f\n", "3 input\t2\t1\n"),
     (REGISTER, b"id,key,gender\n,\xff,x\n", "3 input\t2\t1\n"),

@@ -11,3 +11,5 @@ mod imports;
 mod proved;
 #[cfg(test)]
 mod stores;
+#[cfg(test)]
+mod town;

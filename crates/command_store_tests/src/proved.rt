@@ -7,7 +7,7 @@ use std::alloc::AllocError;
 /// A call: its words, the file on standard input, and what it tells, as in `stores`.
 type Row = (&'static str, &'static str, &'static str);
 
-/// A proof of the lottery over two women and two men. Its bundle has the seal of `stores`.
+/// A proof of the lottery over two women and two men. Its bundle has the seal `SEAL` of `stores`.
 pub(crate) const PROOF: &str =
     "proof\t1\nbundle\t1\npool\t1\nsize\t2\ncategory\tgender\nvalue\tfemale\t1\t1\nvalue\tmale\t1\t1\nvolunteer\ta\tfemale\nvolunteer\tb\tfemale\nvolunteer\tc\tmale\nvolunteer\td\tmale\nend\ntotal\t2\npanel\t1\t0\t2\npanel\t1\t1\t3\nstage\t1\t1\t1\t0\t0\nstage\t0\t-1\t-1\t1\t1\ndone\ntree\t1\nbound\t1\t1\t1\ntree\t2\nbound\t1\t2\t1\t3\t-1\nclose\n";
 
@@ -71,8 +71,8 @@ const FILLED: &[Row] = &[
     ),
 ];
 
-/// A round that keeps a given proof. One that isn't valid, one of another pool and a text that is none leave it open. Once it keeps a
-/// proof, no other changes it.
+/// A round that keeps a given proof. A proof that isn't valid, a proof of another pool and a text that is no proof leave the round open.
+/// Once the round keeps a proof, no other proof changes it.
 const KEPT: &[Row] = &[
     ("keep --store s", BUNDLE, "3 input\t1\t21\n"),
     ("keep --store s", DOUBLED, "11 refused\t1\t12\t20\n"),
@@ -101,7 +101,7 @@ const DRAWN: &[Row] = &[
     ("next-round --store s", "", "0 round\t2\n"),
 ];
 
-/// A second round that keeps a given proof.
+/// Calls about a second round, to which `keep` gives a proof.
 const SECOND_KEPT: &[Row] = &[
     ("keep --store s --round 2", PROOF, "6 rule\tOtherPool\t2\n"),
     ("keep --store s --round 2", SECOND_PROOF, SECOND_SOLVED),
@@ -143,8 +143,8 @@ const NO_PANEL: &[Row] = &[
     ("show --store s", "", STILL_OPEN),
 ];
 
-/// Assemblies, each over a store of its own: one whose rounds keep given proofs, a first round and a second one that `prove` answers, and a
-/// round without a quota panel.
+/// Assemblies, each over a store of its own. In the first one both rounds keep given proofs; in the second one `prove` answers the first
+/// round, and in the third one the second round; in the last one the round has no quota panel.
 const ASSEMBLIES: &[&[&[Row]]] = &[
     &[FILLED, KEPT, DRAWN, SECOND_KEPT],
     &[FILLED, PROVED],

@@ -7,7 +7,8 @@ use outside::{MemDoor, MemSink, MemSource, NoWatch};
 use std::alloc::{AllocError, Global};
 use std::thread::Threads;
 
-/// A call, and what it tells. After `<` is the file on standard input, and after `>` the word `full` if no byte can be written to `out`.
+/// A call, and what it tells. After `<` is the name of the file on standard input, and after `>` the word `full` if no byte can be written
+/// to `out`.
 /// What is told is the status, a blank, and what `out` and `errs` gain. At status 2 what `errs` gains is left out.
 type Row = (&'static str, &'static str);
 
@@ -95,7 +96,7 @@ quota\tgender\tmale\t1\t1\t2
 end
 ";
 
-/// The word that is put in place of SEAL.
+/// The seal that `words_of` puts in place of the word `SEAL`.
 const SEAL: &str = "41f145deb96e63082dd54ce2bcf3dea5bf3bb3cf4f2936371c318b2d1a4355e7";
 
 const SEAL_TOLD: &str =
@@ -107,7 +108,7 @@ const DRAW_TOLD: &str = "0 ticket\t0\t1\npanel\ta\tc\n";
 
 const NO_CHARTER: &str = "6 rule\tIncomplete\tcharter\n";
 
-/// Calls over the store that has nothing but the first round.
+/// Calls over a store that has nothing but an open first round.
 const EMPTY: &[Row] = &[
     ("report --store s", NO_CHARTER),
     ("pool --store s", NO_CHARTER),
@@ -210,7 +211,7 @@ const PANEL: &[Row] = &[
     ("report --store s", REPORT),
 ];
 
-/// A dropout. After the draw nothing can be imported that the store doesn't have.
+/// A dropout. After the draw an import is refused, unless the store already has all that it gives.
 const DROPOUT: &[Row] = &[
     (
         "import-charter --store s < lake",
@@ -235,7 +236,7 @@ const SECOND_ROUND: &[Row] = &[
     ("show --store s", BUNDLE),
 ];
 
-/// Returns the content of a file.
+/// Returns the content of the file that a call names after `<`.
 fn content(alloc: Global, file: &str) -> Result<String, AllocError> {
     match file {
         "many" => many_rows(alloc, "k400"),
@@ -244,7 +245,7 @@ fn content(alloc: Global, file: &str) -> Result<String, AllocError> {
     }
 }
 
-/// Returns 397 rows, the last with this key. With the four of the register they are one too many.
+/// Returns 397 rows, the last with this key. With the four rows of the register they are one more than a register may have.
 fn many_rows(alloc: Global, last_key: &str) -> Result<String, AllocError> {
     let mut rows = String::from_str(alloc, "id,key,gender\n")?;
     for number in 0..396u32 {
@@ -256,7 +257,7 @@ fn many_rows(alloc: Global, last_key: &str) -> Result<String, AllocError> {
     Ok(rows)
 }
 
-/// Returns the content of a file that is written here.
+/// Returns the content of a file that isn't computed, or an empty text if there is no such file.
 fn written(file: &str) -> &'static str {
     match file {
         "charter" => "title = \"River\"\nsize = 2\n",
@@ -393,10 +394,10 @@ fn an_assembly_over_a_store(rt: HostRuntime) -> Result<(), AllocError> {
     Ok(())
 }
 
-/// Commands over a store, and how many calls of the keeper each makes: it is attached, it loads, and it stores.
+/// A command over a store, what it tells, and how many calls of the keeper it makes: at most three, to attach it, to load and to store.
 type FailingRow = (&'static str, &'static str, usize);
 
-/// An assembly. A command that changes nothing makes no third call, and the desk makes its second one for a connection.
+/// An assembly. A command that changes nothing doesn't store, and the desk loads only for a connection.
 const CHANGING: &[FailingRow] = &[
     ("import-charter --store s < charter", "0 charter\tset\n", 3),
     ("import-rules --store s < rules", "0 rules\tset\n", 3),
@@ -421,7 +422,8 @@ const KEEPING: &[FailingRow] = &[
     ("keep --store s < proof", "0 solved\t1\t2\t2\n", 3),
 ];
 
-/// Assemblies, and the calls of the keeper that fail in each. A command is given once for each of its calls, which fails, and once more.
+/// Assemblies, and the numbers of the calls of the keeper that fail in each. A command is given once for each of its calls of the keeper,
+/// with this call failing, and once more without a failure.
 const FAILING: &[(&[FailingRow], &[u64])] = &[
     (
         CHANGING,
@@ -433,7 +435,7 @@ const FAILING: &[(&[FailingRow], &[u64])] = &[
     (KEEPING, &[1, 3, 6, 10, 12, 15, 19, 21, 24, 28, 30, 33]),
 ];
 
-/// A keeper that fails at each of its calls: the status is 9, and the command given again is done as if nothing had been.
+/// A keeper that fails at each of its calls: the status is 9, and when the command is given again, it is done as if nothing had failed.
 #[test]
 fn a_keeper_that_fails(rt: HostRuntime) -> Result<(), AllocError> {
     let alloc = rt.alloc();

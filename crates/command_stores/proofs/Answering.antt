@@ -1,4 +1,4 @@
--- From what a call does to the keeper, and what it tells, to how it ends.
+-- How a call ends follows from what it does to the keeper, and from what it tells.
 use Rattle.std.proofs.Common.{◌≡◌, ◌∙◌, inl, inr, ℕ, List, Option, Some, None, Result, Ok, Err, Vec, Global, refl, sym, ap, subst}
 use Rattle.std.specs.Prelude.{IfOk, IfSome, OnOk, option_map}
 use Rattle.std.specs.declared.alloc.AllocError.{AllocError}
@@ -54,7 +54,7 @@ unchanged (Some tables) = refl
 
 -- ---- the tables were loaded before
 
--- What is done to a keeper that was attached and whose tables were loaded, the call does to the keeper.
+-- If the call attached the keeper and loaded its tables, what was done to the keeper since then is what the whole call does to it.
 module _ (path : List ℕ) (Means : StoreMeaning) (before loaded after : Option Tables) (faults faults_loaded faults_after : ℕ) (place place_loaded place_after : Place)
     (same : loaded ≡ before) (none : faults_loaded ≡ faults) (there : place_loaded ≡ at place path) (stays : place_after ≡ place_loaded) where
   abbrev kept : Keeper
@@ -96,14 +96,14 @@ not_loaded path Means before after faults faults_after place place_after OutOfMe
 
 -- ---- the outcome of a command over these tables
 
--- The tables after an outcome are those with its change.
+-- The tables after an outcome are the tables before it, with the outcome's change applied.
 leaves_so : (outcome : Outcome) (before after : Option Tables) → after ≡ option_map (λ kept. tables_after kept outcome) before → after ≡ option_map (λ kept. applied kept (change_of outcome)) before
 leaves_so (Replies change reply) before after leaves = leaves
 leaves_so (Refuses refusal) before after leaves = leaves
 leaves_so (Stops ending) before after leaves = leaves
 leaves_so (Unproved refusal) before after leaves = leaves
 
--- If an outcome leaves the tables, they are as before.
+-- If an outcome leaves all tables unchanged, the keeper's tables are as before.
 as_before : (before after : Option Tables) (left : Tables → Tables) → ((tables : Tables) → left tables ≡ tables) → after ≡ option_map left before → after ≡ before
 as_before None after left stays is = is
 as_before (Some tables) after left stays is = is ∙ ap Some (stays tables)
@@ -127,20 +127,20 @@ module _ (command : Command) (tables : Tables) (before after : Option Tables) (f
   pub replied : (text : Vec ℕ Global) → ActsOver tables before command (Ok (reply.Lines text)) after → IsKept means loaded (Prints printed.Done text.items)
   replied text (change, has) = right (Replies change (Lines text.items)) (Prints printed.Done text.items) has refl
 
-  -- If the reply is that there is no panel, its line is right.
+  -- If the reply is that there is no panel, the line of this reply is right.
   pub no_panel : (answer : Answer) → saying answer ≡ Prints printed.NoPanel no_panel_line → ActsOver tables before command (Ok reply.NoPanel) after → IsKept means loaded (saying answer)
   no_panel answer is (change, has) = right (Replies change NoPanel) (saying answer) has is
 
   nothing_stored : (outcome : Outcome) → ((tables : Tables) → tables_after tables outcome ≡ tables) → HasOutcomeOver tables before command outcome after → (faults_after ≡ faults) × (after ≡ before)
   nothing_stored outcome unchanged has = (none, as_before before after (λ tables. tables_after tables outcome) unchanged has.leaves)
 
-  -- If a rule refuses, its line is right.
+  -- If a rule refuses, the line of the refusal is right.
   pub refused : (refusal : code.Refusal) (made : Result Answer AllocError) (settled : Result Answer KeeperStop) → ActsOver tables before command (Err (act.Refused refusal)) after →
       IfOk made (λ answer. saying answer ≡ refused_by (seen_refusal refusal)) → settled ≡ settled_by made → SettlesLoaded means loaded settled
   refused refusal (Ok answer) settled has tells equal = subst (SettlesLoaded means loaded) (sym equal) (right (Refuses (seen_refusal refusal)) (saying answer) has tells)
   refused refusal (Err error) settled has tells equal = subst (SettlesLoaded means loaded) (sym equal) (nothing_stored (Refuses (seen_refusal refusal)) (λ tables. refl) has)
 
-  -- If the run stops, its line is right.
+  -- If the run stops, the line of the run's end is right.
   pub stopped : (stopped : Stop) (made : Result Answer AllocError) (settled : Result Answer KeeperStop) → ActsOver tables before command (Err (act.Solve stopped)) after →
       ((ending : Ending) → IsEnding stopped ending → IfOk made (λ answer. TellsStop command ending (saying answer))) → settled ≡ settled_by made → SettlesLoaded means loaded settled
   stopped stop (Ok answer) settled (ending, is, has) tells equal = subst (SettlesLoaded means loaded) (sym equal) (right (Stops ending) (saying answer) has (tells ending is))
@@ -163,7 +163,7 @@ refused_so is (pool.Incomplete what) (Ok answer) tells says never = says ∙ ap 
 refused_so is pool.OutOfMemory (Ok answer) tells says never = absurd (never refl)
 refused_so is why (Err error) tells says never = tt
 
--- If the answer about the tables is right and nothing is stored, the text is answered.
+-- If nothing is stored, and the answer is the text or the refusal, or no memory was left to make it, the call settles by `TextMeans`.
 pub text_settles : (it : StoreText) (tables : Tables) (kept : Option Tables) (faults : ℕ) (made : Result Answer AllocError) (settled : Result Answer KeeperStop) →
     IfOk made (λ answer. saying answer ≡ text_or_refusal (stored_text it tables)) → settled ≡ settled_by made → SettlesLoaded (TextMeans it tables) (object kept kept faults faults) settled
 text_settles it tables kept faults (Ok answer) settled is equal =

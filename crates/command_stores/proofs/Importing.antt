@@ -1,4 +1,4 @@
--- From what an import does to the keeper, and what it tells, to how it ends.
+-- How an import ends follows from what it does to the keeper, and from what it tells.
 use Rattle.std.proofs.Common.{◌≡◌, ◌∙◌, inl, inr, ℕ, List, Option, None, Result, Ok, Err, refl, sym, subst}
 use Rattle.std.specs.Prelude.{IfOk, ⊤}
 use Rattle.std.specs.declared.alloc.AllocError.{AllocError}
@@ -32,7 +32,7 @@ module _ (it : Import) (bytes : List ℕ) (tables : Tables) (before loaded : Opt
   does_import command after faults_after (Err Failed) reads (faulted, left) = (subst (λ f. Rose f faults_after) none faulted, left ∙ same)
   does_import command after faults_after (Err OutOfMemory) reads (no_fault, left) = (no_fault ∙ none, left ∙ same)
 
-  -- If the file has a fault, its line is right, and nothing is stored.
+  -- If the file has a fault, the line of the fault is right, and nothing is stored.
   pub faulty_file : (fault : Fault) (made : Result Answer AllocError) (settled : Result Answer KeeperStop) → ReadsFile it tables bytes (Err fault) →
       IfOk made (λ answer. saying answer ≡ fault_answer fault) → settled ≡ settled_by made → SettlesAttached (ImportMeans it bytes) (object before loaded faults faults_loaded) settled
   faulty_file fault (Ok answer) settled reads tells equal =

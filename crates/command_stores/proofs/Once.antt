@@ -1,4 +1,4 @@
--- A command has at most one answer over each tables.
+-- A command has at most one answer over given tables.
 use Rattle.std.proofs.Common.{◌≡◌, ◌∙◌, ℕ, List, Option, Some, None, Result, Ok, Err, sym, ap, subst}
 use Rattle.command_shell.specs.Answers.{Saying}
 use Rattle.define_runs.specs.Run as run

@@ -1,4 +1,4 @@
--- From what is done for a round that is to be proved to what `ProvesRound` says.
+-- What the code does for a round that is to be proved is what `ProvesRound` says.
 use Rattle.std.proofs.Common.{◌≡◌, ℕ, true, false, Option, Some, None, is_none, Result, Ok, Err, refl}
 use Rattle.define_additions.specs.ProofVerdict.{OfLottery, OfNoPanel, Proof}
 use Rattle.define_pools.specs.Pool.{Pool}
@@ -23,7 +23,7 @@ use Rattle.command_stores.proofs.Answering.{unchanged}
 
 -- ---- which rounds are open
 
--- A round is open if it has no bundle.
+-- A round is open exactly if it has no bundle.
 pub without_bundle : (kept : Round) → is_none (bundle_of kept) ≡ is_open (Some kept)
 without_bundle Open = refl
 without_bundle (Solved bundle) = refl
@@ -54,13 +54,13 @@ module _ (tables : Tables) (round : ℕ) where
   opened h (Some pool) is = record { open_now = open_or_not (named_round tables.rounds round) h; is = is }
   opened h None (refusal, is) = (Refuses refusal, rw (open_or_not (named_round tables.rounds round) h, is) refl)
 
--- ---- answers
+-- ---- answers that are right for a round that is to be proved
 
 module _ (it : ProveRound) (tables : Tables) where
   abbrev Means : Saying → Option Change → Type 0
   Means = ProvesRound it tables
 
-  -- What settles by one meaning settles by another that follows from it.
+  -- If a call settles by the meaning `Own`, and `Means` follows from `Own`, the call settles by `Means`.
   weaker : (Own : Saying → Option Change → Type 0) (kept : Object Tables) (settled : Result Answer KeeperStop) → ((answer : Saying) (change : Option Change) → Own answer change → Means answer change) →
       SettlesLoaded Own kept settled → SettlesLoaded Means kept settled
   weaker Own kept (Ok answer) follows is = record { change = is.change; means = follows (saying answer) is.change is.means; stored = is.stored; no_fault = is.no_fault }
@@ -71,7 +71,7 @@ module _ (it : ProveRound) (tables : Tables) where
   its_pool pool (OfLottery own its trees) is = is
   its_pool pool (OfNoPanel own lines) is = is
 
-  -- Keeping a valid proof of the pool of an open round proves the round.
+  -- If a call settles by keeping a valid proof of the pool of an open round, it settles by `Means`.
   pub keeps_proof : (pool : Pool) (proof : Proof) (kept : Object Tables) (settled : Result Answer KeeperStop) → IsOpenWith tables it.round pool → IsValidOf pool proof →
       SettlesLoaded (StepMeans (Keep it.round proof) tables) kept settled → SettlesLoaded Means kept settled
   keeps_proof pool proof kept settled is valid =

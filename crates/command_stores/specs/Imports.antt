@@ -1,5 +1,6 @@
--- What the import commands answer. The file from the source is read as a command of the office, and the answer is the outcome of that
--- command; or the file has a fault. Over `define_imports` and Steps. The contract of `office` cites it with one line for all imports.
+-- What the import commands and `keep` answer. The file from the source is read as a command of the office, and the answer is the outcome
+-- of that command; or the file has a fault; or it is to be read as a register, and there are no rules. Builds on `define_imports` and
+-- Steps. The contract of `office` cites it with one line for all imports.
 use Rattle.std.specs.Prelude.{◌≡◌, ℕ, List, Option, Some, None, Result, Ok, Err}
 use Rattle.command_shell.specs.Answers.{Saying, Stops as StopsBy}
 use Rattle.command_shell.specs.Lines.{input_line}
@@ -24,12 +25,12 @@ abbrev pub as_command : {Content : Type 0} → (Content → Command) → Result 
 as_command command (Ok content) = Ok (command content)
 as_command command (Err fault) = Err fault
 
--- the file is read as a register of these rules. Without rules it is read as nothing
+-- the file is read as a register of these rules; if there are no rules, no file is read
 abbrev pub ReadsRegister : Option (List Category) → List ℕ → Result Command Fault → Type 0
 ReadsRegister None bytes read = ⊥
 ReadsRegister (Some rules) bytes read = (said : Result (List Given) Fault) × ReadsRows rules bytes said × (read ≡ as_command Register said)
 
--- a text is read as this proof, which is kept for the round, or has the same fault. The place of a fault is its line
+-- the command that keeps the proof for the round, or the fault of the proof's text; the place of the fault is its line
 abbrev pub keeping : ℕ → Result Proof lines.Fault → Result Command Fault
 keeping round (Ok proof) = Ok (Keep round proof)
 keeping round (Err fault) = Err (record { place = fault.line; kind = fault.kind })
@@ -41,7 +42,7 @@ ReadsFile import.Rules tables bytes read = (said : Result (List Category) Fault)
 ReadsFile import.Register tables bytes read = ReadsRegister tables.rules bytes read
 ReadsFile (import.Proof round) tables bytes read = read ≡ keeping round (read_proof bytes)
 
--- the answer to a faulty file: the line `input`, the record and the kind of fault
+-- the answer to a faulty file: the line `input` with the place and the kind of the fault
 abbrev pub fault_answer : Fault → Saying
 fault_answer fault = StopsBy Input (input_line (record { line = fault.place; kind = fault.kind }))
 
@@ -54,7 +55,7 @@ pub data ImportMeans (it : Import) (bytes : List ℕ) (tables : Tables) (answer 
   -- status 6: a register is imported and there are no rules, so the file isn't judged
   NoRules : it ≡ import.Register → tables.rules ≡ None → answer ≡ refused_by (Incomplete part.Rules) → change ≡ None → ImportMeans it bytes tables answer change
 
--- about each file, over each tables, an import has at most one answer, with at most one change
+-- about a given file, over given tables, an import has at most one answer, with at most one change
 abbrev pub ImportsAnswerOnce : Type 0
 ImportsAnswerOnce = (it : Import) (bytes : List ℕ) (tables : Tables) (answer other : Saying) (change other_change : Option Change) →
     ImportMeans it bytes tables answer change → ImportMeans it bytes tables other other_change → (answer ≡ other) × (change ≡ other_change)

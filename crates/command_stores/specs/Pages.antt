@@ -1,5 +1,5 @@
--- The page of a round that is past `Open`: the title of its assembly, its number and its bundle, and, once it is drawn, the draw. Over the
--- pages of `bundle_page`. Steps cites it.
+-- The page of a round that is past `Open`: the title of its assembly, its number and its bundle, and, once it is drawn, the draw. Builds on
+-- the pages of `bundle_page`. Steps cites it.
 use Rattle.std.specs.Prelude.{ℕ, List, [], length, Option, Some, None, Result, Ok, Err}
 use Rattle.bundle_page.specs.Page.{drawn_part, page_with, round_head}
 use Rattle.define_bundles.specs.BundleText.{Bundle}
@@ -14,8 +14,8 @@ abbrev pub title_of : Option Charter → List ℕ
 title_of None = []
 title_of (Some charter) = charter.title
 
--- the part about the draw of a round whose bundle has this seal. A round is drawn from all tickets of its lottery.
--- Who dropped out since is in the report, not here
+-- the part about the draw of a round whose bundle has this seal. A round is drawn from all tickets of its lottery. Later dropouts are in
+-- the report, not here
 abbrev pub draw_of_round : Round → List ℕ → List ℕ
 draw_of_round Open seal = []
 draw_of_round (Solved bundle) seal = []

@@ -1,7 +1,7 @@
--- What `prove` over a store answers: a proof is made of the pool of an open round, and the office keeps it. Over Steps. The contract of
--- `office` cites it.
+-- What `prove` over a store answers: a proof is made of the pool of an open round, and the office keeps it. Builds on Steps. The contract
+-- of `office` cites it.
 --
--- The run that makes the proof is no definition. So the meaning doesn't say whether a proof is found, nor which of the statuses 4 and 5
+-- The run that makes the proof has no definition. So the meaning doesn't say whether a proof is found, nor which of the statuses 4 and 5
 -- comes if none is.
 use Rattle.std.specs.Prelude.{◌≡◌, ℕ, Bool, true, false, Option, Some, None, Result, Ok, Err}
 use Rattle.command_proofs.specs.Proved.{NoProofMeans}
@@ -48,7 +48,7 @@ is_open (Some (Solved bundle)) = false
 is_open (Some (Sealed bundle)) = false
 is_open (Some (Drawn bundle digits dropped)) = false
 
--- the pool, if the result is a pool
+-- what `if_any` returns for the result: the pool, or None if the result is a refusal
 abbrev pub IsIfAny : Result Pool Refusal → Option Pool → Type 0
 IsIfAny is (Some pool) = is ≡ Ok pool
 IsIfAny is None = (refusal : Refusal) × (is ≡ Err refusal)

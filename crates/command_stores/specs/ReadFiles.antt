@@ -1,4 +1,4 @@
--- What the code returns for a file that is imported. For src/imports.rt.
+-- What the code returns for a file that is imported. The contracts of src/imports.rt cite it.
 use Rattle.std.specs.Prelude.{◌≡◌, ℕ, List, None, Result, Ok, Err, ⊤}
 use Rattle.define_additions.specs.ProofVerdict.{Proof}
 use Rattle.define_offices.specs.Tables.{Tables}
@@ -27,7 +27,7 @@ IsProofRead bytes (Ok proof) = read_proof bytes ≡ Ok proof
 IsProofRead bytes (Err (read.Fault fault)) = read_proof bytes ≡ Err (record { line = fault.place; kind = fault.kind })
 IsProofRead bytes (Err read.OutOfMemory) = ⊤
 
--- the stop for one of a reader of files
+-- the stop of an import for a stop of the reader of its file
 abbrev pub stop_of_import : ImportStop → FileStop
 stop_of_import (read.Fault fault) = Fault fault
 stop_of_import read.OutOfMemory = OutOfMemory

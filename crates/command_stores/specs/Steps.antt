@@ -1,5 +1,5 @@
--- What the commands of the office answer: the outcome of the step over the tables. Over `define_offices`. The contract of `office` cites it
--- with one line for all of them.
+-- What the commands of the office answer: the outcome of the step over the tables. Builds on `define_offices`. The contract of `office`
+-- cites it with one line for all of them.
 use Rattle.std.specs.Prelude.{◌≡◌, ℕ, List, [], ◌∷◌, Option, Some, None, Result, Ok, Err}
 use Rattle.command_shell.specs.Answers.{Prints, Saying, Stops as StopsBy}
 use Rattle.command_shell.specs.Lines.{no_panel_line}
@@ -29,7 +29,8 @@ use Rattle.office_pools.specs.declared.PoolStop.TheVariants as stop
 abbrev pub refused_by : Refusal → Saying
 refused_by refusal = StopsBy Rule (text_of (rule_line refusal ∷ []))
 
--- the answer to a run that stops early under these limits. The other two endings are no stops
+-- the answer to a run that stops early under these limits. No answer is right for `Found` and `NoPanel`, since such a run doesn't stop
+-- early
 abbrev pub TellsEnding : Limits → Ending → Saying → Type 0
 TellsEnding limits (run.TooWide stood pass) answer = answer ≡ StopsBy Wide (wide_line stood pass)
 TellsEnding limits (run.TotalPasses stood pass) answer = answer ≡ StopsBy Wide (total_line pass)
@@ -38,7 +39,7 @@ TellsEnding limits (run.NodesSpent stood) answer = answer ≡ StopsBy Spent (nod
 TellsEnding limits (run.Found last found) answer = ⊥
 TellsEnding limits run.NoPanel answer = ⊥
 
--- only a solve runs, so only its outcome is that of a run that stops
+-- the answer to a run that stops. Only a solve makes a run, so no answer is right for another command
 abbrev pub TellsStop : Command → Ending → Saying → Type 0
 TellsStop (Solve round limits) ending answer = TellsEnding limits ending answer
 TellsStop other ending answer = ⊥
@@ -72,7 +73,7 @@ pub record StepMeans (command : Command) (tables : Tables) (answer : Saying) (ch
   pub tells : TellsOutcome command outcome answer
   pub changes : change ≡ change_of outcome
 
--- over each tables a command has at most one answer, with at most one change
+-- over given tables a command has at most one answer, with at most one change
 abbrev pub StepsAnswerOnce : Type 0
 StepsAnswerOnce = (command : Command) (tables : Tables) (answer other : Saying) (change other_change : Option Change) →
     StepMeans command tables answer change → StepMeans command tables other other_change → (answer ≡ other) × (change ≡ other_change)
@@ -100,7 +101,7 @@ pub record TextMeans (it : StoreText) (tables : Tables) (answer : Saying) (chang
   pub is : answer ≡ text_or_refusal (stored_text it tables)
   pub stays : change ≡ None
 
--- why there is no such text, but for want of memory
+-- the refusal if there is no such text; None for want of memory
 abbrev pub refusal_of : PoolStop → Option Refusal
 refusal_of (stop.NoRound last) = Some (NoRound last)
 refusal_of (stop.Incomplete what) = Some (Incomplete what)

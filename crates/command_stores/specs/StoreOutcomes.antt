@@ -1,5 +1,5 @@
--- How a call over a store ends, for whatever meaning its answers have. Over StoreTold and the outcomes of the shell. The contract of every
--- call over a store cites it, up to `office`.
+-- How a call over a store ends, for whatever meaning its answers have. Builds on StoreTold and the outcomes of the shell. The contract of
+-- every call over a store cites it, up to `office`.
 use Rattle.std.specs.Prelude.{◌≡◌, ℕ, List, Option, Result, Ok, Err, option_map}
 use Rattle.command_shell.specs.Answers.{Prints, Saying, saying}
 use Rattle.command_shell.specs.Lines.{keeper_fault_line, want_of_memory_line}
@@ -16,7 +16,7 @@ use Rattle.office_core.specs.declared.keeper.KeeperStop.{KeeperStop}
 use Rattle.office_core.specs.declared.keeper.KeeperStop.TheVariants.{Failed, OutOfMemory}
 use Rattle.command_stores.specs.StoreTold.{IsAttached, KeepsTables, Keeper, MayBeAttached, StoreTold}
 
--- which answers are right about tables, with which change of them; None if they stay
+-- which answers are right about tables, and with which change of the tables; the change is None if the tables stay
 abbrev pub StoreMeaning : Type 1
 StoreMeaning = Tables → Saying → Option Change → Type 0
 
@@ -74,7 +74,7 @@ TellsSettled (Ok answer) call = IsToldOrCutOff (saying answer) call
 TellsSettled (Err Failed) call = IsStopped 9 keeper_fault_line call
 TellsSettled (Err OutOfMemory) call = IsStopped 12 want_of_memory_line call
 
--- the answer, or that memory was wanting for it
+-- the answer, or `OutOfMemory` if there was no memory to make it
 abbrev pub settled_by : Result Answer AllocError → Result Answer KeeperStop
 settled_by (Ok answer) = Ok answer
 settled_by (Err error) = Err OutOfMemory
@@ -96,8 +96,8 @@ pub record IsOnlyAttached (path : List ℕ) (keeper : Keeper) : Type 0 where
   pub same : KeepsTables keeper
   pub no_fault : HasNoFault keeper.object
 
--- how a call over the store at `path` ends that reads its source. `Means` says for each text which answers are right. The keeper is
--- attached before the source is read, and the tables are loaded after it
+-- how a call that reads its source ends over the store at `path`. `Means` says for each text which answers are right. The keeper is
+-- attached before the source is read, and the tables are loaded after that
 pub data TextStoreOutcome (path : List ℕ) (Means : List ℕ → StoreMeaning) (told : StoreTold) : Type 0 where
   -- the text was read, and the call ends as one that reads nothing
   Read : (bytes : List ℕ) → IsInput told.call.source bytes → StoreOutcome path (Means bytes) told → TextStoreOutcome path Means told
@@ -110,7 +110,7 @@ pub data TextStoreOutcome (path : List ℕ) (Means : List ℕ → StoreMeaning) 
   -- 12: memory was wanting before the text was read whole
   NoMemory : HasStoredNothing path told.keeper → IsStopped 12 want_of_memory_line told.call → TextStoreOutcome path Means told
 
--- how a call over the store at `path` ends that reads no input: the source is untouched
+-- how a call that reads no input ends over the store at `path`: the source is untouched
 pub record SilentStoreOutcome (path : List ℕ) (Means : StoreMeaning) (told : StoreTold) : Type 0 where
   pub source : IsUntouched told.call.source
   pub ends : StoreOutcome path Means told

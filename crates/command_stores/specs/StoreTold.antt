@@ -1,5 +1,5 @@
--- What one call over a store told of the outside: what a call over a text tells, and the keeper before and after.
--- Over `Told` of the shell. StoreOutcomes and the contract of `office` cite it.
+-- What one call over a store did, as seen from outside: its status, source, out and errs, and the keeper before and after the call. Builds
+-- on `Told` of the shell. StoreOutcomes and the contract of `office` cite it.
 use Rattle.std.specs.Prelude.{◌≡◌, ◌⊎◌, ℕ, List}
 use Rattle.command_shell.specs.Told.{IsUntouched, Object, Told}
 use Rattle.define_offices.specs.Tables.{Tables}
@@ -34,6 +34,6 @@ KeepsTables keeper = keeper.object.after ≡ keeper.object.before
 abbrev pub IsAttached : List ℕ → Keeper → Type 0
 IsAttached path keeper = keeper.place_after ≡ at keeper.place_before path
 
--- the keeper was attached at `path`, or is where it was
+-- the keeper was attached at `path`, or its place is as before
 abbrev pub MayBeAttached : List ℕ → Keeper → Type 0
 MayBeAttached path keeper = IsAttached path keeper ⊎ (keeper.place_after ≡ keeper.place_before)

@@ -1,16 +1,16 @@
-//! The laws that a command of the office, and an import, have at most one answer: functions without a body.
+//! The laws that a command of the office, and an import, have at most one answer: contracts of functions that do nothing.
 
 ghost use Rattle.command_stores.specs.Imports.{ImportsAnswerOnce};
 ghost use Rattle.command_stores.specs.Steps.{StepsAnswerOnce};
 
 use define_imports::one_reading;
 
-/// Over each tables a command of the office has at most one answer, with at most one change.
+/// Over given tables a command of the office has at most one answer, with at most one change.
 pub fn steps_answer_once()
     ensures { StepsAnswerOnce }
 {}
 
-/// About each file, over each tables, an import has at most one answer, with at most one change.
+/// About a given file, over given tables, an import has at most one answer, with at most one change.
 pub fn imports_answer_once()
     ensures { ImportsAnswerOnce }
 {

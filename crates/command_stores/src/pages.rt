@@ -19,7 +19,7 @@ use office_tables::{Round, drawn_by};
 use sealed_draw::seal;
 use std::alloc::{AllocError, Global};
 
-/// Returns the page of a round as an answer, or the refusal without one: there is no such round, or it is open.
+/// Returns the page of a round as an answer, or a refusal if there is no such round or it is open.
 pub(crate) fn page_answer(
     alloc: Global,
     tables: &Tables,
@@ -71,7 +71,7 @@ fn round_page(
     page_with(alloc, &head, bundle, kept.as_bytes(), &drawn)
 }
 
-/// Returns the part about the draw of a round with this bundle, whose seal this is, or nothing if it isn't drawn yet.
+/// Returns the part about the draw of a round with this bundle and this seal of the bundle, or an empty text if the round isn't drawn yet.
 fn draw_text(
     alloc: Global,
     round: &Round,

@@ -40,8 +40,8 @@ pub struct ProveRound {
     pub prove: Prove,
 }
 
-/// Makes one call of `prove` over the store at `path`. An open round keeps the lottery of a valid proof of its pool. Any other round
-/// answers as to a solve.
+/// Makes one call of `prove` over the store at `path`. If the round is open and has a pool, a proof of the pool is made and given to the
+/// office, or the answer says why none was made. Else the answer is that of a solve.
 pub fn call_prove_round<R: Threads + Sync, W: Watch + Sync, K: Keeper, O: Sink, E: Sink>(
     resources: &Resources<'_, R, W>,
     proving: ProveRound,
@@ -118,7 +118,7 @@ fn prove_open<R: Threads + Sync, W: Watch + Sync, K: Keeper>(
     }
 }
 
-/// Answers as to a solve, which needs no run. So its limits don't matter.
+/// Returns the answer of a solve of the round. The solve needs no run, so its limits don't matter.
 fn answer_as_solve<R: Threads + Sync, W: Watch + Sync, K: Keeper>(
     resources: &Resources<'_, R, W>,
     proving: ProveRound,
@@ -142,7 +142,7 @@ fn answer_as_solve<R: Threads + Sync, W: Watch + Sync, K: Keeper>(
     settle_over(resources, tables, &command, keeper)
 }
 
-/// Returns the pool of an open round, or None if the round is not open or has no pool.
+/// Returns the pool of an open round, or None if there is no such round, it isn't open, or it has no pool.
 fn open_pool(alloc: Global, tables: &Tables, round: usize) -> Result<Option<Pool>, AllocError>
     ensures { IfOk result (TellsOpen tables.now round) }
 {
@@ -163,7 +163,7 @@ fn is_open(tables: &Tables, round: usize) -> bool
     }
 }
 
-/// Returns the pool, or None if there is none.
+/// Returns the pool, or None if there is no such round or it has no pool. Fails for want of memory.
 fn if_any(pool: Result<Pool, PoolStop>) -> Result<Option<Pool>, AllocError>
     ensures { (is : Result SeenPool Refusal) → TellsPool is pool → IfOk result (IsIfAny is) }
 {

@@ -94,7 +94,7 @@ pub(crate) fn settle_over<R: Threads + Sync, W: Watch + Sync, K: Keeper>(
     }
 }
 
-/// Returns the answer to a run that stops. Only a solve runs.
+/// Returns the answer to a run that stops. Only a solve makes a run.
 fn run_answer(alloc: Global, command: &Command, stop: &Stop) -> Result<Answer, AllocError>
     ensures { (ending : Ending) → IsEnding stop.now ending → IfOk result (λ answer. TellsStop (seen_command command.now) ending (saying answer)) }
 {

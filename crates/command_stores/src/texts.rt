@@ -74,7 +74,7 @@ fn settle_text<K: Keeper>(
     answer_or_want(answer_text(alloc, &tables, text))
 }
 
-/// Returns the text as an answer, or the refusal without one.
+/// Returns the text as an answer, or the refusal if there is no such text.
 fn answer_text(alloc: Global, tables: &Tables, text: StoreText) -> Result<Answer, AllocError>
     ensures { IfOk result (λ answer. saying answer ≡ text_or_refusal (stored_text text tables.now)) }
 {
@@ -85,7 +85,7 @@ fn answer_text(alloc: Global, tables: &Tables, text: StoreText) -> Result<Answer
     }
 }
 
-/// Returns a text that was made as an answer, or the refusal without one.
+/// Returns the answer with the text that was made, or the refusal if none was.
 fn made_answer(alloc: Global, made: Result<Vec<u8>, PoolStop>) -> Result<Answer, AllocError>
     ensures { (is : Result (List ℕ) SeenRefusal) → TellsReport is made → IfOk result (λ answer. saying answer ≡ text_or_refusal is) }
 {
@@ -106,7 +106,7 @@ fn round_pool(alloc: Global, tables: &Tables, round: usize) -> Result<Vec<u8>, P
     Ok(write_pool(alloc, &pool)?)
 }
 
-/// Returns the answer to a round without a pool.
+/// Returns the answer if there is no such round or it has no pool. Fails for want of memory.
 fn stop_answer(alloc: Global, stop: PoolStop) -> Result<Answer, AllocError>
     ensures refused { IfOk result (λ answer. IfSome (refusal_of stop) (λ refusal. saying answer ≡ refused_by refusal)) }
     ensures want { stop ≡ OutOfMemory → OnOk result ⊥ }

@@ -1,4 +1,4 @@
-//! Calls of `office` over the forms in memory: what it answers, and what `out` and `errs` gained.
+//! Calls of `office` over a source and sinks in memory: what it answers, and what `out` and `errs` gained.
 
 use crate::texts::{
     APART, BARRED, COUPLE, COUPLE_PROOF, CROSSED, DOUBLED_PROOF, EITHER, EITHER_BUNDLE, FAMILY,
@@ -204,7 +204,8 @@ const ROWS: &[(&[&str], &[u8], u8, &[u8], &[u8])] = &[
     ),
 ];
 
-/// Rows as in `ROWS`, for words that ask for nothing; `errs` gets the texts of `clap`.
+/// Rows as in `ROWS`, for words that ask for no command. `errs` gets the text of `clap`, or the program's own text if options don't go
+/// together.
 const USAGE_ROWS: &[(&[&str], &[u8], u8, &[u8], &[u8])] = &[
     (
         &[],
@@ -467,7 +468,7 @@ const BUNDLE_ROWS: &[(&[&str], &[u8], u8, &[u8], &[u8])] = &[
     ),
 ];
 
-/// Rows as in `ROWS`, for `check`.
+/// Rows as in `ROWS`, for `dice`, `tickets`, `chances` and `check`.
 const CHECK_ROWS: &[(&[&str], &[u8], u8, &[u8], &[u8])] = &[
     (
         &["dice"],
@@ -680,8 +681,8 @@ fn the_third_worker_starts_while_two_are_held(rt: HostRuntime) -> Result<(), All
     Ok(())
 }
 
-/// Texts that are cut off: the words of a call, the whole text, and the kinds of the fault, each with the number of whole lines from which
-/// on it is the kind.
+/// Texts that are cut off: the words of a call, the whole text, and the kinds of the fault. Each kind comes with a number of whole
+/// lines: if at least that many are left, and fewer than the next kind's number, the fault is of this kind.
 const CUT: &[(&[&str], &[u8], &[(usize, u8)])] = &[
     (&["lottery"], FOUR, &[(0, 12)]),
     (&["prove"], FOUR, &[(0, 12)]),
@@ -693,7 +694,7 @@ const CUT: &[(&[&str], &[u8], &[(usize, u8)])] = &[
     ),
 ];
 
-/// Returns the kind of the fault of a text that is cut off behind this many whole lines.
+/// Returns the kind of the fault of a text that is cut off after `lines` whole lines.
 fn kind_after(kinds: &[(usize, u8)], lines: usize) -> u8 {
     let mut found = 0;
     for (from, kind) in kinds {
@@ -760,7 +761,7 @@ fn each_failing_is_told(rt: HostRuntime) -> Result<(), AllocError> {
         );
         assert_eq!(rt; told.errs.written(), *errs, "{reads:?} {puts:?} {room}");
     }
-    // `out` takes too few bytes, or the put of a line fails: it has the bytes up to there.
+    // If `out` takes too few bytes, or the put of a line fails, `out` has gained the bytes before that place.
     let mut line = 1;
     let mut begun = 0;
     for (length, byte) in FOUR_BUNDLE.iter().enumerate() {

@@ -8,7 +8,7 @@ pub(crate) const FOUR: &[u8] =
 pub(crate) const APART: &[u8] =
     b"pool\t1\nsize\t2\ncategory\tvalue\nvalue\tp\t0\t1\nvalue\tq\t0\t1\nvalue\tr\t0\t1\nvalue\ts\t0\t1\nvolunteer\ta\tp\nvolunteer\tb\tq\nvolunteer\tc\tr\nvolunteer\td\ts\nend\n";
 
-/// Two seats for a woman and a man.
+/// Two seats, and two volunteers: a woman and a man.
 pub(crate) const PAIR: &[u8] =
     b"pool\t1\nsize\t2\ncategory\tgender\nvalue\tfemale\t0\t2\nvalue\tmale\t0\t2\nvolunteer\ta\tfemale\nvolunteer\tb\tmale\nend\n";
 

@@ -1,4 +1,4 @@
--- What `why` reads: a pool, or a proof over one. Over the definitions of the texts.
+-- What `why` reads: a pool, or a proof over one. Builds on the definitions of the texts.
 use Rattle.std.specs.Prelude.{ℕ, Bool, List, take, codes, bytes_eq, if◌then◌else◌, Result, Ok, Err}
 use Rattle.define_additions.specs.ProofVerdict.{OfLottery, OfNoPanel, Proof}
 use Rattle.define_lines.specs.Lines.{Fault}
@@ -19,7 +19,7 @@ abbrev pub pool_in : PoolOrProof → Pool
 pool_in (either.Pool pool) = pool
 pool_in (either.Proof proof) = pool_of proof
 
--- a text that begins with `proof` is read as a proof's, and any other as a pool's
+-- a text that begins with `proof` is read as a proof, and any other as a pool
 abbrev pub begins_as_proof : List ℕ → Bool
 begins_as_proof bytes = bytes_eq (codes "proof") (take 5 bytes)
 

@@ -1,9 +1,9 @@
 -- What `why` answers about a pool, given by itself or in a proof: quotas of it that can't be met together, so that it has no quota panel;
 -- or else a quota panel.
 --
--- The search for quotas is no definition. So the meaning doesn't say which of several conflicts is found, nor whether one is found within
--- the budget, nor what a search leaves of its budget. So at 4 any operation that passes 2^62 is right, and at 5 each of the lines, at any
--- time.
+-- The search for quotas has no definition. So the meaning doesn't say which of several conflicts is found, nor whether one is found within
+-- the budget, nor how much of its budget a search spends. At status 4, the line of any operation that passes 2^62 is right; at status 5,
+-- each of the lines about a spent budget can be right.
 use Rattle.std.specs.Prelude.{◌≡◌, ℕ, IsTrue, List, [], ◌∷◌, ◌++◌, codes}
 use Rattle.std.specs.List.{flat_map}
 use Rattle.define_conflicts.specs.Conflicts.{IsConflict}
@@ -34,7 +34,7 @@ pub data SpendsWhyBudget (left : Left) (text : List ℕ) : Type 0 where
   PivotsSpent : left.pivots ≡ 0 → text ≡ proof_spent_line (codes "pivots") left.most_pivots → SpendsWhyBudget left text
   -- no node is left
   NodesSpent : left.nodes ≡ 0 → text ≡ proof_spent_line (codes "nodes") left.most_nodes → SpendsWhyBudget left text
-  -- no budget: a step of the search led to a state that exact arithmetic never leads to. No condition is put on `left`
+  -- this is no budget: a step of the search led to a state that exact arithmetic never leads to. No condition is put on `left`
   StepLost : text ≡ proof_spent_line (codes "lost") 0 → SpendsWhyBudget left text
 
 -- the answers that say why a search stops, if it leaves `left` of its budget

@@ -6,10 +6,10 @@ use proof_model::Proof;
 use std::alloc::Global;
 use text_lines::TextStop;
 
-/// A text that begins with this word is read as a proof's.
+/// A text that begins with this word is read as a proof.
 const PROOF: &[u8] = b"proof";
 
-/// A pool, or a proof over one. A text that begins with `proof` is read as a proof's, and any other as a pool's.
+/// A pool, or a proof over one. A text that begins with `proof` is read as a proof, and any other as a pool.
 #[derive(Drop)]
 pub enum PoolOrProof {
     /// A pool.

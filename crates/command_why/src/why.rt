@@ -75,7 +75,8 @@ fn explained_within(
     }
 }
 
-/// Returns what `why` answers about the pool of a proof of these parts. It begins with the tree of a proof that there is no quota panel.
+/// Returns what `why` answers about the pool of a proof of these parts. If it is a proof that there is no quota panel, the search begins
+/// with its tree.
 fn explained_of(alloc: Global, budget: &mut Budget, parts: &Parts) -> Result<Answer, AllocError>
     ensures right { IfOk result (λ answer. IsRight (WhyMeans budget.new (pool_of (seen parts.now))) (saying answer)) }
     ensures spends { SpendsOn budget.old budget.new }
@@ -86,7 +87,7 @@ fn explained_of(alloc: Global, budget: &mut Budget, parts: &Parts) -> Result<Ans
     }
 }
 
-/// Returns what `why` answers about a pool, by a tree and a search.
+/// Returns what `why` answers about a pool, by a search that begins with `tree`, which may be empty.
 fn explained_by(
     alloc: Global,
     budget: &mut Budget,

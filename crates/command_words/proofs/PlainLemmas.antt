@@ -8,7 +8,7 @@ use Rattle.clap.specs.Walk.{is_early_multiple}
 use Rattle.command_words.specs.Program.{command_app, option_rule, program_alone, program_app}
 use Rattle.command_words.specs.Table.{CommandEntry, OptionEntry}
 
--- ---- options
+-- ---- a command's options in the program
 
 options_simple : (os : List OptionEntry) → list_all (λ a. a.is_simple) (map option_rule os) ≡ true
 options_simple [] = refl
@@ -31,7 +31,7 @@ built_unplaced : (n i : ℕ) (os : List OptionEntry) → list_any (is_early_mult
 built_unplaced n i [] = refl
 built_unplaced n i (o ∷ os) = built_unplaced n i os
 
--- ---- the program
+-- ---- the program with its subcommands
 
 -- the program with subcommands
 abbrev with_commands : List CommandEntry → App

@@ -31,7 +31,7 @@ module _ (commands : List CommandEntry) (a : App) (words : List Text) (app : a �
         (subst (λ (b : App). IsAmong (kind_of e) (fault_of b words)) app some)
   ]
 
-  -- if `clap` finds a fault in the words, the stop that is made of its error is right
+  -- if `clap` returns an error, for a fault in the words or want of memory, the stop that is made of this error is right
   pub stop_is_right : (e : Error) (stop : WordsStop) → HasKind (fault_of a words) e → StopSays e stop → MatchesSay commands words (Err stop)
   stop_is_right e (Usage text) has says = given_refused e has says
   stop_is_right e OutOfMemory has says = tt

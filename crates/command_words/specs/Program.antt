@@ -1,4 +1,4 @@
--- The program of a table of commands, as `clap`'s own definitions describe a program. Over Table. Words and src/program.rt cite it.
+-- The program of a table of commands, as `clap`'s own definitions describe a program. Builds on Table. Words and src/program.rt cite it.
 use Rattle.std.specs.Prelude.{Bool, true, false, List, [], ◌∷◌, Some, codes, fold, map}
 use Rattle.clap.specs.Words.{App, Rule, new_app, new_rule, with_subcommand}
 use Rattle.clap.specs.Simple.{new_shape, on_top}

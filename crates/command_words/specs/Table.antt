@@ -1,4 +1,5 @@
--- The words of commands and options, with lists of bytes in place of the references that the code has. Over the constants of src/table.rt.
+-- The words of commands and options, with lists of bytes in place of the references that the code has. Builds on the constants of
+-- src/table.rt.
 use Rattle.std.specs.Prelude.{ℕ, List, ◌++◌, map}
 use Rattle.std.specs.Borrow.{Bor}
 use Rattle.command_words.specs.declared.words.CommandWords.{CommandWords}

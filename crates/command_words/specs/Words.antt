@@ -1,6 +1,6 @@
 -- The command and the values that the words of a call ask for. `clap`'s definitions say how words are parsed; this file says what the
--- parsed words mean by a table of commands. Over Given, Program and Table. The contract of `read_words` cites it, and so does `Asked` of
--- `command_office`.
+-- parsed words mean by a table of commands. Builds on Given, Program and Table. The contract of `read_words` cites it, and so does `Asked`
+-- of `command_office`.
 use Rattle.std.specs.Prelude.{◌≡◌, ◌≢◌, ◌^◌, ◌&&◌, ℕ, Bool, true, false, List, [], ◌∷◌, Option, Some, None, Result, Ok, Err, length, if◌then◌else◌, find, is_none, nat_le, nat_lt, option_and_then, option_map, ⊤}
 use Rattle.std.specs.List.{list_all}
 use Rattle.std.specs.Char.{digit_value}
@@ -22,7 +22,7 @@ use Rattle.command_words.specs.declared.words.Form.TheVariants as form
 use Rattle.command_words.specs.declared.words.Missing.{Missing}
 use Rattle.command_words.specs.declared.words.Missing.TheVariants as missing
 
--- true if the text has a digit, all of it is decimal digits, and their number is below 2 ^ 64
+-- true if the text is made of decimal digits, at least one, and the number that they spell is below 2 ^ 64
 abbrev pub is_number : Text → Bool
 is_number digits = nat_lt 0 (length digits) && list_all (λ d. nat_lt (digit_value d) 10) digits && nat_lt (digits_value 10 digits) (2 ^ 64)
 
@@ -32,7 +32,7 @@ number_in text =
     let digits = without_leading_plus text in
     if is_number digits then Some (digits_value 10 digits) else None
 
--- the number that the option of this name has
+-- the number that the option of this name has; None if it has no value or its value spells no number
 abbrev pub number_at : Text → List Row → Option ℕ
 number_at name rows = option_and_then number_in (one_of name rows)
 
@@ -56,11 +56,11 @@ may_be_absent missing.Refused = false
 may_be_absent missing.Absent = true
 may_be_absent (missing.Default text) = false
 
--- true if the option is absent: it may be, and it has no value
+-- true if the option is absent: it may be left out, and it has no value
 abbrev pub is_absent : List Row → OptionEntry → Bool
 is_absent rows option = may_be_absent option.missing && is_none (first_of option.name rows)
 
--- the name of each option that is not absent with its value, if all values have their options' forms
+-- the name of each option that is not absent, with the option's value; None if a value doesn't have its option's form
 abbrev pub option_values : List Row → List OptionEntry → Option (List (Text × Value))
 option_values rows [] = Some []
 option_values rows (option ∷ options) =

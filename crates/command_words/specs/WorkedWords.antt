@@ -11,7 +11,7 @@ use Rattle.command_words.specs.declared.words.CommandName.TheVariants as name
 abbrev pub Give : List (List ℕ) → CommandName → List (List ℕ × Value) → Type 0
 Give words command values = given_in words ≡ Some (record { command = command; values = values })
 
--- the words give nothing
+-- the words give no command: `clap` finds a fault in them, or a value doesn't have its form
 abbrev pub GiveNothing : List (List ℕ) → Type 0
 GiveNothing words = given_in words ≡ None
 
@@ -43,7 +43,7 @@ pub record PlainGive : Type 0 where
   pub chances : Give (codes "chances" ∷ []) name.Chances []
   pub explain : Give (codes "explain" ∷ []) name.Explain []
 
--- `store` may be absent, and rounds are from 0 to 1000, round 1 if none is given; an option may be given once, and with a value
+-- `store` may be absent, and rounds are from 0 to 1000, round 1 if none is given; an option must have a value, and may be given only once
 pub record SealGives : Type 0 where
   pub absent : Give (codes "seal" ∷ []) name.Seal (number (codes "round") 1 ∷ [])
   pub store : Give (codes "seal" ∷ codes "--store" ∷ codes "s" ∷ []) name.Seal (text (codes "store") (codes "s") ∷ number (codes "round") 1 ∷ [])
@@ -65,7 +65,7 @@ pub record DrawGives : Type 0 where
   pub no_seal : GiveNothing (codes "draw" ∷ codes "--digits" ∷ codes "97" ∷ [])
   pub no_digits : GiveNothing (codes "draw" ∷ codes "--seal" ∷ codes "s" ∷ [])
 
--- numbers of tickets are from 1 to 10 ^ 9. `short` and `short-draw` have 1000 if none is given; `dice` and `tickets` have none then
+-- numbers of tickets are from 1 to 10 ^ 9. If none is given, `short` and `short-draw` have 1000, and `dice` and `tickets` have none
 pub record ShortGives : Type 0 where
   pub short : Give (codes "short" ∷ []) name.Short (number (codes "tickets") 1000 ∷ [])
   pub least : Give (codes "short" ∷ codes "--tickets" ∷ codes "1" ∷ []) name.Short (number (codes "tickets") 1 ∷ [])
@@ -82,7 +82,8 @@ pub record ShortGives : Type 0 where
   pub no_seal : GiveNothing (codes "short-draw" ∷ codes "--digits" ∷ codes "97" ∷ [])
   pub no_digits : GiveNothing (codes "short-draw" ∷ codes "--seal" ∷ codes "s" ∷ [])
 
--- the budget of the searches of `panel`, `loosen` and `check`: from 0 to 10 ^ 12 visits; and of `why` and `loosen-by-proof`, that of `prove`
+-- the searches of `panel`, `loosen` and `check` have a budget from 0 to 10 ^ 12 visits; those of `why` and `loosen-by-proof` have the
+-- budget of `prove`
 pub record SearchesGive : Type 0 where
   pub panel : Give (codes "panel" ∷ []) name.Panel (number (codes "nodes") 50000000 ∷ [])
   pub panel_least : Give (codes "panel" ∷ codes "--nodes" ∷ codes "0" ∷ []) name.Panel (number (codes "nodes") 0 ∷ [])

@@ -1,6 +1,7 @@
 //! The help of the program. `clap` makes the help of a single command by the table.
 
-/// The commands by who needs them, each with one line. The words of the table (`table.rt`) are the program's; this text only shows them.
+/// The commands, grouped by who needs them, with one line each. `table.rt` decides which words the program accepts; this text only shows
+/// them.
 pub(crate) const HELP: &str = "Selects a citizens' assembly by lot.
 
 Usage: sortition <COMMAND>

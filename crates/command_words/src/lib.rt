@@ -1,11 +1,11 @@
 //! The words of a call of the program, read by `clap`: which command they ask for, with the values of its options.
 //!
 //! The commands are a table (`table.rt`), and a command's words are one entry of it. Building the program for `clap` (`program.rt`),
-//! reading the values of its options (`values.rt`) and the rule that says what words give (`specs/Words.antt`) are proved once for every
-//! table.
+//! reading the values of a command's options (`values.rt`) and the rule that says what words give (`specs/Words.antt`) are proved once for
+//! every table.
 //!
-//! Stands on `clap` alone. Above: `command_office`, which makes a command with typed arguments of a `Given`. Promises: `read_words` and the
-//! calls of `Given` and `Word`.
+//! Stands on `clap` alone. Used by `command_office`, which makes a command with typed arguments of a `Given`. Promises: `read_words` and
+//! the calls of `Given` and `Word`.
 #![tactic(auto)]
 
 mod given;

@@ -14,13 +14,13 @@ use clap::error::ErrorKind;
 use std::alloc::Global;
 use thiserror::Error;
 
-/// The text for a value that `clap` accepts and that doesn't have its option's form. No words lead to it, since `clap` tests the forms.
+/// The text if a value doesn't have its option's form though `clap` accepted it. That never happens, since `clap` tests the forms.
 const OUT_OF_FORM: &str = "error: a value is out of its range\n";
 
 /// Why the words give nothing.
 #[derive(Debug, Drop, Error)]
 pub enum WordsStop {
-    /// The words are not of the forms, or ask for help. The text is what `clap` prints then.
+    /// The words have none of the program's forms, or ask for help. The text is what `clap` prints then.
     #[error("{0}")]
     Usage(String),
     /// No memory was left.

@@ -1,5 +1,5 @@
-//! Reads the values of the subcommand that `clap` found. Each must have the form of its option, else the words give nothing. An option is
-//! absent if it may be and wasn't given; then it adds no value.
+//! Reads the values of the subcommand that `clap` found. Each must have the form of its option, else the words give nothing. An option that
+//! may be left out and wasn't given is absent: it adds no value.
 
 ghost use Rattle.std.specs.Prelude.{◌≡◌, find, IfOk, map, option_map};
 ghost use Rattle.std.specs.Str.{bytes_eq};
@@ -98,7 +98,7 @@ fn values_of<'a>(
     Ok(Some(values))
 }
 
-/// Returns true if the option is absent: it may be, and it has no value.
+/// True if the option is absent: it may be left out, and it has no value.
 fn is_absent(option: &TableOption, matches: &ArgMatches) -> bool
     ensures { result ≡ words_is_absent (rows_of (found_of matches.now)) (option_entry option.now) }
 {

@@ -11,9 +11,9 @@ pub enum CommandName {
     Verify,
     /// The bundle of a proof.
     Bundle,
-    /// The seal of a bundle.
+    /// The seal of a bundle, or of a round of a store.
     Seal,
-    /// The panel that dice draw from a bundle.
+    /// The panel that dice draw from a bundle, or from a round of a store.
     Draw,
     /// How dice draw from a bundle.
     Dice,
@@ -31,9 +31,9 @@ pub enum CommandName {
     Panel,
     /// The least loosening of a pool's quotas.
     Loosen,
-    /// Quotas of a pool that can't be met together.
+    /// Quotas of a pool that can't be met together, or a quota panel.
     Why,
-    /// A least loosening of a pool's quotas, with a proof that was checked.
+    /// A least loosening of a pool's quotas, found by integer programs and shown to be least by sums.
     LoosenByProof,
     /// A page about the lottery of a bundle, or of a round of a store.
     Page,

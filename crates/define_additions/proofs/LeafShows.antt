@@ -31,8 +31,8 @@ charged (negsuc k) lower upper sum l m =
     let scaled = le-scaled lower sum (suc k) l in
     let one = neg-mul (pos (suc k)) sum in let other = neg-mul (pos (suc k)) lower in omega (arith, ints, scaled, one, other)
 
--- a volunteer in a panel adds the rest `r` to its sum of rests, and a volunteer who is not in it adds 0. If the standing allows it, that is
--- at most the charge of the rest
+-- a member of a panel adds the rest `r` to the panel's sum of rests, and anyone else adds 0. If the volunteer's standing allows `is_in`,
+-- what is added is at most the charge of the rest
 added : (standing : Standing) (is_in : Bool) (r : ℤ) → allows standing is_in ≡ true → (cond is_in r (pos 0)) ≤ℤ (rest_charge standing r)
 added Open true r h =
     (elim (int_lt (pos 0) r) as (λ b. int_lt (pos 0) r ≡ b → r ≤ℤ (cond b r (pos 0))) [

@@ -24,7 +24,7 @@ pub record Meets (panel : List ℕ) (constraint : Constraint) : Type 0 where
   pub least : constraint.lower ≤ℤ total (coefficient constraint) panel
   pub most : total (coefficient constraint) panel ≤ℤ constraint.upper
 
--- ---- lists
+-- ---- reversed lists, constraints that count members, and the size
 
 each_reversed_onto : {X : Type 0} (P : X → Type 0) (xs ys : List X) → AllByRecursion P xs → AllByRecursion P ys → AllByRecursion P (reverse_aux xs ys)
 each_reversed_onto P [] ys h k = k
@@ -69,7 +69,7 @@ module _ (pool : Pool) (panel : List ℕ) (quota : is_quota_panel pool panel ≡
       let count : count_by (λ i. true) panel ≡ pool.size = omega (arith, ints, many, size) in
       counting_met (λ i. true) pool.size pool.size (omega (arith, count)) (omega (arith, count))
 
-  -- ---- values
+  -- ---- the constraints of values are met
 
   value_met : (category_place : ℕ) (value : ℕ × BoundedValue) → is_within value.1 (members_with pool.volunteers panel category_place value.0) ≡ true → Meets panel (value_constraint pool category_place value)
   value_met category_place value h =
@@ -96,7 +96,7 @@ module _ (pool : Pool) (panel : List ℕ) (quota : is_quota_panel pool panel ≡
       (each_map (λ category. meets category ≡ true) (λ category. AllByRecursion (Meets panel) (category_constraints pool category)) category_met categories
       (each_from_list_all meets categories parts.quotas))
 
-  -- ---- households
+  -- ---- the constraints of households are met
 
   household_met : (number : ℕ) → Meets panel (household_constraint pool number)
   household_met number =
@@ -106,7 +106,7 @@ module _ (pool : Pool) (panel : List ℕ) (quota : is_quota_panel pool panel ≡
   households_met : AllByRecursion (Meets panel) (map (household_constraint pool) (first_members pool))
   households_met = each_mapped (Meets panel) (household_constraint pool) (first_members pool) (each_everywhere (λ i. Meets panel (household_constraint pool i)) household_met (first_members pool))
 
-  -- ---- earlier stages
+  -- ---- the constraints of earlier stages are met
 
   -- if a stage's cap holds, a panel that attains it and the caps before it has exactly the cap as its weight
   stage_met : (earlier : List Stage) (stage : Stage) → is_capped pool earlier stage ≡ true → attains earlier panel ≡ true → int_le stage.cap (panel_weight stage panel) ≡ true → Meets panel (stage_constraint stage)
@@ -124,7 +124,7 @@ module _ (pool : Pool) (panel : List ℕ) (quota : is_quota_panel pool panel ≡
       let reached = and_parts (int_le stage.cap (panel_weight stage panel)) (attains earlier panel) attained in
       (stage_met earlier stage hold.0 reached.1 reached.0, stages_met earlier hold.1 reached.1)
 
-  -- ---- all constraints
+  -- ---- all constraints of a stage are met
 
   pub all_met : (earlier : List Stage) → EarlierCapsHold pool earlier → attains earlier panel ≡ true → AllByRecursion (Meets panel) (constraints pool earlier)
   all_met earlier hold attained =

@@ -37,7 +37,7 @@ within_limit : {X : Type 0} (f : X → ℕ) (limit : ℕ) (xs : List X) → AllB
 within_limit f limit [] h = omega arith
 within_limit f limit (x ∷ xs) h = let here = h.0 in let rest = within_limit f limit xs h.1 in omega (arith, here, rest)
 
--- a double sum is the same over `xs` first or over `ys` first
+-- a double sum is the same whether it goes over `xs` or over `ys` first
 exchanged : {X Y : Type 0} (f : X → Y → ℕ) (xs : List X) (ys : List Y) → naturals.total (λ x. naturals.total (f x) ys) xs ≡ naturals.total (λ y. naturals.total (λ x. f x y) xs) ys
 exchanged f [] ys = sym (naturals.total-zero (λ y. 0) (λ y. refl) ys)
 exchanged f (x ∷ xs) ys = let rest = exchanged f xs ys in let split = naturals.total-add (f x) (λ y. naturals.total (λ x. f x y) xs) ys in omega (arith, rest, split)
@@ -199,7 +199,7 @@ module _ (problem : Problem) (near : is_problem_in_reach problem ≡ true) (leaf
       let whole = within_limit size square ms (each_map IsSmall (λ m. size m ≤ square) one_charge ms known.factors) in
       let few = mul-le-mul_right square known.few in omega (arith, same, apart, part, whole, few)
 
-  -- ---- rests
+  -- ---- rests, and all charges together with them
 
   weight_within : (i : ℕ) → leaf.scale * unsigned_abs (weight_of problem.stage i) ≤ square
   weight_within i =
@@ -293,7 +293,7 @@ module _ (problem : Problem) (near : is_problem_in_reach problem ≡ true) (leaf
         charges_whole : unsigned_abs (signed_sum (charge all) ms) ≤ 1801 * square
         charges_whole = subst (λ those. unsigned_abs (signed_sum (charge all) those) ≤ 1801 * square) (take-length ms) (charges_within (length ms))
 
-  -- ---- below 2^127
+  -- ---- all these sums are below 2^127
 
   wide : 3603 * square < 2 ^ 127
   wide = lit< tt

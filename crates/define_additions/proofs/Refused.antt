@@ -39,7 +39,7 @@ of_none P (Some refusal) e = absurd cc
 each_of_none : (P : Refusal → Type 0) (rs : List (Option Refusal)) → NoneStands rs → EachOf P rs
 each_of_none P rs h = each_map (λ r. r ≡ None) (Of P) (of_none P) rs h
 
--- ---- reasons below 11
+-- ---- if a proof is refused for a reason below 11, its certificate doesn't hold
 
 abbrev FromTree : Refusal → Type 0
 FromTree refusal = 11 ≤ refusal.reason
@@ -123,7 +123,7 @@ later_behind [] (suc k) = refl
 later_behind (lines ∷ trees) zero = refl
 later_behind (lines ∷ trees) (suc k) = later_behind trees k
 
--- ---- the line that is named
+-- ---- a refusal for a reason 11 or 12 names the line of the tree's first fault
 
 abbrev IsOfLine : Refusal → Type 0
 IsOfLine refusal = (refusal.reason ≡ 11) ⊎ (refusal.reason ≡ 12)

@@ -45,7 +45,7 @@ pub total-zero : {X : Type 0} (f : X → ℤ) → ((x : X) → f x ≡ pos 0) �
 total-zero f e [] = refl
 total-zero f e (x ∷ xs) = ap₂ (λ a b. a +ℤ b) (e x) (total-zero f e xs)
 
--- a double sum is the same over `xs` first or over `ys` first
+-- a double sum is the same whether it goes over `xs` or over `ys` first
 pub exchanged : {X Y : Type 0} (f : X → Y → ℤ) (xs : List X) (ys : List Y) → total (λ x. total (f x) ys) xs ≡ total (λ y. total (λ x. f x y) xs) ys
 exchanged f [] ys = sym (total-zero (λ y. pos 0) (λ y. refl) ys)
 exchanged f (x ∷ xs) ys = ap (λ z. total (f x) ys +ℤ z) (exchanged f xs ys) ∙ sym (total-add (f x) (λ y. total (λ x. f x y) xs) ys)

@@ -10,7 +10,7 @@ use Rattle.define_additions.specs.ProofVerdict.{OfLottery, first_tree, later_tre
 use Rattle.define_additions.specs.Trees.{is_undecided}
 use Rattle.define_additions.specs.TreeLines.{Decision, OfLeaf, OfSplit, TreeFault, TreeLine, fault, fault_from, path_behind, standings_at}
 
--- ---- stages
+-- ---- from stage to stage
 
 first_joined : (xs ys : List (Option Refusal)) → first_reason (xs ++ ys) ≡ or_next (first_reason xs) (first_reason ys)
 first_joined [] ys = refl
@@ -37,7 +37,7 @@ goes_on_by_stages pool lottery earlier later stage line trees =
     ∙ next_assoc (or_next (first_reason before) (first_reason of_tree)) (first_reason of_listed) (first_reason rest)
     ∙ next_assoc (first_reason before) (first_reason of_tree) (or_next (first_reason of_listed) (first_reason rest))
 
--- ---- decisions
+-- ---- a decision that is undone
 
 -- if an undecided volunteer's standing is set, and then set to open again, nothing has changed
 pub undone : (all : List Standing) (i : ℕ) (standing : Standing) → is_undecided all i ≡ true → set (set all i standing) i Open ≡ all
@@ -47,7 +47,7 @@ undone (Seated ∷ all) zero standing h = absurd (false≢true h)
 undone (Gone ∷ all) zero standing h = absurd (false≢true h)
 undone (one ∷ all) (suc i) standing h = ap (λ rest. one ∷ rest) (undone all i standing h)
 
--- ---- lines
+-- ---- from line to line in a tree
 
 -- a fault is in one of `count` lines from `number` on, or just after them, and its reason is 11 or 12
 pub record IsWithin (number count : ℕ) (fault : TreeFault) : Type 0 where

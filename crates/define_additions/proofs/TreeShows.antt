@@ -21,11 +21,11 @@ use Rattle.define_additions.proofs.LeafShows.{keeps, weight_below}
 use Rattle.define_additions.proofs.MetConstraints.{Meets, all_met}
 use Rattle.define_additions.proofs.SignedSums.{sum-is-total, total}
 
--- ---- splits
+-- ---- a panel in one of the two subtrees of a split
 
 module _ (panel : List ℕ) where
-  -- if a panel keeps the standings `all`, and `standing` allows volunteer `first + i` to be in the panel or out of it, as the case is, the
-  -- panel keeps `all` with this standing for this volunteer
+  -- take a panel that keeps the standings `all`. If `standing` allows volunteer `first + i` what they are, a member or none, the panel also
+  -- keeps `all` with this standing for this volunteer
   keeps_set : (first i : ℕ) (all : List Standing) (standing : Standing) → keeps panel first all ≡ true → allows standing (includes panel (first + i)) ≡ true → keeps panel first (set all i standing) ≡ true
   keeps_set first i [] standing h k = refl
   keeps_set first zero (one ∷ all) standing h k =
@@ -72,7 +72,7 @@ module _ (panel : List ℕ) where
         by (inl k) f g = f k
         by (inr k) f g = g k
 
--- ---- pools
+-- ---- trees over the standings of a pool
 
 -- if a panel keeps each volunteer's standing, it keeps the list of the volunteers' standings
 listed_standings : (panel : List ℕ) (first : ℕ) (volunteers : List Volunteer) → list_all (λ (i, volunteer). allows volunteer.standing (includes panel i)) (enumerate_from first volunteers) ≡ true →
@@ -104,7 +104,7 @@ module _ (pool : Pool) (earlier : List Stage) (stage : Stage) (tree : Tree) (hol
       (λ panel quota. implies (attains earlier panel) (int_le (panel_weight stage panel) stage.cap) (λ attained. tested-le (panel_weight stage panel) stage.cap (weighs_at_most panel quota attained)))
       (choices pool.size (everybody pool)))
 
--- ---- pools without a quota panel
+-- ---- trees that show that a pool has no quota panel
 
 weighs_nothing : (volunteers : List Volunteer) (i : ℕ) → get_or (map (λ volunteer. pos 0) volunteers) i (pos 0) ≡ pos 0
 weighs_nothing [] i = refl

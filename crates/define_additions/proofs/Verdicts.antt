@@ -28,7 +28,7 @@ caps_hold pool earlier [] trees hold show = tt
 caps_hold pool earlier (stage ∷ later) trees hold show =
     let here = cap_of_lines pool earlier stage (first_tree trees) hold show.1 in (here, caps_hold pool (stage ∷ earlier) later (later_trees trees) (here, hold) show.2)
 
--- ---- reasons
+-- ---- no reason of a proof applies exactly if no reason of a check does and the trees show the caps
 
 line_none : (stage : ℕ) (fault : Option TreeFault) → line_reason stage fault ≡ None → fault ≡ None
 line_none stage None e = refl
@@ -106,7 +106,7 @@ module _ (pool : Pool) (lottery : Lottery) where
       each_append (λ r. r ≡ None) (stage_reasons pool lottery earlier stage line lines) (reasons_from pool lottery (stage ∷ earlier) later next (later_trees trees))
       (tree_none earlier stage line lines show.0 show.1 here) (none_from_both (stage ∷ earlier) later next (later_trees trees) behind show.2)
 
--- ---- verdicts
+-- ---- which proofs are valid
 
 module _ (pool : Pool) (answer : Answer) (trees : List (List TreeLine)) where
   abbrev first_line : ℕ

@@ -1,4 +1,4 @@
--- The caps of a list of stages hold, each after the stages before it. Over Certificate of `define_pools`. The laws on trees use it.
+-- The caps of a list of stages hold, each after the stages before it. Builds on Certificate of `define_pools`. The laws on trees use it.
 use Rattle.std.specs.Prelude.{IsTrue, List, [], ◌∷◌}
 use Rattle.define_pools.specs.Certificate.{Stage, is_capped}
 use Rattle.define_pools.specs.Pool.{Pool}

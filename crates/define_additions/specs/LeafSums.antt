@@ -1,4 +1,5 @@
--- Whether the numbers of a problem are within reach, and the partial sums of a leaf's check. Over Leaves. `leaf_sums_are_narrow` uses them.
+-- Whether the numbers of a problem are within reach, and the partial sums of a leaf's check. Builds on Leaves. The law
+-- `leaf_sums_are_narrow` and `proof_verify` use them.
 use Rattle.std.specs.Prelude.{ℕ, nat_le, Bool, ◌&&◌, List, take, sum_by, unsigned_abs, ℤ, ◌+ℤ◌}
 use Rattle.std.specs.List.{enumerate_from, list_all}
 use Rattle.define_bundles.specs.Ranges.{reach}

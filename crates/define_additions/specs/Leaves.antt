@@ -1,4 +1,5 @@
--- Leaves: multipliers of constraints, whose sum shows that no panel weighs more than a cap. Over Constraints. `proof_verify` checks them.
+-- Leaves: multipliers of constraints, whose sum shows that no panel weighs more than a cap. Builds on Constraints. `proof_verify` checks
+-- them.
 use Rattle.std.specs.Prelude.{ℕ, nat_lt, if◌then◌else◌, Bool, ◌&&◌, List, [], map, length, ℤ, pos, negsuc, ◌+ℤ◌, ◌-ℤ◌, ◌*ℤ◌, int_lt}
 use Rattle.std.specs.List.{enumerate_from, list_all}
 use Rattle.define_pools.specs.declared.Standing.{Standing}

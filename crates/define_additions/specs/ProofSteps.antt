@@ -1,4 +1,4 @@
--- The order in which a proof is checked, stage by stage, as laws. Over ProofVerdict. `proof_verify` checks in this order.
+-- The order in which a proof is checked, stage by stage, as laws. Builds on ProofVerdict. `proof_verify` checks in this order.
 use Rattle.std.specs.Prelude.{◌≡◌, ℕ, ◌+◌, List, [], ◌∷◌, length}
 use Rattle.define_checks.specs.Reasons.{Refused, Valid, Verdict, first_reason, lottery_reasons, reasons_before_cap}
 use Rattle.define_pools.specs.Certificate.{Answer, Stage}
@@ -23,8 +23,8 @@ BeginsWithLottery = (pool : Pool) (answer : Answer) (trees : List (List TreeLine
     or_next (first_reason (lottery_reasons pool answer.lottery))
     (verdict_from pool answer.lottery [] answer.stages (lines_before_tree (OfLottery pool answer trees) + 1) trees)
 
--- the verdict from `stage` on is the first refusal of four verdicts, or valid if none is a refusal. They are on the reasons before the cap,
--- on the stage's tree, on the listed panels, and on what comes after the stage
+-- the verdict from `stage` on is the first refusal among four verdicts, or valid if none of them is a refusal: on the reasons before the
+-- cap, on the stage's tree, on the listed panels, and on the later stages
 abbrev pub GoesOnByStages : Type 0
 GoesOnByStages = (pool : Pool) (lottery : Lottery) (earlier later : List Stage) (stage : Stage) (line : ℕ) (trees : List (List TreeLine)) →
     verdict_from pool lottery earlier (stage ∷ later) line trees ≡

@@ -1,6 +1,5 @@
 -- Proofs that a lottery is leximin greatest, or that a pool has no quota panel, and the verdict on them: whole numbers are multiplied,
--- added and compared, and nothing is searched. Over TreeLines and Reasons of `define_checks`. An auditor of `verify` reads this
--- file.
+-- added and compared, and nothing is searched. Builds on TreeLines and Reasons of `define_checks`. An auditor of `verify` reads this file.
 use Rattle.std.specs.Prelude.{ℕ, ◌+◌, nat_le, not, List, [], ◌∷◌, ◌++◌, drop, length, slice_index_or, Option, Some, None, IsTrue}
 use Rattle.std.specs.List.{find}
 use Rattle.std.specs.Ordering.{int_eq}

@@ -1,5 +1,5 @@
--- What a refusal of a proof says of the certificate, and which line of the proof's text it names. Over ProofVerdict. `verify`'s meaning
--- cites it.
+-- What a refusal of a proof says of the certificate, and which line of the proof's text it names. Builds on ProofVerdict. `verify`'s
+-- meaning cites it.
 use Rattle.std.specs.Prelude.{◌≡◌, ℕ, ◌+◌, ◌-◌, ◌<◌, ◌≤◌, List, [], ◌∷◌, ◌++◌, length, reverse, slice_index_or, take}
 use Rattle.define_checks.specs.Reasons.{Refusal}
 use Rattle.define_pools.specs.Certificate.{Answer, Certifies, Stage}
@@ -8,13 +8,13 @@ use Rattle.define_additions.specs.Leaves.{no_panel_problem, stage_problem, stand
 use Rattle.define_additions.specs.ProofVerdict.{OfLottery, OfNoPanel, Proof, lines_before_tree}
 use Rattle.define_additions.specs.TreeLines.{TreeLine, fault, tree_fault}
 
--- if the reason is below 11, the certificate doesn't hold. Reasons from 11 on are of the trees and don't show that. A proof that there is
--- no quota panel has no certificate; it is refused only for reasons from 11 on
+-- if the reason is below 11, the certificate doesn't hold. Reasons from 11 on are about the trees and say nothing of the certificate. A
+-- proof that there is no quota panel has no certificate; it is refused only for reasons from 11 on
 abbrev pub RefusalMeans : Proof → Refusal → Type 0
 RefusalMeans (OfLottery pool answer trees) refusal = refusal.reason < 11 → Certifies pool answer.lottery answer.stages → ⊥
 RefusalMeans (OfNoPanel pool lines) refusal = 11 ≤ refusal.reason
 
--- ---- lines
+-- ---- which line of the text is named
 
 -- the number of lines of all trees of a list in a proof's text, with one more after each tree for the line that begins the next tree
 abbrev pub lines_of_trees : List (List TreeLine) → ℕ

@@ -1,5 +1,5 @@
--- Trees as lists of lines, and the first fault of lines that are not those of a tree that shows a cap. Over Trees. `proof_verify` walks
--- them.
+-- Trees as lists of lines, and the first fault of lines that are not those of a tree that shows a cap. Builds on Trees. `proof_verify`
+-- walks them.
 use Rattle.std.specs.Prelude.{◌≡◌, ℕ, ◌+◌, if◌then◌else◌, Bool, true, false, IsTrue, List, [], ◌∷◌, ◌++◌, slice_set, Option, Some, None}
 use Rattle.define_pools.specs.declared.Standing.{Standing}
 use Rattle.define_pools.specs.declared.Standing.TheVariants.{Seated, Gone}
@@ -22,7 +22,7 @@ pub record AreOfTree (problem : Problem) (standings : List Standing) (lines : Li
   pub its_lines : lines_of tree ≡ lines
   pub shows : IsTrue (tree_shows problem standings tree)
 
--- ---- line after line
+-- ---- the first fault of a list of lines
 
 -- a decision of a path: the volunteer of a split, and whether the path is in the subtree with this volunteer
 pub record Decision : Type 0 where

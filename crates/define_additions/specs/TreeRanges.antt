@@ -1,4 +1,4 @@
--- The ranges of the numbers in a tree's lines. Within them a line has a text, and no sum of a check passes 128 bits. Over TreeLines.
+-- The ranges of the numbers in a tree's lines. Within them a line has a text, and no sum of a check passes 128 bits. Builds on TreeLines.
 -- Proofs that `define_proof_texts` reads keep to them.
 use Rattle.std.specs.Prelude.{ℕ, ◌^◌, nat_lt, nat_le, Bool, ◌&&◌, map, unsigned_abs}
 use Rattle.std.specs.List.{list_all}
@@ -6,11 +6,12 @@ use Rattle.define_pools.specs.Lists.{is_increasing}
 use Rattle.define_additions.specs.Leaves.{Leaf, Multiplier}
 use Rattle.define_additions.specs.TreeLines.{OfLeaf, OfSplit, TreeLine}
 
--- the greatest scale, the greatest absolute value of a factor, and the most that a stage's absolute cap and weights may sum to
+-- the greatest scale, the greatest absolute value of a factor, and the greatest sum of the absolute values of a stage's cap and weights
 abbrev pub number_limit : ℕ
 number_limit = 2 ^ 56
 
--- the greatest number of a constraint, counted from 0: there are at most 1 for the size, 1000 values, 400 stages and 400 households
+-- the greatest number of a constraint, counted from 0: there is one for the size, and at most 1000 for values, 400 for earlier stages and
+-- 400 for households
 abbrev pub last_constraint : ℕ
 last_constraint = 1800
 

@@ -1,4 +1,4 @@
--- Trees over volunteers: a split decides a volunteer, who is on no panel of one subtree and on each panel of the other. Over Leaves.
+-- Trees over volunteers: a split decides a volunteer, who is on no panel of one subtree and on each panel of the other. Builds on Leaves.
 -- `proof_verify` checks them, the engine of `prove` makes them.
 use Rattle.std.specs.Prelude.{ℕ, Bool, true, false, ◌&&◌, List, slice_index_or, slice_set}
 use Rattle.define_pools.specs.declared.Standing.{Standing}

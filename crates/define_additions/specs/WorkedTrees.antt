@@ -1,4 +1,4 @@
--- Small proofs on which the definitions compute, for the worked examples here and of the text of proofs.
+-- Small proofs, on which the definitions compute. The worked examples of this crate, `define_proof_texts` and `define_offices` use them.
 use Rattle.std.specs.Prelude.{ℕ, List, [], ◌∷◌, ℤ, pos, negsuc}
 use Rattle.define_pools.specs.WorkedExamples.{couple, four, four_lottery, four_stages, stage}
 use Rattle.define_additions.specs.Constraints.{Constraint}
@@ -30,7 +30,7 @@ four_trees = (OfLeaf women_leaf ∷ []) ∷ (OfLeaf men_leaf ∷ []) ∷ []
 abbrev pub four_proof : List (List TreeLine) → Proof
 four_proof trees = OfLottery four (record { lottery = four_lottery; stages = four_stages }) trees
 
--- a constraint with a coefficient for each of the four
+-- a constraint with a coefficient for each of the four volunteers
 abbrev pub constraint : List ℤ → ℤ → ℤ → Constraint
 constraint coefficients lower upper = record { coefficients = coefficients; lower = lower; upper = upper }
 
@@ -49,7 +49,7 @@ split_tree = AtSplit 0 (AtLeaf (leaf 1 [])) (AtLeaf women_leaf)
 abbrev pub split_lines : List TreeLine
 split_lines = OfSplit 0 ∷ OfLeaf (leaf 1 []) ∷ OfLeaf women_leaf ∷ []
 
--- a proof of an answer over the four with one stage, in which each weighs 1; its tree is one leaf
+-- a proof of an answer for two women and two men: one stage, in which each of the four weighs 1, and its tree, which is the leaf `all`
 abbrev pub one_stage_proof : ℤ → Leaf → Proof
 one_stage_proof cap all = OfLottery four (record { lottery = four_lottery; stages = stage cap (pos 1 ∷ pos 1 ∷ pos 1 ∷ pos 1 ∷ []) ∷ [] }) ((OfLeaf all ∷ []) ∷ [])
 

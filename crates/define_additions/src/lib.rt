@@ -1,7 +1,7 @@
-//! Proofs by additions: the constraints of a stage's problem, leaves and trees that show its cap, the lines of a tree, and the verdict
-//! on a proof. The definitions are in `specs/`. Stands on `define_checks`, `define_searches`, `define_bundles` and
-//! `define_pools`. Above: `proof_verify`, which checks proofs; `define_proof_texts`, which has their text; the engine of `prove`,
-//! which makes them; the meanings of the commands, and the definitions of the office.
+//! Proofs by additions: the constraints of a stage's problem, leaves and trees that show its cap, the lines of a tree, and the verdict on a
+//! proof. The definitions are in `specs/`. Stands on `define_checks`, `define_searches`, `define_bundles` and `define_pools`. Used by
+//! `proof_verify`, which checks proofs; `define_proof_texts`, which has their text; the engine of `prove`, which makes them; the meanings
+//! of the commands, and the definitions of the office.
 //!
 //! The functions have no body: their contracts are laws over the definitions, and worked examples. The promises that matter most are
 //! `valid_is_greatest` and `valid_no_panel`.
@@ -30,8 +30,8 @@ ghost use Rattle.define_additions.specs.Trees.{Tree, is_undecided, tree_shows};
 ghost use Rattle.define_additions.specs.WorkedTrees.{constraint, couple_lines, couple_proof, double_leaf, four_proof, four_trees, leaf, men_leaf, one_stage_proof, size_leaf, split_lines, split_tree, times, unknown_leaf, women_leaf};
 ghost use Rattle.define_additions.specs.TreeLines.{AreOfTree, OfLeaf, OfSplit, TreeFault, TreeLine, fault, lines_of, tree_fault};
 
-/// If the earlier caps hold, a tree that shows a stage's cap proves that it holds: no quota panel that attains the earlier caps weighs
-/// more.
+/// If the earlier caps hold, a tree that shows a stage's cap proves that this cap holds: no quota panel that attains the earlier caps
+/// weighs more.
 pub fn tree_shows_cap()
     ensures { (pool : Pool) (earlier : List Stage) (stage : Stage) (tree : Tree) → EarlierCapsHold pool earlier →
         IsTrue (tree_shows (stage_problem pool earlier stage) (standings pool) tree) → IsTrue (is_capped pool earlier stage) }
@@ -147,9 +147,9 @@ pub fn valid_proofs()
     ensures no_panel { verdict (couple_proof couple_lines) ≡ Valid }
 {}
 
-/// Leaves that don't show the cap: with another multiplier, in the first stage and in the second; with a constraint that the stage
-/// doesn't have; in the subtree with a volunteer; and for a pool that has quota panels. The first tree begins with line 20 of the text,
-/// or in the last example with line 14.
+/// Leaves that don't show the cap: with a wrong multiplier, in the first stage and in the second; with a constraint that the stage doesn't
+/// have; without multipliers, in the subtree with a volunteer; and for a pool that has quota panels. The first tree begins with line 20 of
+/// the text, or in the last example with line 14.
 pub fn leaves_refused()
     ensures multiplier { verdict (four_proof ((OfLeaf double_leaf ∷ []) ∷ (OfLeaf men_leaf ∷ []) ∷ [])) ≡ refused 1 12 (20 ∷ []) }
     ensures second_stage { verdict (four_proof ((OfLeaf women_leaf ∷ []) ∷ (OfLeaf double_leaf ∷ []) ∷ [])) ≡ refused 2 12 (22 ∷ []) }
@@ -170,8 +170,8 @@ pub fn lines_refused()
         (OfSplit 1 ∷ OfLeaf size_leaf ∷ OfSplit 2 ∷ OfLeaf size_leaf ∷ OfLeaf size_leaf ∷ []) ≡ fault 3 11 }
 {}
 
-/// Proofs refused for other reasons: of the lottery, a weight below 0, a stage out of reach, a listed panel's weight, and a volunteer who
-/// is unsettled at the end.
+/// Proofs refused for other reasons: a listed panel that is no quota panel, a weight below 0, a stage out of reach, a listed panel that
+/// doesn't weigh the cap, and a volunteer who is unsettled at the end.
 pub fn other_reasons()
     ensures lottery { verdict (OfLottery four two_women []) ≡ refused 0 1 (0 ∷ 1 ∷ []) }
     ensures negative { verdict (OfLottery four below_zero []) ≡ refused 1 4 (2 ∷ []) }

@@ -103,7 +103,7 @@ pool_adds second (pools.Ended pool) line right h = given (total_of (fields_of li
         ap (λ version. bundle_line version ∷ (pool_lines pool ++ total_line total ∷ [])) right.1 ∙ ap (λ l. bundle_line second ∷ (pool_lines pool ++ l ∷ [])) (sym spelled.0) in
         subst (λ t. Adds (InPool second (pools.Ended pool)) line (InRows pool (record { total = t; rows = [] }))) (sym known) (right_rows, lines)
 
--- a line without a fault after the total's or a panel's keeps the progress right, and becomes the last of the lines so far
+-- a line without a fault that follows the total or a panel line keeps the progress right, and becomes the last of the lines so far
 row_adds : (pool : Pool) (lottery : Lottery) (line : List ℕ) (said : AnswerLine) → IsRight (InRows pool lottery) → IsSpelled (length pool.volunteers) line said →
     lowest_kind (row_kinds (ltb 0 (length lottery.rows)) said) ≡ None → Adds (InRows pool lottery) line (after_row pool lottery said)
 row_adds pool lottery line (OfRow row) right spelled h =
@@ -133,7 +133,7 @@ row_adds pool lottery line FaultyStage right spelled h = absurd (no_way (ltb 0 (
 row_adds pool lottery line TheDone right spelled h = cc
 row_adds pool lottery line Unknown right spelled h = cc
 
--- a line without a fault after a stage's keeps the progress right, and becomes the last of the lines so far
+-- a line without a fault that follows a stage line keeps the progress right, and becomes the last of the lines so far
 stage_adds : (pool : Pool) (answer : Answer) (line : List ℕ) (said : AnswerLine) → IsRight (InStages pool answer) → IsSpelled (length pool.volunteers) line said →
     lowest_kind (stage_kinds said) ≡ None → Adds (InStages pool answer) line (after_stage pool answer said)
 stage_adds pool answer line (OfRow row) right spelled h = cc

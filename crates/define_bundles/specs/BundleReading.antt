@@ -1,5 +1,5 @@
--- How bytes are read as the text of a bundle: the bundle, or the first faulty line and its lowest kind of fault. Over BundleText and the
--- reading of pools. `bundle_text` reads so, and the reading of proofs uses it.
+-- How bytes are read as the text of a bundle: the bundle, or the first faulty line and its lowest kind of fault. Builds on BundleText and
+-- the reading of pools. `bundle_text` reads this way, and the reading of proofs uses it.
 use Rattle.std.specs.Prelude.{ℕ, ◌-◌, ◌^◌, nat_lt, if◌then◌else◌, Bool, true, false, not, ◌||◌, List, [], ◌∷◌, ◌++◌, length, bytes_eq, codes, ℤ, Option, Some, None, Result, Ok, Err, unwrap_or, is_some}
 use Rattle.define_pools.specs.Pool.{Pool}
 use Rattle.define_pools.specs.Lottery.{Lottery, LotteryRow}
@@ -44,7 +44,7 @@ weight_in_range (Some weight) = if is_weight weight then Some weight else None
 abbrev pub weight_of : List ℕ → Option ℕ
 weight_of field = weight_in_range (number_up_to (10 ^ 38) field)
 
--- the number, then the numbers, as one list; None if one of the two is missing
+-- the number, then the numbers, as one list; None if the number or the numbers are missing
 abbrev pub with_number : {A : Type 0} → Option A → Option (List A) → Option (List A)
 with_number (Some number) (Some numbers) = Some (number ∷ numbers)
 with_number _ _ = None
@@ -104,8 +104,8 @@ abbrev pub total_of : List (List ℕ) → Option ℕ
 total_of (first ∷ field ∷ []) = if bytes_eq first (codes "total") then weight_of field else None
 total_of _ = None
 
--- the kinds of fault of a line up to the total, given the progress of the pool's lines. 1: the pool's version isn't the bundle's; 14: after
--- the pool's end, the line is no total's
+-- the kinds of fault of a line up to the total, given the progress of the pool's lines. 1: the pool's version isn't the bundle's; 14: the
+-- line after the pool's end isn't that of a total
 abbrev pub pool_kinds : Bool → pools.Progress → List ℕ → List (ℕ × Bool)
 pool_kinds second pools.Begun line = (1, not (bytes_eq line (version_line second))) ∷ []
 pool_kinds second (pools.Versioned version) line = pools.line_kinds (pools.Versioned version) line

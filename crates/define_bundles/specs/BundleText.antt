@@ -1,5 +1,5 @@
--- The text of a bundle: each bundle has one spelling, whose version is that of its pool's text. Over PoolText and Ranges. `bundle_text`
--- writes it, and the text of a proof contains it.
+-- The text of a bundle: each bundle has one spelling, whose version is that of its pool's text. Builds on PoolText and Ranges.
+-- `bundle_text` writes it, and the text of a proof contains it.
 use Rattle.std.specs.Prelude.{ℕ, Bool, List, [], ◌∷◌, ◌++◌, map, codes}
 use Rattle.std.specs.Fmt.{decimal, signed_decimal}
 use Rattle.define_pools.specs.Pool.{Pool, IsPool, has_households}

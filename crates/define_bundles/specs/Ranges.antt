@@ -18,7 +18,7 @@ is_group volunteers panel = nat_lt 0 (length panel) && is_increasing panel && li
 abbrev pub is_row : ℕ → LotteryRow → Bool
 is_row volunteers row = is_weight row.weight && is_group volunteers row.panel
 
--- a stage's reach: the sum of the absolute values of its cap and weights, which no sum of them exceeds
+-- a stage's reach: the sum of the absolute values of its cap and weights. No sum of some of these numbers exceeds it in absolute value
 abbrev pub reach : Stage → ℕ
 reach stage = unsigned_abs stage.cap + sum_by unsigned_abs stage.weights
 

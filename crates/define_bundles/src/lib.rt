@@ -1,6 +1,6 @@
 //! A bundle is a pool with its answer. Here are the ranges of the answer's numbers, the bundle's text, and the first fault of bytes that
-//! are no bundle's text. The definitions are in `specs/`. Stands on `define_pools`, `define_pool_texts` and `define_lines`. Above:
-//! `bundle_text`, which reads and writes bundles; `define_checks`, which checks them; the text of proofs; the commands.
+//! are no bundle's text. The definitions are in `specs/`. Stands on `define_pools`, `define_pool_texts` and `define_lines`. Used by
+//! `bundle_text`, which reads and writes bundles; `define_checks`, which checks them; the text of proofs; the commands and the office.
 //!
 //! The functions have no body. They are the promises: laws over the definitions, and worked examples.
 #![tactic(auto)]

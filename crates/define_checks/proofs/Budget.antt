@@ -7,7 +7,7 @@ use Rattle.define_checks.specs.Reasons.{Valid, Verdict, verdict}
 use Rattle.define_checks.specs.Visits.{check_answer, first_spent, is_ahead, unless_spent}
 use Rattle.define_checks.proofs.ReasonsStand.{valid_where_certified}
 
--- the answer is the verdict, or the visits are spent before its reason is tried
+-- the answer is the verdict, or the visits are spent before the verdict's reason is tried
 unless_cases : (spent : Option ℕ) (verdict : Verdict) → MatchResult (unless_spent spent verdict) (λ said. said ≡ verdict) (λ stage. (spent ≡ Some stage) × (is_ahead stage verdict ≡ false))
 unless_cases None verdict = refl
 unless_cases (Some stage) verdict =

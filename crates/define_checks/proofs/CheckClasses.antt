@@ -37,7 +37,7 @@ equal_along : (stages : List Stage) (i j k : ℕ) → Equal stages i j → Equal
 equal_along [] i j k h g = tt
 equal_along (stage ∷ stages) i j k h g = (h.0 ∙ g.0, equal_along stages i j k h.1 g.1)
 
--- If `P i j` implies that `i` and `j` have equal weights in all stages, it implies it for each stage alone.
+-- If `P i j` implies that `i` and `j` have equal weights in all stages, then for each single stage it implies equal weights there.
 each_turned : (n : ℕ) (P : ℕ → ℕ → Type 0) (stages : List Stage) → ((i j : ℕ) → P i j → Equal stages i j) →
     AllByRecursion (λ stage. (i j : ℕ) → i < n → j < n → P i j → weight_of stage i ≡ weight_of stage j) stages
 each_turned n P [] f = tt

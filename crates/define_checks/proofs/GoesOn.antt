@@ -25,7 +25,7 @@ first_joined [] ys = refl
 first_joined (None ∷ xs) ys = first_joined xs ys
 first_joined (Some refusal ∷ xs) ys = refl
 
--- ---- numbers of stages and reasons
+-- ---- which reasons are tried before the search at a stage
 
 -- if the reason applies, `P` holds of it
 abbrev IfStands : (Refusal → Type 0) → Option Refusal → Type 0
@@ -92,7 +92,7 @@ module _ (pool : Pool) (lottery : Lottery) where
       by None h = tt
       by (Some refusal) h = f refusal h
 
-  -- the reasons of the stages `later` and of the end aren't tried before the search at the last of the stages `earlier`
+  -- the reasons of the stages `later` and of the end aren't tried before the search at the latest of the stages `earlier`
   all_behind : (earlier later : List Stage) → AllByRecursion (IfStands (Behind (length earlier))) (reasons_from pool lottery earlier later)
   all_behind earlier [] =
       (numbered (Behind (length earlier)) (length earlier) 10 (one (find (λ i. not (is_settled earlier i)) (everybody pool))) (λ who. record { not_before = le_of_eq refl; late = λ e. omega arith }), tt)
@@ -147,7 +147,7 @@ behind_spent stage (Refused refusal) h =
     let m = h.late (eqb-true refusal.stage stage parts.0) in let k = ltb-true refusal.reason 8 parts.1 in absurd (omega arith)) in
     rw (not_less, not_early) refl
 
--- ---- the steps
+-- ---- a check goes from the lottery to the stages, and from stage to stage
 
 pub begins_with_lottery : BeginsWithLottery
 begins_with_lottery pool answer nodes =

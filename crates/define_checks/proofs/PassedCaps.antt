@@ -71,7 +71,7 @@ module _ (pool : Pool) (earlier : List Stage) (stage : Stage) where
   abbrev qualifies : List ℕ → Bool
   qualifies counts = attains closed counts && int_lt row.b (weight_in row.a counts)
 
-  -- ---- where nothing is found
+  -- ---- if no composition is found, the cap holds
 
   pub capped_where_none : composition_above pool earlier stage ≡ None → is_capped pool earlier stage ≡ true
   capped_where_none none = capped_where_nothing_priced pool alike earlier stage makes weigh ((price_none_where all closed row).1 conflict)
@@ -81,7 +81,7 @@ module _ (pool : Pool) (earlier : List Stage) (stage : Stage) where
           let fails = each_contains (λ counts. qualifies counts ≡ false) (compositions all) counts (find-none qualifies (compositions all) none) q.composition in
           false≢true (sym fails ∙ and_from (attains closed counts) (int_lt row.b (weight_in row.a counts)) q.attained q.above)
 
-  -- ---- where one is found
+  -- ---- if a composition is found, the cap is passed
 
   -- a quota panel that attains the earlier caps and weighs more than the stage's cap
   pub record Passes (panel : List ℕ) : Type 0 where
@@ -116,7 +116,7 @@ module _ (pool : Pool) (earlier : List Stage) (stage : Stage) where
           (each_from_list_all (λ panel. not (certificate.attains earlier panel) || int_le (panel_weight stage panel) stage.cap) (panels pool) capped) panel passes.quota in
           absurd (not_above stage.cap (panel_weight stage panel) (implied (certificate.attains earlier panel) (int_le (panel_weight stage panel) stage.cap) within passes.attained) passes.above)
 
-  -- ---- the panel of first members
+  -- ---- a panel is found exactly if the cap is passed
 
   none_of_panel : (found : Option (List ℕ)) → option_map (first_panel all) found ≡ None → found ≡ None
   none_of_panel None e = refl
@@ -135,7 +135,7 @@ module _ (pool : Pool) (earlier : List Stage) (stage : Stage) where
       by None f e = absurd cc
       by (Some counts) f e = let same : first_panel all counts ≡ panel = cc in subst Passes same (passes_where_found counts f)
 
-  -- ---- the search
+  -- ---- the search at a stage finds this composition
 
   pub stage_search_finds : (stage_search pool earlier stage).found ≡ composition_above pool earlier stage
   stage_search_finds = above_search_finds all closed row (rows_have_entries pool (stage ∷ earlier) (stage ∷ earlier)) (classes_in_order pool alike)

@@ -18,7 +18,7 @@ use Rattle.define_checks.specs.Reasons.{Refusal, Valid, first_count, first_reaso
 use Rattle.define_checks.proofs.PassedCaps.{capped_where_no_panel, no_panel_where_capped}
 use Rattle.define_checks.proofs.Repeated.{all_different_where_none, none_where_all_different}
 
--- ---- reasons
+-- ---- lists of reasons of which none applies
 
 abbrev pub NoneStands : List (Option Refusal) → Type 0
 NoneStands rs = AllByRecursion (λ r. r ≡ None) rs
@@ -48,7 +48,7 @@ pub unless_none : (holds : Bool) → nobody_unless holds ≡ None → holds ≡ 
 unless_none true e = refl
 unless_none false e = absurd cc
 
--- ---- what is found
+-- ---- `find` finds nothing exactly if no element passes its test
 
 none_found : {X : Type 0} (p : X → Bool) (xs : List X) → AllByRecursion (λ x. p x ≡ false) xs → find p xs ≡ None
 none_found p [] h = refl
@@ -66,7 +66,7 @@ panels_pass q lottery e = sym (list_all-map q (λ (row : LotteryRow). row.panel)
 no_panel_fails : (q : List ℕ → Bool) (lottery : Lottery) → list_all (λ row. q row.panel) lottery.rows ≡ true → find (λ panel. not (q panel)) (listed lottery) ≡ None
 no_panel_fails q lottery h = none_fails (λ panel. not (q panel)) q (λ panel. not_from_true (q panel)) (listed lottery) (list_all-map q (λ (row : LotteryRow). row.panel) lottery.rows ∙ h)
 
--- ---- tests
+-- ---- a number is at least 0 if it is not below 0
 
 not_below : (w : ℤ) → int_lt w (pos 0) ≡ false → int_le (pos 0) w ≡ true
 not_below w e = sym (true_is_le (pos 0) w (omega (arith, lt-false w (pos 0) e)))
@@ -74,7 +74,7 @@ not_below w e = sym (true_is_le (pos 0) w (omega (arith, lt-false w (pos 0) e)))
 at_least : (w : ℤ) → int_le (pos 0) w ≡ true → int_lt w (pos 0) ≡ false
 at_least w h = false_from_ne_true (int_lt w (pos 0)) (λ e. absurd (omega (arith, le-true (pos 0) w h, lt-true w (pos 0) e)))
 
--- ---- the lottery
+-- ---- no reason of the lottery applies exactly if it is a lottery
 
 lottery_holds : (pool : Pool) (answer : Answer) → IsInRanges pool answer → NoneStands (lottery_reasons pool answer.lottery) → IsLottery pool answer.lottery
 lottery_holds pool answer ranges none =
@@ -102,7 +102,7 @@ lottery_stands pool lottery is =
     let total = none_reason 0 3 (nobody_unless (eqb lottery.total (sum_by (λ row. row.weight) lottery.rows))) (ap nobody_unless (eq-eqb lottery.total (sum_by (λ row. row.weight) lottery.rows) is.total_agrees.total)) in
     (panels, (different, (total, tt)))
 
--- ---- a stage
+-- ---- no reason of a stage applies exactly if the stage holds
 
 -- If all volunteers of a list that isn't empty have the count `T`, so has the first.
 first_shares : (lottery : Lottery) (T : ℕ) (xs : List ℕ) → ltb 0 (length xs) ≡ true → list_all (λ i. eqb (count lottery i) T) xs ≡ true → first_count lottery xs ≡ T
@@ -157,7 +157,7 @@ module _ (pool : Pool) (lottery : Lottery) (earlier : List Stage) (stage : Stage
       let off = none_reason number 9 (find (λ panel. not (int_eq (panel_weight stage panel) stage.cap)) (listed lottery)) (no_panel_fails (λ panel. int_eq (panel_weight stage panel) stage.cap) lottery holds.reached) in
       (negative, (positive, (other, (lower, (above, (off, tt))))))
 
--- ---- all stages
+-- ---- no reason of the stages applies exactly if all stages hold
 
 module _ (pool : Pool) (lottery : Lottery) where
   stages_hold : (earlier later : List Stage) → AllByRecursion (λ stage. length stage.weights ≡ length pool.volunteers) later → NoneStands (reasons_from pool lottery earlier later) → StagesHold pool lottery earlier later
@@ -179,7 +179,7 @@ module _ (pool : Pool) (lottery : Lottery) where
       each_append (λ r. r ≡ None) (stage_reasons pool lottery earlier stage) (reasons_from pool lottery (stage ∷ earlier) later)
       (stage_stands pool lottery earlier stage holds.0) (stages_stand (stage ∷ earlier) later holds.1)
 
--- ---- the verdict
+-- ---- the verdict is valid exactly if the certificate holds
 
 module _ (pool : Pool) (answer : Answer) where
   pub valid_where_certified : Certifies pool answer.lottery answer.stages → verdict pool answer ≡ Valid

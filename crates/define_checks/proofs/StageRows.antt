@@ -1,4 +1,4 @@
--- The rows of stages over the classes of a check: an entry for each class, and a reach that is the stage's.
+-- The rows of stages over the classes of a check: each has an entry for each class, and the reach of its stage.
 use Rattle.std.proofs.Common.{◌≡◌, ℕ, suc, ◌+◌, ◌-◌, ◌*◌, ◌^◌, ◌<◌, Bool, true, eqb, leb, List, [], ◌∷◌, map, length, get_or, pos, refl, sym, ap, ap₂, ◌∙◌, subst, arith}
 use Rattle.std.specs.Prelude.{unsigned_abs}
 use Rattle.std.specs.List.{list_all, range_with_len}

@@ -1,5 +1,5 @@
 -- How a check finds a quota panel above the cap of a stage: it searches compositions over classes of its own. A list of earlier stages has
--- the latest first. Over Compositions and Stages of `define_searches`. `check_search` searches so.
+-- the latest first. Builds on Compositions and Stages of `define_searches`. `check_search` searches this way.
 use Rattle.std.specs.Prelude.{ℕ, Bool, ◌&&◌, List, ◌∷◌, map, Option, int_lt}
 use Rattle.std.specs.List.{find, list_all}
 use Rattle.std.specs.Option.{option_map}

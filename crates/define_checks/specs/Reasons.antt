@@ -1,5 +1,5 @@
--- The reasons for which a certificate is refused, in the order in which they are tried: those of the lottery, then stage by stage. Over
--- Caps. An auditor of `check` reads this file. `check_reasons` has their code.
+-- The reasons for which a certificate is refused, in the order in which they are tried: those of the lottery, then stage by stage. Builds
+-- on Caps. An auditor of `check` reads this file. `check_reasons` has their code.
 use Rattle.std.specs.Prelude.{ℕ, ◌+◌, ◌==◌, nat_lt, if◌then◌else◌, Bool, not, List, [], ◌∷◌, ◌++◌, length, map, pos, sum_by, int_lt, Option, Some, None}
 use Rattle.std.specs.List.{find}
 use Rattle.std.specs.Option.{option_map}
@@ -22,16 +22,17 @@ pub data Verdict : Type 0 where
   Valid : Verdict
   Refused : (refusal : Refusal) → Verdict
 
--- reason `number` at stage `stage`: it holds if there is a list `who`, of those who show it
+-- the refusal for reason `number` at stage `stage`, if the reason holds: then there is a list of the volunteers who show it
 abbrev pub reason : ℕ → ℕ → Option (List ℕ) → Option Refusal
 reason stage number None = None
 reason stage number (Some who) = Some (record { stage = stage; reason = number; who = who })
 
--- if there is a volunteer, the list with the volunteer alone, as those who show a reason
+-- the list of those who show a reason, for a reason that one volunteer shows; None if no volunteer was found
 abbrev pub one : Option ℕ → Option (List ℕ)
 one volunteer = option_map (λ i. i ∷ []) volunteer
 
--- the empty list if the test fails: a reason that holds then, and that nobody shows
+-- the list of those who show a reason, for a reason that holds if the test `holds` fails and that no volunteer shows: empty if the test
+-- fails, else None
 abbrev pub nobody_unless : Bool → Option (List ℕ)
 nobody_unless holds = if holds then None else Some []
 
@@ -39,7 +40,7 @@ nobody_unless holds = if holds then None else Some []
 abbrev pub listed : Lottery → List (List ℕ)
 listed lottery = map (λ row. row.panel) lottery.rows
 
--- the first list that equals an earlier one; `earlier` are lists that came before all of them
+-- the first list of the second argument that equals a list before it; `earlier` are lists that come before all of these
 abbrev pub first_repeated : List (List ℕ) → List (List ℕ) → Option (List ℕ)
 first_repeated earlier [] = None
 first_repeated earlier (xs ∷ later) = if includes_list earlier xs then Some xs else first_repeated (xs ∷ earlier) later
@@ -49,7 +50,7 @@ abbrev pub first_count : Lottery → List ℕ → ℕ
 first_count lottery [] = 0
 first_count lottery (i ∷ rest) = count lottery i
 
--- the count that all whom a stage settles must have: that of the first one
+-- the count that all volunteers whom a stage settles must have: the count of the first of them
 abbrev pub shared_count : Pool → Lottery → List Stage → Stage → ℕ
 shared_count pool lottery earlier stage = first_count lottery (settling pool earlier stage)
 
@@ -89,7 +90,7 @@ cap_reasons pool lottery earlier stage =
 abbrev pub stage_reasons : Pool → Lottery → List Stage → Stage → List (Option Refusal)
 stage_reasons pool lottery earlier stage = reasons_before_cap pool lottery earlier stage ++ cap_reasons pool lottery earlier stage
 
--- all reasons of the stages `later` after the stages `earlier`, and that of the end
+-- all reasons of the stages `later` after the stages `earlier`, and the reason after the last stage
 abbrev pub reasons_from : Pool → Lottery → List Stage → List Stage → List (Option Refusal)
 reasons_from pool lottery earlier [] =
     -- 10: somebody is unsettled after the last stage
@@ -97,7 +98,7 @@ reasons_from pool lottery earlier [] =
 reasons_from pool lottery earlier (stage ∷ later) =
     stage_reasons pool lottery earlier stage ++ reasons_from pool lottery (stage ∷ earlier) later
 
--- all reasons
+-- all reasons for which a certificate may be refused, in order
 abbrev pub reasons : Pool → Answer → List (Option Refusal)
 reasons pool answer = lottery_reasons pool answer.lottery ++ reasons_from pool answer.lottery [] answer.stages
 

@@ -1,4 +1,4 @@
--- The order in which a check goes from stage to stage, as laws. Over Reasons and Visits. `cert_check` goes so.
+-- The order in which a check goes from stage to stage, as laws. Builds on Reasons and Visits. `cert_check` checks in this order.
 use Rattle.std.specs.Prelude.{◌≡◌, ℕ, ◌+◌, nat_lt, if◌then◌else◌, List, [], ◌∷◌, length, Result, Ok, Err}
 use Rattle.define_pools.specs.Certificate.{Answer, Stage}
 use Rattle.define_pools.specs.Lottery.{Lottery}

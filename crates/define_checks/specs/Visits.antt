@@ -1,5 +1,5 @@
--- The search of a check at a stage, front by front, and what a check answers under a budget of visits at each stage. Over Caps.
--- `check_search` counts so.
+-- The search of a check at a stage, front by front, and what a check answers under a budget of visits at each stage. Builds on Caps.
+-- `check_search` counts visits this way.
 use Rattle.std.specs.Prelude.{ℕ, ◌+◌, ◌==◌, nat_lt, if◌then◌else◌, Bool, false, ◌&&◌, ◌||◌, List, [], ◌∷◌, ◌++◌, filter, length, map, Option, Some, None, Result, Ok, Err}
 use Rattle.define_pools.specs.Certificate.{Answer, Stage}
 use Rattle.define_pools.specs.Pool.{Pool}

@@ -33,11 +33,11 @@ alone stage reason who = Some (refusal stage reason who) ∷ []
 
 -- ---- over two women, a and b, and two men, c and d
 
--- a stage that settles all four
+-- one stage, which settles all four volunteers
 abbrev pub all_at_once : List Stage
 all_at_once = stage (pos 2) (pos 1 ∷ pos 1 ∷ pos 1 ∷ pos 1 ∷ []) ∷ []
 
--- panels of two women, and of two men
+-- an answer with a panel of the two women and a panel of the two men
 abbrev pub two_women : Answer
 two_women = answer (drawn 2 (row (0 ∷ 1 ∷ []) 1 ∷ row (2 ∷ 3 ∷ []) 1 ∷ [])) all_at_once
 
@@ -65,7 +65,7 @@ uneven = answer (drawn 3 (row (0 ∷ 2 ∷ []) 1 ∷ row (1 ∷ 3 ∷ []) 2 ∷ 
 abbrev pub low_cap : Answer
 low_cap = answer four_lottery (stage (pos 1) (pos 1 ∷ pos 0 ∷ pos 0 ∷ pos 1 ∷ []) ∷ stage (pos 0) (negsuc 0 ∷ pos 1 ∷ pos 1 ∷ negsuc 0 ∷ []) ∷ [])
 
--- as `low_cap`, and in the second stage b has a weight below 0 while unsettled
+-- `low_cap` with another second stage, in which b, who is unsettled, has a weight below 0
 abbrev pub low_cap_and_negative : Answer
 low_cap_and_negative = answer four_lottery (stage (pos 1) (pos 1 ∷ pos 0 ∷ pos 0 ∷ pos 1 ∷ []) ∷ stage (pos 0) (negsuc 0 ∷ negsuc 0 ∷ pos 1 ∷ pos 1 ∷ []) ∷ [])
 

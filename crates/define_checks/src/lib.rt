@@ -40,7 +40,7 @@ pub fn stage_rows_keep_reach()
 {}
 
 /// A panel above the cap is found exactly if the stage's cap doesn't hold. It is a quota panel that attains the earlier caps and weighs
-/// more than the stage's.
+/// more than the stage's cap.
 pub fn first_above_cap_shows()
     ensures none { (pool : Pool) (earlier : List Stage) (stage : Stage) → first_above_cap pool earlier stage ≡ None ↔ IsTrue (is_capped pool earlier stage) }
     ensures panel { (pool : Pool) (earlier : List Stage) (stage : Stage) (panel : List ℕ) → first_above_cap pool earlier stage ≡ Some panel →
@@ -68,13 +68,13 @@ pub fn above_search_is_first()
         (above_search all closed row).found ≡ first_above all closed row }
 {}
 
-/// The search at a stage finds the first composition that attains the earlier caps and weighs more than the stage's.
+/// The search at a stage finds the first composition that attains the earlier caps and weighs more than the stage's cap.
 pub fn stage_search_is_first()
     ensures { (pool : Pool) (earlier : List Stage) (stage : Stage) → (stage_search pool earlier stage).found ≡ composition_above pool earlier stage }
 {}
 
-/// A check answers the verdict, or the first stage at which the visits are spent before its reason is tried. If they are spent at no
-/// stage, it answers the verdict.
+/// A check answers the verdict, or the first stage at which the visits are spent, if they are spent before the verdict's reason is tried.
+/// If they are spent at no stage, it answers the verdict.
 pub fn check_answers_verdict()
     ensures answer { (pool : Pool) (answer : Answer) (nodes : ℕ) → MatchResult (check_answer pool answer nodes) (λ said. said ≡ verdict pool answer)
         (λ stage. (first_spent pool nodes [] answer.stages ≡ Some stage) × IsFalse (is_ahead stage (verdict pool answer))) }
@@ -101,21 +101,22 @@ pub fn valid_certificates()
     ensures family { verdict family (answer family_lottery family_stages) ≡ Valid }
 {}
 
-/// Lotteries that are refused: two women on a panel, a panel listed twice, a total that isn't the sum. In A, B, B, A the third is the
-/// first repeated one.
+/// Lotteries that are refused: two women on a panel, a panel listed twice, a total that isn't the sum. In A, B, B, A the third panel is
+/// the first that repeats an earlier one.
 pub fn lotteries_refused()
     ensures no_quota_panel { reasons_that_stand four two_women ≡ alone 0 1 (0 ∷ 1 ∷ []) }
     ensures listed_twice { reasons_that_stand four twice ≡ alone 0 2 (1 ∷ 3 ∷ []) }
     ensures other_total { reasons_that_stand four three_in_all ≡ alone 0 3 [] }
 {}
 
-/// Stages that are refused for their weights: one below 0 for somebody unsettled, and none above 0.
+/// Stages that are refused for their weights: somebody unsettled has a weight below 0; nobody unsettled has a weight above 0.
 pub fn weights_refused()
     ensures negative { reasons_that_stand four below_zero ≡ alone 1 4 (2 ∷ []) }
     ensures none_positive { reasons_that_stand four all_zero ≡ alone 1 5 [] }
 {}
 
-/// Stages that are refused for counts: those whom they settle have different counts, or somebody unsettled has a lower one.
+/// Stages that are refused for counts: volunteers whom a stage settles have different counts; somebody unsettled has a lower count than the
+/// volunteer whom the stage settles.
 pub fn counts_refused()
     ensures different { reasons_that_stand four uneven ≡ alone 1 6 (1 ∷ []) }
     ensures lower { reasons_that_stand without_b too_early ≡ alone 2 7 (2 ∷ []) }
@@ -164,7 +165,7 @@ pub fn classes_of_checks()
 {}
 
 /// If a and c are of one household, no panel has both, and the first cap holds. If they aren't, the panel of a and c passes it. The second
-/// stage is only about panels that attain the first cap; the panel of b and d doesn't.
+/// stage is only about panels that attain the first cap, which the panel of b and d doesn't attain.
 pub fn households_checked()
     ensures one_household { verdict family (answer family_lottery household_stages) ≡ Valid }
     ensures no_household { verdict four (answer family_lottery household_stages) ≡ refused 1 8 (0 ∷ 2 ∷ []) }

@@ -18,7 +18,7 @@ use Rattle.define_conflicts.specs.declared.WeightedQuota.{WeightedQuota}
 use Rattle.define_conflicts.specs.LeastMisses.{asked, given, given_by, is_side, quotas_of, taken_by, weighed_bound, weighed_bounds, weighed_misses, weight_for, weights_for}
 use Rattle.define_conflicts.specs.Quotas.{MissAt, bound, counts, is_selection_at, keeps, miss, missed, misses}
 
--- a double sum is the same over `xs` first or over `ys` first
+-- a double sum is the same whether it goes over `xs` or over `ys` first
 exchanged : {X Y : Type 0} (f : X → Y → ℕ) (xs : List X) (ys : List Y) → total (λ x. total (f x) ys) xs ≡ total (λ y. total (λ x. f x y) xs) ys
 exchanged f [] ys = sym (total-zero (λ y. 0) (λ y. refl) ys)
 exchanged f (x ∷ xs) ys = let rest = exchanged f xs ys in let split = total-add (f x) (λ y. total (λ x. f x y) xs) ys in omega (arith, rest, split)
@@ -31,7 +31,7 @@ counted p w xs = total_ext (λ i. cond (p i) w 0) (λ i. one_if (p i) * w) (λ i
     one true = omega arith
     one false = omega arith
 
--- ---- one quota
+-- ---- what one quota asks for, and its miss
 
 least_missed : (w b m : ℕ) → w * b ≤ m * w + w * (b - m)
 least_missed w b m = let h : b ≤ m + (b - m) = omega arith in omega (arith, mul-le-mul_left w h)
@@ -40,7 +40,8 @@ most_missed : (w b m : ℕ) → m * w ≤ w * b + w * (m - b)
 most_missed w b m = let h : m ≤ b + (m - b) = omega arith in omega (arith, mul-le-mul_left w h)
 
 module _ (selection : List ℕ) where
-  -- a quota of side `side` with the bound `b` and the weight `w`, which counts those who pass `p`
+  -- one quota with the bound `b` and the weight `w`, which counts those who pass `p`: for a least number, `w * b` is at most `w` for each
+  -- member who passes, plus `w` times the miss; for a greatest number, `w` for each such member is at most `w * b` plus `w` times the miss
   one_side : (side : Side) (b w : ℕ) (p : ℕ → Bool) →
       cond (is_side AtLeast side) (w * b) 0 + total (λ i. cond (is_side AtMost side && p i) w 0) selection ≤
       total (λ i. cond (is_side AtLeast side && p i) w 0) selection + (cond (is_side AtMost side) (w * b) 0 + w * missed side b (count_by p selection))
@@ -53,7 +54,7 @@ module _ (selection : List ℕ) where
       let all = counted p w selection in
       let most = most_missed w b (count_by p selection) in omega (arith, none, all, most)
 
-  -- ---- all quotas
+  -- ---- what all quotas ask for, and their misses
 
   module _ (pool : Pool) where
     -- the sum of the weights of a quota of a side, over the selection's members whom it counts
@@ -92,9 +93,10 @@ module _ (selection : List ℕ) where
         let taken = members_weigh-is AtMost weighted in
         omega (arith, each, left, right, apart, least, most, missed, given, taken)
 
--- ---- volunteers
+-- ---- what each volunteer takes and gives
 
--- what a volunteer takes from a selection and gives to it, if it has the volunteer exactly if `is_in`
+-- one volunteer's part of the sums: what is taken, plus `l` for a member, is at most `m` for a member plus what is given. `l` and `m` are
+-- the weights of the quotas with least and with greatest numbers that count the volunteer; `is_in` says whether the volunteer is a member
 one_volunteer : (standing : Standing) (is_in : Bool) (l m : ℕ) → allows standing is_in ≡ true → taken_by standing m + cond is_in l 0 ≤ cond is_in m 0 + given_by standing l m
 one_volunteer Open true l m h = omega arith
 one_volunteer Open false l m h = omega arith
@@ -122,7 +124,7 @@ module _ (selection : List ℕ) (l m : ℕ → ℕ) where
       let here = one_volunteer standing (includes selection first) (l first) (m first) parts.0 in
       let later = all_volunteers (first + 1) all parts.1 in omega (arith, here, later)
 
--- ---- selections
+-- ---- what is asked of a selection, and what it misses
 
 -- what `is_selection_at` tests, as three facts
 pub record Selected (all : List Standing) (selection : List ℕ) : Type 0 where
@@ -137,7 +139,7 @@ selection_parts all selection is =
     let first = and_parts A B parts.0 in record { up = first.0; below = first.1; kept = parts.1 }
 
 module _ (pool : Pool) (weighted : List WeightedQuota) (all : List Standing) (selection : List ℕ) (is : is_selection_at all selection ≡ true) where
-  -- what is asked for is at most what is given and what is missed
+  -- what is asked for is at most what can be given plus what is missed
   pub asked_or_missed : asked pool weighted all ≤ given pool weighted all + weighed_misses pool selection weighted
   asked_or_missed =
       let parts = selection_parts all selection is in
@@ -151,7 +153,7 @@ module _ (pool : Pool) (weighted : List WeightedQuota) (all : List Standing) (se
       let gives_all = sum_by-is-total (gives selection l m) (enumerate_from 0 all) in
       omega (arith, quotas, volunteers, least, most, taken, gives_all)
 
-  -- misses times weights of at most `greatest` are at most the misses times `greatest`
+  -- if each weight is at most `greatest`, the sum of the misses times their weights is at most the sum of the misses, times `greatest`
   pub few_misses : (greatest : ℕ) → list_all (λ it. leb it.weight greatest) weighted ≡ true → weighed_misses pool selection weighted ≤ misses pool selection (quotas_of weighted) * greatest
   few_misses greatest light =
       let one : WeightedQuota → ℕ = λ it. miss pool selection it.quota in

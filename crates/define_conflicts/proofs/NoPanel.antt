@@ -23,9 +23,9 @@ use Rattle.define_conflicts.specs.LeastMisses.{is_side}
 use Rattle.define_conflicts.specs.OnlyQuotas.{has_household, has_value, is_in_household, is_of_value, only, only_category, only_value, only_volunteer}
 use Rattle.define_conflicts.specs.Quotas.{MissBy, bound, bound_of, category_at, counts, is_counted_of, is_quota_of, is_selection, keeps, miss, missed, misses, value_at, value_in}
 
--- ---- lists
+-- ---- numbers of elements that pass a test
 
--- an element of a mapped list of numbered elements
+-- element `k` of a numbered list that is mapped by `f` is `f` of its number and of element `k` of the list
 at_enumerated : {X Y : Type 0} (f : ℕ × X → Y) (first : ℕ) (xs : List X) (k : ℕ) (d : X) (e : Y) → k < length xs → get_or (map f (enumerate_from first xs)) k e ≡ f (first + k, get_or xs k d)
 at_enumerated f first [] k d e l = absurd (omega arith)
 at_enumerated f first (x ∷ xs) zero d e l = ap (λ n. f (n, x)) (let h : first ≡ first + 0 = omega arith in h)
@@ -46,7 +46,7 @@ fewer_pass p q f xs =
     let le = total_le (λ j. one_if (p j)) (λ j. one_if (q j)) xs (each_everywhere (λ j. one_if (p j) ≤ one_if (q j)) (λ j. implied_le (p j) (q j) (f j)) xs) in
     let left = count_by-total p xs in let right = count_by-total q xs in omega (arith, le, left, right)
 
--- if at most one element of `whole` passes wherever an element of `xs` passes, then none of `xs` passes, or at most one of `whole`
+-- if `many` is at most 1 whenever an element of `xs` passes, then no element of `xs` passes, or `many` is at most 1
 none_or_one : (p : ℕ → Bool) (many : ℕ) (xs : List ℕ) → AllByRecursion (λ i. p i ≡ true → many ≤ 1) xs → (total (λ i. one_if (p i)) xs ≡ 0) ⊎ (many ≤ 1)
 none_or_one p many [] h = inl refl
 none_or_one p many (x ∷ xs) h =
@@ -68,11 +68,11 @@ same_side : (side : Side) → is_side side side ≡ true
 same_side AtLeast = refl
 same_side AtMost = refl
 
--- ---- the quotas are among those that are kept
+-- ---- the pool with only some quotas keeps each of these quotas
 
 module _ (pool : Pool) where
-  -- what `only` keeps of the quotas of `side`: the size always, a value if `quotas` has it on this side, a household if `quotas` has it for
-  -- each member
+  -- the pool `only pool quotas` keeps the quota of this side that counts `counted`: the size always; a value if `quotas` has the value on
+  -- this side; a household if, for each of its members, one of the quotas is of the household
   Named : List Quota → Side → Counted → Type 0
   Named quotas side Everybody = Unit {0}
   Named quotas side (WithValue category value) = has_value quotas side category value ≡ true
@@ -100,7 +100,7 @@ module _ (pool : Pool) where
     each_map (λ own. Named quotas own.side own.counted) (λ own. Named (quota ∷ quotas) own.side own.counted) (λ own h. named_later quota quotas own.side own.counted h) quotas (each_named quotas),
   )
 
-  -- ---- volunteers of the pool that is left
+  -- ---- volunteers of the pool with only these quotas
 
   module _ (quotas : List Quota) where
     abbrev nobody : Volunteer
@@ -114,7 +114,7 @@ module _ (pool : Pool) where
     same_values first (one ∷ volunteers) zero = refl
     same_values first (one ∷ volunteers) (suc i) = same_values (first + 1) volunteers i
 
-    -- a volunteer of a household that a quota counts keeps it
+    -- if a quota counts a volunteer's household, the volunteer has the same household in the pool with only these quotas
     same_household : (first : ℕ) (volunteers : List Volunteer) (i : ℕ) → has_household pool quotas (first + i) ≡ true → (volunteer (left first volunteers) i).household ≡ (volunteer volunteers i).household
     same_household first [] i h = refl
     same_household first (one ∷ volunteers) zero h =
@@ -133,7 +133,7 @@ module _ (pool : Pool) where
         let parts = and_parts A (list_all (λ (i, volunteer). allows volunteer.standing (includes panel i)) (enumerate_from (first + 1) (left (first + 1) volunteers))) h in
         and_from A (keeps panel (first + 1) (map (λ volunteer. volunteer.standing) volunteers)) parts.0 (same_standings panel (first + 1) volunteers parts.1)
 
-    -- ---- a quota panel of the pool that is left
+    -- ---- a quota panel of the pool with only these quotas
 
     module _ (panel : List ℕ) (is : is_quota_panel (only pool quotas) panel ≡ true) where
       abbrev kept : Pool
@@ -152,7 +152,7 @@ module _ (pool : Pool) where
           (and_from (is_increasing panel) (B (length (standings pool))) parts.up (subst (λ n. B n ≡ true) (sym many) parts.below))
           (same_standings panel 0 pool.volunteers parts.standings)
 
-      -- ---- values
+      -- ---- the panel misses no quota of a value
 
       module _ (c v : ℕ) (in_categories : c < length pool.categories) (in_values : v < length (category_at pool c).values) where
         abbrev none : Category
@@ -207,7 +207,7 @@ module _ (pool : Pool) where
             let most = leb-true many value.upper (subst (λ b. leb many (cond b value.upper 999) ≡ true) named both.1) in
             let same = same_members in omega (arith, most, same)
 
-      -- ---- households
+      -- ---- the panel misses no quota of a household
 
       module _ (member : ℕ) (named : (i : ℕ) → share_household pool.volunteers member i ≡ true → has_household pool quotas i ≡ true) where
         abbrev share : ℕ → Bool
@@ -216,7 +216,7 @@ module _ (pool : Pool) where
         household_kept : (i : ℕ) → share i ≡ true → (volunteer kept.volunteers i).household ≡ (volunteer pool.volunteers i).household
         household_kept i h = same_household 0 pool.volunteers i (let here : i ≡ 0 + i = omega arith in subst (λ n. has_household pool quotas n ≡ true) here (named i h))
 
-        -- two volunteers of the member's household share it in the pool that is left
+        -- two volunteers of the member's household share it in the pool with only these quotas
         still_share : (i j : ℕ) → share i ≡ true → share j ≡ true → share_household kept.volunteers i j ≡ true
         still_share i j h k =
             let own = (volunteer pool.volunteers member).household in
@@ -239,7 +239,7 @@ module _ (pool : Pool) where
         household_met AtLeast = omega arith
         household_met AtMost = let le = few in omega (arith, le)
 
-      -- ---- the size, and any quota
+      -- ---- the panel misses no quota
 
       size_met : (side : Side) → missed side pool.size (count_by (λ i. true) panel) ≡ 0
       size_met AtLeast = let many = everybody_counts panel in let size = parts.size in omega (arith, many, size)
@@ -269,7 +269,7 @@ module _ (pool : Pool) where
           zero_sum [] h = refl
           zero_sum (x ∷ xs) h = let rest = zero_sum xs h.1 in omega (arith, h.0, rest)
 
--- ---- no quota panel is left
+-- ---- the pool with only these quotas has no quota panel
 
 pub no_panels : (pool : Pool) (quotas : List Quota) (least : ℕ) → list_all (is_quota_of pool) quotas ≡ true → MissBy pool quotas least → 1 ≤ least → panels (only pool quotas) ≡ []
 no_panels pool quotas least of_pool missing some =

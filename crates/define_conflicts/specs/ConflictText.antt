@@ -1,5 +1,5 @@
--- A conflict in words: a line for each quota, with its bound and how many people it counts, then by how much they are missed, and whether
--- each is needed. Over Quotas. The meaning of `why` cites it.
+-- A conflict in words: a line for each quota, with its bound and how many of those whom it counts are available and seated; then by how
+-- many people the quotas are missed, and whether each is needed. Builds on Quotas. The meaning of `why` cites it.
 use Rattle.std.specs.Prelude.{ℕ, if◌then◌else◌, Bool, true, false, not, ◌&&◌, List, [], ◌∷◌, ◌++◌, count_by, codes, Option, Some, None, unwrap_or}
 use Rattle.std.specs.Fmt.{decimal}
 use Rattle.std.specs.List.{flat_map}
@@ -18,7 +18,7 @@ is_seated Open = false
 is_seated Seated = true
 is_seated Gone = false
 
--- may still be on a panel: isn't gone
+-- a volunteer of this standing can be on a panel: the standing isn't gone
 abbrev pub is_available : Standing → Bool
 is_available Open = true
 is_available Seated = true
@@ -46,19 +46,20 @@ abbrev pub side_words : Side → List ℕ
 side_words AtLeast = codes ": at least "
 side_words AtMost = codes ": at most "
 
--- the line of a quota: whom it counts, its bound, how many of these aren't gone, and how many of them are seated
+-- the line of a quota: whom it counts, its bound, how many of those whom it counts aren't gone, and how many of these are seated
 abbrev pub quota_line : Pool → Quota → List ℕ
 quota_line pool quota =
     counted_words pool quota.counted ++ side_words quota.side ++ decimal (bound pool quota)
     ++ codes "; " ++ decimal (available pool quota.counted) ++ codes " available, " ++ decimal (seated pool quota.counted)
     ++ codes " of them seated" ++ 10 ∷ []
 
--- by how many people the quotas are missed at least, if it is known, else that people are whole
+-- the line that says by how many people the quotas are missed at least; if that isn't known, only that no panel of whole people meets them
+-- together
 abbrev pub miss_line : Option ℕ → List ℕ
 miss_line (Some least) = codes "these together miss by " ++ decimal least ++ 10 ∷ []
 miss_line None = codes "no panel of whole people meets these together" ++ 10 ∷ []
 
--- whether it is known that each quota is needed
+-- the line that says whether it is known that each quota is needed
 abbrev pub need_line : Bool → List ℕ
 need_line true = codes "each is needed: without it the others can be met" ++ 10 ∷ []
 need_line false = codes "perhaps not each of them is needed" ++ 10 ∷ []

@@ -1,4 +1,4 @@
--- What `why` claims of a conflict. Over Quotas and OnlyQuotas. `quota_conflicts` promises it, and the meaning of `why` cites it.
+-- What `why` claims of a conflict. Builds on Quotas and OnlyQuotas. `quota_conflicts` promises it, and the meaning of `why` cites it.
 use Rattle.std.specs.Prelude.{◌≡◌, ◌≤◌, [], IsTrue}
 use Rattle.std.specs.List.{list_all}
 use Rattle.define_pools.specs.Pool.{Pool, panels}
@@ -8,7 +8,7 @@ use Rattle.define_conflicts.specs.Quotas.{Conflict, EachNeeded, MissBy, is_quota
 pub record IsConflict (pool : Pool) (conflict : Conflict) : Type 0 where
   -- the quotas are the pool's
   pub of_pool : IsTrue (list_all (is_quota_of pool) conflict.quotas)
-  -- each selection misses them by at least `known_miss conflict` people in all, and this is at least 1
+  -- each selection misses the quotas by at least `known_miss conflict` people in all, and this number is at least 1
   pub misses : MissBy pool conflict.quotas (known_miss conflict)
   pub some : 1 ≤ known_miss conflict
   -- the pool with only these quotas has no quota panel

@@ -1,5 +1,5 @@
 -- A lower bound on what every selection misses, by weights of quotas: what the quotas ask for, and what selections can give. Only whole
--- numbers of at least 0 are added and multiplied. Over Quotas. `quota_conflicts` checks conflicts by it.
+-- numbers of at least 0 are added and multiplied. Builds on Quotas. `quota_conflicts` and `loosening_by_proof` use it.
 use Rattle.std.specs.Prelude.{ℕ, ◌+◌, ◌-◌, ◌*◌, if◌then◌else◌, Bool, true, false, ◌&&◌, List, map, sum_by}
 use Rattle.std.specs.List.{enumerate_from}
 use Rattle.define_pools.specs.declared.Standing.{Standing}
@@ -37,14 +37,16 @@ weight_for pool side i it = if is_side side it.quota.side && counts pool it.quot
 abbrev pub weights_for : Pool → Side → List WeightedQuota → ℕ → ℕ
 weights_for pool side weighted i = sum_by (weight_for pool side i) weighted
 
--- what a volunteer takes from every selection: the weights `most` of the quotas with greatest numbers, if the volunteer is seated
+-- what a volunteer takes from every selection: if the volunteer is seated, `most`, the sum of the weights of the quotas with greatest
+-- numbers that count this volunteer; else 0
 abbrev pub taken_by : Standing → ℕ → ℕ
 taken_by Open most = 0
 taken_by Seated most = most
 taken_by Gone most = 0
 
--- the most that a volunteer gives to a selection: the weights `least` of the quotas with least numbers, less those of the quotas with
--- greatest numbers if the volunteer may be left out
+-- the most that a volunteer gives to a selection. `least` and `most` are the sums of the weights of the quotas with least and with greatest
+-- numbers that count this volunteer. Someone who is open gives `least` less `most`, or 0 if `most` is greater, since a selection may leave
+-- this volunteer out; someone who is seated gives `least`
 abbrev pub given_by : Standing → ℕ → ℕ → ℕ
 given_by Open least most = least - most
 given_by Seated least most = least
@@ -56,7 +58,8 @@ asked pool weighted all =
     weighed_bounds pool AtLeast weighted
     + sum_by (λ (i, standing). taken_by standing (weights_for pool AtMost weighted i)) (enumerate_from 0 all)
 
--- the most that a selection which keeps the standings `all` and passes no greatest number can give
+-- the most that a selection that keeps the standings `all` can give: the greatest numbers, each times its quota's weight, and what each
+-- volunteer gives
 abbrev pub given : Pool → List WeightedQuota → List Standing → ℕ
 given pool weighted all =
     weighed_bounds pool AtMost weighted

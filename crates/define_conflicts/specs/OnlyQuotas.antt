@@ -1,5 +1,6 @@
--- A pool with only some of its quotas: all other values have the bounds 0 and 999, which no panel breaks, and volunteers of other
--- households have none. Over Quotas. `conflict_leaves_no_panel` says that it has no quota panel.
+-- A pool with only some of its quotas: each other bound of a value is 0 or 999, which no panel breaks, and volunteers of other
+-- households have none. Builds on Quotas. `conflict_leaves_no_panel` says that this pool has no quota panel if each selection misses the
+-- quotas.
 use Rattle.std.specs.Prelude.{ℕ, ◌==◌, if◌then◌else◌, Bool, true, false, ◌&&◌, List, map, None}
 use Rattle.std.specs.List.{enumerate_from, list_any}
 use Rattle.define_pools.specs.Pool.{BoundedValue, Category, Pool, Volunteer, share_household}
@@ -10,7 +11,7 @@ use Rattle.define_conflicts.specs.declared.Side.{Side}
 use Rattle.define_conflicts.specs.declared.Side.TheVariants.{AtLeast, AtMost}
 use Rattle.define_conflicts.specs.LeastMisses.{is_side}
 
--- the value at place `value` of the category at place `category` is whom the quota counts
+-- the quota counts those who have the value at place `value` of the category at place `category`
 abbrev pub is_of_value : ℕ → ℕ → Counted → Bool
 is_of_value category value Everybody = false
 is_of_value category value (WithValue own_category own_value) = category == own_category && value == own_value
@@ -42,7 +43,7 @@ only_category quotas (place, category) = record category { values = map (only_va
 abbrev pub only_volunteer : Pool → List Quota → ℕ × Volunteer → Volunteer
 only_volunteer pool quotas (i, volunteer) = record volunteer { household = if has_household pool quotas i then volunteer.household else None }
 
--- the pool with only these quotas. It has the pool's size, also if no quota is of the size
+-- the pool with only these quotas. It keeps the pool's size even if no quota is of the size
 abbrev pub only : Pool → List Quota → Pool
 only pool quotas = record {
   size = pool.size;

@@ -1,5 +1,5 @@
--- Quotas, selections, by how many people a selection misses quotas, and conflicts. Over Pool of `define_pools`. An auditor of `why` reads
--- this file and OnlyQuotas.
+-- Quotas, selections, by how many people a selection misses quotas, and conflicts. Builds on Pool of `define_pools`. An auditor of `why`
+-- reads this file and OnlyQuotas.
 use Rattle.std.specs.Prelude.{ℕ, ◌-◌, ◌==◌, ◌≤◌, ◌<◌, nat_lt, Bool, false, true, ◌&&◌, ◌||◌, IsTrue, List, [], length, count_by, sum_by, slice_index, slice_index_or, Option, unwrap_or}
 use Rattle.std.specs.List.{enumerate_from, list_all, list_any, remove}
 use Rattle.define_additions.specs.Leaves.{standings}
@@ -45,13 +45,13 @@ bound_of pool AtMost (OfHousehold member) = 1
 abbrev pub bound : Pool → Quota → ℕ
 bound pool quota = bound_of pool quota.side quota.counted
 
--- those whom it counts are of the pool
+-- the pool has the category and the value, or the volunteer, that a quota names to say whom it counts
 abbrev pub is_counted_of : Pool → Counted → Bool
 is_counted_of pool Everybody = true
 is_counted_of pool (WithValue category value) = nat_lt category (length pool.categories) && nat_lt value (length (category_at pool category).values)
 is_counted_of pool (OfHousehold member) = nat_lt member (length pool.volunteers)
 
--- the quota is of the pool
+-- the quota is one of the pool's: the pool has what it names
 abbrev pub is_quota_of : Pool → Quota → Bool
 is_quota_of pool quota = is_counted_of pool quota.counted
 

@@ -7,7 +7,7 @@ use Rattle.define_conflicts.specs.declared.WeightedQuota.{WeightedQuota}
 use Rattle.define_conflicts.specs.LeastMisses.{quotas_of}
 use Rattle.define_conflicts.specs.Quotas.{Conflict}
 
--- at least the size, and at most one of the household, each with the weight 1
+-- two quotas with the weight 1: at least the size, and at most one member of the household
 abbrev pub couple_weighted : List WeightedQuota
 couple_weighted =
     record { quota = record { counted = Everybody; side = AtLeast }; weight = 1 }

@@ -1,6 +1,6 @@
 //! Conflicts: quotas of a pool that can't be met together. The definitions are in `specs/`. Stands on `define_pools` and `laws_basic`, and
-//! on `define_additions` and `define_searches` for laws on sums and households. Above: `quota_conflicts`, which finds conflicts and checks
-//! them, and the meaning of `why`.
+//! on `define_additions` and `define_searches` for laws on sums and households. Used by `quota_conflicts`, which finds conflicts and checks
+//! them; by `define_cost_bounds` and `loosening_by_proof`, which weigh quotas; and by the meaning of `why`.
 //!
 //! The functions have no body: their contracts are laws over the definitions, and worked examples. The promise that matters most is
 //! `conflict_leaves_no_panel`.
@@ -35,7 +35,7 @@ pub enum Counted {
 pub enum Side {
     /// The least number of a panel's members whom the quota counts.
     AtLeast,
-    /// The greatest number of them.
+    /// The greatest number of a panel's members whom the quota counts.
     AtMost,
 }
 
@@ -62,22 +62,23 @@ pub fn conflict_leaves_no_panel()
         panels pool ≡ [] }
 {}
 
-/// If quotas with weights of at most `greatest` ask for more than can be given, and by more than `greatest` times `misses`, then each
-/// selection misses them by at least `misses + 1`.
+/// Take selections that keep the standings `all`, and quotas with weights of at most `greatest`. If the quotas ask for more than can be
+/// given, and by more than `greatest` times `misses`, then each of the selections misses them by at least `misses + 1`.
 pub fn asking_more_misses()
     ensures { (pool : Pool) (weighted : List WeightedQuota) (all : List SeenStanding) (greatest misses : ℕ) →
         IsTrue (list_all (λ it. nat_le it.weight greatest) weighted) → given pool weighted all + greatest * misses < asked pool weighted all →
         MissAt pool (quotas_of weighted) all (misses + 1) }
 {}
 
-/// If selections miss quotas both without volunteer `i` and with this volunteer, all selections miss them.
+/// Consider the standings `all` with volunteer `i` gone, and with this volunteer seated. If all selections that keep either of these miss
+/// the quotas by at least `least`, so do all selections that keep `all`.
 pub fn both_parts_miss()
     ensures { (pool : Pool) (quotas : List Quota) (all : List SeenStanding) (i least : ℕ) → MissAt pool quotas (slice_set all i Gone) least →
         MissAt pool quotas (slice_set all i Seated) least → MissAt pool quotas all least }
 {}
 
-/// A woman and a man of one household can't both have the two seats. The size and the household ask for 2, and 1 can be given. One of them
-/// alone meets the household's quota, both meet the size's.
+/// A woman and a man of one household can't both have the two seats. The quotas of the size and of the household ask for 2, and 1 can be
+/// given. A selection of one of the two meets the household's quota, and a selection of both meets the size's.
 pub fn worked_conflict()
     ensures asked { asked couple couple_weighted (standings couple) ≡ 2 }
     ensures given { given couple couple_weighted (standings couple) ≡ 1 }

@@ -36,7 +36,8 @@ module _ (pool : Pool) (team : List ℕ) (is : is_team pool team ≡ true) where
   abbrev missed_of : Side → Counted → ℕ
   missed_of side counted = missed side (bound_of pool side counted) (count_by (counts pool counted) team)
 
-  -- the team is a quota panel of the pool that is loosened for it, which has the same size, volunteers and households
+  -- a team misses no quota of the size or of a household: it is a quota panel of the pool that is loosened for it, and this pool has the
+  -- same size, volunteers and households
   met : (side : Side) (counted : Counted) → is_met_by_teams counted ≡ true → missed_of side counted ≡ 0
   met side Everybody h = size side
     where
@@ -75,7 +76,7 @@ module _ (pool : Pool) (team : List ℕ) (is : is_team pool team ≡ true) where
       let apart = total-append weighed values others in
       omega (arith, left, one, two, apart)
 
--- ---- asking for more
+-- ---- quotas that ask for more than can be given, and the cost of teams
 
 pub more_costs : (pool : Pool) (values others : List WeightedQuota) (all : List Standing) (greatest cost : ℕ) → quotas_of values ≡ value_quotas pool →
     list_all (λ it. leb it.weight greatest) values ≡ true → list_all (λ it. is_met_by_teams it.quota.counted) others ≡ true →
@@ -98,7 +99,7 @@ none_keeps pool others all all_met more team is keeps =
     let none = none_missed pool team is others all_met in
     omega (arith, least, none, more)
 
--- ---- splits
+-- ---- the two parts of a split
 
 pub both_cost : (pool : Pool) (all : List Standing) (i : ℕ) (least : Option ℕ) → CostsAt pool (set all i Gone) least → CostsAt pool (set all i Seated) least → CostsAt pool all least
 both_cost pool all i least without with team is keeps = by (includes team i) refl
@@ -107,7 +108,7 @@ both_cost pool all i least without with team is keeps = by (includes team i) ref
     by false e = without team is (selection_set team i all Gone keeps (ap (allows Gone) e))
     by true e = with team is (selection_set team i all Seated keeps (ap (allows Seated) e))
 
--- ---- least loosenings
+-- ---- bounds that show that a loosening is least
 
 -- a team is a selection of the pool
 pub team_keeps : (pool : Pool) (team : List ℕ) → is_team pool team ≡ true → is_selection_at (standings pool) team ≡ true

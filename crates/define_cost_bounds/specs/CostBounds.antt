@@ -1,5 +1,5 @@
--- What each team costs at least, and the quotas whose misses sum to a team's cost. Over the teams of `define_loosenings` and the quotas of
--- `define_conflicts`. `loosening_by_proof` shows by it that a loosening is least.
+-- What each team costs at least, and the quotas whose misses sum to a team's cost. Builds on the teams of `define_loosenings` and the
+-- quotas of `define_conflicts`. `loosening_by_proof` shows by it that a loosening is least.
 use Rattle.std.specs.Prelude.{ℕ, ◌≤◌, Bool, true, false, IsTrue, List, [], ◌∷◌, Option, Some, None}
 use Rattle.std.specs.List.{enumerate_from, flat_map}
 use Rattle.define_pools.specs.declared.Standing.{Standing}
@@ -20,22 +20,22 @@ quotas_of_value category value =
 abbrev pub quotas_of_category : ℕ × Category → List Quota
 quotas_of_category (place, category) = flat_map (λ (value, bounds). quotas_of_value place value) (enumerate_from 0 category.values)
 
--- the quotas of all values of a pool, each once. By how many people a team misses them in all is its cost
+-- the quotas of all values of a pool, each once. A team costs the number of people by which it misses them in all
 abbrev pub value_quotas : Pool → List Quota
 value_quotas pool = flat_map quotas_of_category (enumerate_from 0 pool.categories)
 
--- each team meets a quota that counts these: it is of the size or of a household
+-- each team meets a quota that counts `counted`, since it is a quota of the size or of a household
 abbrev pub is_met_by_teams : Counted → Bool
 is_met_by_teams Everybody = true
 is_met_by_teams (WithValue category value) = false
 is_met_by_teams (OfHousehold member) = true
 
--- a cost is at least this one; no cost is at least None
+-- the cost is at least the given number; no cost is at least None
 abbrev pub IsAtLeast : Option ℕ → ℕ → Type 0
 IsAtLeast None cost = ⊥
 IsAtLeast (Some least) cost = least ≤ cost
 
--- each team of the pool that keeps the standings `all` costs at least `least`; no team keeps them if that is None
+-- each team of the pool that keeps the standings `all` costs at least `least`; if `least` is None, no team keeps them
 abbrev pub CostsAt : Pool → List Standing → Option ℕ → Type 0
 CostsAt pool all least =
     (team : List ℕ) → IsTrue (is_team pool team) → IsTrue (is_selection_at all team) → IsAtLeast least (team_cost pool team)

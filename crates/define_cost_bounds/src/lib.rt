@@ -1,7 +1,7 @@
-//! Lower bounds on what teams cost, by weights of quotas and by splits on volunteers. So a team that is found by any search can be shown to
-//! be a cheapest one, and the loosening for it to be least. The definitions are in `specs/`. Stands on `define_loosenings` (teams and
-//! loosenings) and `define_conflicts` (quotas, what they ask for and what can be given). Above: `loosening_by_proof`, which searches, and
-//! the meaning of `loosen-by-proof`.
+//! Lower bounds on what teams cost, by weights of quotas and by splits on volunteers. By these bounds, a team that any search found can be
+//! shown to be a cheapest one, and the loosening for this team to be least. The definitions are in `specs/`. Stands on `define_loosenings`
+//! (teams and loosenings) and `define_conflicts` (quotas, what they ask for and what can be given). Used by `loosening_by_proof`, which
+//! searches, and the meaning of `loosen-by-proof`.
 //!
 //! The functions have no body: their contracts are laws over the definitions. The promise that matters most is `cheapest_by_bound`.
 #![tactic(auto)]
@@ -18,9 +18,9 @@ ghost use Rattle.define_cost_bounds.specs.CostBounds.{CostsAt, is_met_by_teams, 
 ghost use Rattle.define_loosenings.specs.Loosenings.{IsLeast, Loosening, loosening_for};
 ghost use Rattle.define_loosenings.specs.Teams.{is_team, team_cost};
 
-/// If the quotas of all values, with weights of at most `greatest`, and quotas that each team meets ask for more than can be given, and by
-/// more than `greatest` times `cost`, then each team costs at least `cost + 1`. If quotas that each team meets ask for more than can be
-/// given by themselves, there is no team. No team costs less than 0.
+/// Take teams that keep the standings `all`; the quotas of all values, with weights of at most `greatest`; and further quotas that each
+/// team meets. If together the quotas ask for more than can be given, by more than `greatest` times `cost`, each of these teams costs at
+/// least `cost + 1`. If the further quotas alone ask for more than can be given, no team keeps the standings. No team costs less than 0.
 pub fn asking_more_costs()
     ensures more { (pool : Pool) (values met : List WeightedQuota) (all : List Standing) (greatest cost : ℕ) → quotas_of values ≡ value_quotas pool →
         IsTrue (list_all (λ it. nat_le it.weight greatest) values) → IsTrue (list_all (λ it. is_met_by_teams it.quota.counted) met) →
@@ -30,20 +30,21 @@ pub fn asking_more_costs()
     ensures nothing { (pool : Pool) (all : List Standing) → CostsAt pool all (Some 0) }
 {}
 
-/// If teams cost at least so much both without volunteer `i` and with this volunteer, all teams do.
+/// Consider the standings `all` with volunteer `i` gone, and with this volunteer seated. If all teams that keep either of these cost at
+/// least `least`, so do all teams that keep `all`.
 pub fn both_parts_cost()
     ensures { (pool : Pool) (all : List Standing) (i : ℕ) (least : Option ℕ) → CostsAt pool (slice_set all i Gone) least →
         CostsAt pool (slice_set all i Seated) least → CostsAt pool all least }
 {}
 
-/// If each team costs at least what a team costs, the loosening for this team is least. If no team keeps the pool's standings, there is none.
+/// If no team costs less than `team`, the loosening for `team` is least. If no team keeps the pool's standings, there is no team.
 pub fn cheapest_by_bound()
     ensures least { (pool : Pool) (team : List ℕ) → IsTrue (is_team pool team) → CostsAt pool (standings pool) (Some (team_cost pool team)) →
         IsLeast pool (loosening_for pool team) }
     ensures none { (pool : Pool) → CostsAt pool (standings pool) None → (team : List ℕ) → IsTrue (is_team pool team) → ⊥ }
 {}
 
-/// Least loosenings of a pool have one total, whichever search found them.
+/// All least loosenings of a pool have the same total, whichever search found them.
 pub fn least_totals_are_equal()
     ensures { (pool : Pool) (one other : Loosening) → IsLeast pool one → IsLeast pool other → one.total ≡ other.total }
 {}

@@ -22,7 +22,7 @@ use Rattle.define_desk.specs.Requests.{Request, Asking, TooLarge, NoRequest, Ask
 use Rattle.define_desk.specs.Replies.{Reply, bad_request, not_allowed, not_found, text_or_null, texts, told, told_text, too_large, too_late, truth, truth_or_null, unknown_key}
 use Rattle.define_desk.specs.Views.{Own, Published, Nothing, TheBundle, TheDraw, View, last_published, published, published_of, view}
 
--- ---- pages
+-- ---- pages and their paths
 
 -- what a path names: the bundle of a round, its draw, what a volunteer sees, and a volunteer's withdrawal
 pub data Page : Type 0 where
@@ -31,11 +31,12 @@ pub data Page : Type 0 where
   OwnPage : Page
   WithdrawalPage : Page
 
--- what follows `front` in the path, if the path begins so
+-- the rest of the path after `front`, if the path begins with `front`
 abbrev pub after_front : List ℕ → List ℕ → Option (List ℕ)
 after_front front path = if bytes_eq (take (length front) path) front then Some (drop (length front) path) else None
 
--- the page of a round, by what follows `/public/bundle/` or else `/public/draw/` in the path
+-- the page of a round: its bundle if the path begins with `/public/bundle/`, or its draw if the path begins with `/public/draw/`. The rest
+-- of the path names the round
 abbrev pub round_page : Option (List ℕ) → Option (List ℕ) → Option Page
 round_page (Some round) draw = Some (BundlePage round)
 round_page None (Some round) = Some (DrawPage round)
@@ -47,15 +48,15 @@ page_of path =
     else if bytes_eq path (codes "/me/withdraw") then Some WithdrawalPage
     else round_page (after_front (codes "/public/bundle/") path) (after_front (codes "/public/draw/") path)
 
--- the number of a round that 1 to 4 digits name. No round has the number 0
+-- the number of a round that a text of 1 to 4 digits names; for any other text 0, which is no round's number
 abbrev pub round_named : List ℕ → ℕ
 round_named text = if nat_lt 0 (length text) && nat_le (length text) 4 && list_all is_ascii_digit text then digits_value 10 text else 0
 
--- the reply to a request by the method of the page
+-- `reply` if the request has the page's method `method`, else the reply that this method alone is allowed
 abbrev pub if_by : List ℕ → Request → Reply → Reply
 if_by method request reply = if bytes_eq request.method method then reply else not_allowed method
 
--- ---- what is public
+-- ---- the replies that anybody may ask for: a round's bundle and its draw
 
 abbrev pub bundle_reply : Request → Published → Reply
 bundle_reply request Nothing = not_found
@@ -75,9 +76,9 @@ draw_reply request Nothing = not_found
 draw_reply request (TheBundle bundle) = not_found
 draw_reply request (TheDraw bundle digits) = if_by (codes "GET") request (told (draw_body bundle digits))
 
--- ---- what a volunteer sees
+-- ---- the reply to a volunteer who asks with a key
 
--- the number of the volunteer with an id, if the first of the volunteers has the number `number`
+-- the number of the volunteer with an id, if the first of the volunteers has the number `number`; None if no volunteer has the id
 abbrev pub number_of : List ℕ → List Volunteer → ℕ → Option ℕ
 number_of id [] number = None
 number_of id (volunteer ∷ volunteers) number = if bytes_eq id volunteer.id then Some number else number_of id volunteers (number + 1)
@@ -88,7 +89,7 @@ chance_text lottery number = fraction_text (lowest_of (count lottery number) lot
 abbrev pub chance_in : Bundle → List ℕ → Option (List ℕ)
 chance_in bundle id = option_map (chance_text bundle.answer.lottery) (number_of id bundle.pool.volunteers 0)
 
--- the chance of the volunteer with an id, once the bundle is published
+-- the chance of the volunteer with an id, once the bundle is published; None before, or if the bundle's pool hasn't this volunteer
 abbrev pub chance_of : Published → List ℕ → Option (List ℕ)
 chance_of Nothing id = None
 chance_of (TheBundle bundle) id = chance_in bundle id
@@ -114,7 +115,7 @@ abbrev pub own_reply_by : View → Option Own → Reply
 own_reply_by shown None = unknown_key
 own_reply_by shown (Some own) = told (own_body shown own.entry)
 
--- the reply to the keys that were given: there must be one
+-- the reply to a request for what a volunteer sees, by the keys in the request: there must be exactly one
 abbrev pub own_reply : Tables → List (List ℕ) → Reply
 own_reply tables [] = unknown_key
 own_reply tables (key ∷ []) = own_reply_by (view tables key) (view tables key).own
@@ -145,13 +146,13 @@ abbrev pub withdrawal_by : Tables → Option Entry → Outcome → Served
 withdrawal_by tables None outcome = leaving tables unknown_key
 withdrawal_by tables (Some entry) outcome = leaving (tables_after tables outcome) (withdrawal_reply entry outcome)
 
--- a withdrawal is the office's, with the one key that is given
+-- a withdrawal by the volunteer with the key in the request, as the office does it. There must be exactly one key
 abbrev pub withdrawal : Tables → List (List ℕ) → Served
 withdrawal tables [] = leaving tables unknown_key
 withdrawal tables (key ∷ []) = withdrawal_by tables (with_hash tables.register (seal_of key)) (withdraw_at tables (place_of_hash tables.register (seal_of key) 0))
 withdrawal tables (key ∷ other ∷ keys) = leaving tables unknown_key
 
--- ---- the desk
+-- ---- the reply to any request, and to the bytes of a connection
 
 abbrev pub served_page : Tables → Request → Option Page → Served
 served_page tables request None = leaving tables not_found
@@ -175,13 +176,13 @@ served_by tables (Asks request) = served tables request
 abbrev pub Serves : Tables → List ℕ → Served → Type 0
 Serves tables bytes result = (asking : Asking) × AreAsking bytes asking × (result ≡ served_by tables asking)
 
--- ---- isolation
+-- ---- on what a reply depends
 
--- a volunteer's key learns of the tables what its view has, and nothing else: from tables with the same view each request with this key
--- gets the same reply
+-- who asks with `key` learns nothing of the tables but what the key's view has: over tables with the same view, each request with this key
+-- and no other gets the same reply
 abbrev pub IsIsolated : Tables → Tables → List ℕ → Type 0
 IsIsolated one other key = view one key ≡ view other key → (request : Request) → request.keys ≡ key ∷ [] → (served one request).reply ≡ (served other request).reply
 
--- a page that anybody may read depends on what is published alone
+-- a page that anybody may read depends only on what is published
 abbrev pub IsPublic : Tables → Tables → Page → Type 0
 IsPublic one other page = map published one.rounds ≡ map published other.rounds → (request : Request) → (served_page one request (Some page)).reply ≡ (served_page other request (Some page)).reply

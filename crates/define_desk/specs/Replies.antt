@@ -32,7 +32,7 @@ fields_of reply = (codes "Content-Type", reply.media) ∷ reply.more ++ (codes "
 abbrev pub reply_text : Reply → List ℕ
 reply_text reply = status_line reply.status ++ flat_map field_text (fields_of reply) ++ line_end ++ reply.body
 
--- ---- bodies
+-- ---- the bodies of replies
 
 abbrev pub json_media : List ℕ
 json_media = codes "application/json"
@@ -40,7 +40,7 @@ json_media = codes "application/json"
 abbrev pub text_media : List ℕ
 text_media = codes "text/plain; charset=utf-8"
 
--- a value in JSON: a text, a truth value, or nothing
+-- a text in JSON, or `null` if there is none
 abbrev pub text_or_null : Option (List ℕ) → List ℕ
 text_or_null None = codes "null"
 text_or_null (Some text) = quoted text
@@ -53,7 +53,7 @@ abbrev pub truth_or_null : Option Bool → List ℕ
 truth_or_null None = codes "null"
 truth_or_null (Some value) = truth value
 
--- texts with commas between them
+-- texts in JSON with commas between them
 abbrev pub listed : List (List ℕ) → List ℕ
 listed [] = []
 listed (text ∷ []) = quoted text
@@ -80,25 +80,25 @@ too_large = refused_with 413 []
 abbrev pub bad_request : Reply
 bad_request = refused_with 400 []
 
--- the keeper of the tables failed
+-- the reply if the keeper of the tables failed
 abbrev pub unavailable : Reply
 unavailable = refused_with 503 []
 
 abbrev pub not_found : Reply
 not_found = refused_with 404 []
 
--- the page is asked for by another method than `method`
+-- the reply if a page that takes only `method` is asked for by another method
 abbrev pub not_allowed : List ℕ → Reply
 not_allowed method = refused_with 405 ((codes "Allow", method) ∷ [])
 
--- nobody's key was given
+-- the reply if there isn't exactly one key, or no volunteer has the key
 abbrev pub unknown_key : Reply
 unknown_key = refused_with 401 ((codes "WWW-Authenticate", codes "office-key") ∷ [])
 
 abbrev pub too_late : Reply
 too_late = refused_with 409 []
 
--- memory ran out
+-- the reply if memory ran out
 abbrev pub out_of_memory : Reply
 out_of_memory = refused_with 507 []
 

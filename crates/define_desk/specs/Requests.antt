@@ -1,14 +1,14 @@
--- What the bytes that come over a connection ask the desk for. A request is a head, up to and with its first empty line, and a body, whose
--- size the head tells.
+-- What the bytes that come over a connection ask the desk for. A request is a head, which ends with its first empty line, and a body,
+-- whose size the head gives.
 use Rattle.std.specs.Prelude.{◌≡◌, ℕ, ◌+◌, ◌≤◌, ◌==◌, nat_lt, nat_le, if◌then◌else◌, Bool, ◌&&◌, ◌||◌, List, [], ◌∷◌, length, map, filter, take, drop, bytes_eq, codes, Option, Some, None, option_map}
 use Rattle.std.specs.Char.{is_ascii_digit, to_ascii_lowercase}
 use Rattle.std.specs.List.{list_all, list_any}
 use Rattle.std.specs.Str.Parse.{digits_value}
 use Rattle.httparse.specs.Grammar.{Field, RequestHead, ReadsRequest, field_value}
 
--- ---- the head
+-- ---- the head of a request
 
--- how many bytes the empty line has with which `bytes` begin: LF, or CR LF. It is 0 if they begin with none
+-- the size of the empty line at the beginning of `bytes`: 1 for LF, 2 for CR LF, and 0 if `bytes` don't begin with an empty line
 abbrev pub empty_line : List ℕ → ℕ
 empty_line [] = 0
 empty_line (byte ∷ []) = if byte == 10 then 1 else 0
@@ -19,23 +19,23 @@ abbrev pub head_size : List ℕ → Option ℕ
 head_size [] = None
 head_size (byte ∷ bytes) = if (byte == 10) && nat_lt 0 (empty_line bytes) then Some (1 + empty_line bytes) else option_map (λ size. size + 1) (head_size bytes)
 
--- the greatest size of a head, and of a body
+-- the greatest size of a head in bytes; `most_of_body` is that of a body
 abbrev pub most_of_head : ℕ
 most_of_head = 8192
 
 abbrev pub most_of_body : ℕ
 most_of_body = 65536
 
--- how many bytes the head has that is whole within the first bytes, if there is one
+-- the size of the head, if it ends within the first `most_of_head` bytes
 abbrev pub whole_head : List ℕ → Option ℕ
 whole_head bytes = head_size (take most_of_head bytes)
 
--- the bytes, to the last one, are this head of the grammar of `httparse`, which has at most 64 fields
+-- the bytes are exactly this head, by the grammar of `httparse`, and the head has at most 64 fields
 pub record IsHead (bytes : List ℕ) (head : RequestHead) : Type 0 where
   pub reads : ReadsRequest bytes head []
   pub few : length head.fields ≤ 64
 
--- ---- the fields
+-- ---- the fields of a head
 
 -- the name of a field, which may have capitals, is `name`
 abbrev pub is_name : List ℕ → List ℕ → Bool
@@ -52,8 +52,8 @@ is_encoded fields = list_any (λ field. is_name (codes "transfer-encoding") fiel
 abbrev pub is_number : List ℕ → Bool
 is_number text = nat_lt 0 (length text) && nat_le (length text) 18 && list_all is_ascii_digit text
 
--- the size of the body by the values of the fields `Content-Length`: 0 if there is none, and no size if there are two or the one is no
--- number
+-- the size of the body by the values of the fields `Content-Length`: 0 if there is no value, and None if there are two or the only one
+-- isn't a number
 abbrev pub size_by : List (List ℕ) → Option ℕ
 size_by [] = Some 0
 size_by (value ∷ []) = if is_number value then Some (digits_value 10 value) else None
@@ -78,13 +78,14 @@ path_of (byte ∷ target) = if byte == 63 then [] else byte ∷ path_of target
 abbrev pub request_of : RequestHead → Request
 request_of head = record { method = head.method; path = path_of head.target; keys = values_of (codes "office-key") head.fields }
 
--- what bytes ask for: a request, or nothing, since they are too large or no request
+-- what bytes ask for: a request (`Asks`), or nothing, because they are too large or are no request
 pub data Asking : Type 0 where
   TooLarge : Asking
   NoRequest : Asking
   Asks : (request : Request) → Asking
 
--- what a head asks for if a body of `size` bytes belongs to it and `rest` follows it. The body is not looked at
+-- what a head asks for, by the size of its body, which may be None, and the bytes `rest` that follow the head. What the body says doesn't
+-- matter
 abbrev pub asking_with : RequestHead → List ℕ → Option ℕ → Asking
 asking_with head rest None = NoRequest
 asking_with head rest (Some size) =

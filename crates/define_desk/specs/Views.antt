@@ -42,8 +42,8 @@ abbrev pub own_of : List Round → Option Entry → Option Own
 own_of rounds None = None
 own_of rounds (Some entry) = Some (record { entry = entry; dropped = dropped_from entry.id rounds 1 })
 
--- what the desk shows to who gives a key: the volunteer with this key, if there is one, the phase of the last round, and what is published
--- of each round. The last round's number is the number of rounds
+-- what the desk shows to someone who gives a key: the volunteer with this key, if there is one, the phase of the last round, and what is
+-- published of each round. The number of the last round is how many rounds there are
 pub record View : Type 0 where
   pub own : Option Own
   pub phase : Phase
@@ -68,7 +68,7 @@ published_at [] place = Nothing
 published_at (round ∷ rounds) zero = round
 published_at (round ∷ rounds) (suc place) = published_at rounds place
 
--- what is published of the round with a number, counted from 1. There is nothing of a round that isn't there
+-- what is published of the round with a number, counted from 1; nothing if there is no such round
 abbrev pub published_of : List Published → ℕ → Published
 published_of rounds zero = Nothing
 published_of rounds (suc place) = published_at rounds place

@@ -18,7 +18,7 @@ get_own key = asked_with (codes "GET") (codes "/me") (key ∷ [])
 abbrev pub post_withdrawal : List ℕ → Request
 post_withdrawal key = asked_with (codes "POST") (codes "/me/withdraw") (key ∷ [])
 
--- ---- tables
+-- ---- the tables of the examples
 
 -- a has the same row, and all other rows differ
 abbrev pub others_differ : Tables
@@ -43,9 +43,9 @@ drawn_round = in_rounds (drawn (codes "a" ∷ []) ∷ [])
 abbrev pub second_round : Tables
 second_round = in_rounds (drawn (codes "a" ∷ []) ∷ Open ∷ [])
 
--- ---- bytes
+-- ---- the bytes of the examples
 
--- a request for `/me` with the key of a, and its head
+-- a request for `/me` with the key of a; `own_head` is its head
 abbrev pub own_bytes : List ℕ
 own_bytes = codes "GET /me HTTP/1.1\r\nOffice-Key: abc\r\n\r\n"
 
@@ -63,7 +63,7 @@ own_head = record {
 abbrev pub field : List ℕ → List ℕ → Field
 field name raw = record { name = name; raw = raw; end = crlf }
 
--- a withdrawal with these fields
+-- the head of a withdrawal with these fields
 abbrev pub post_with : List Field → RequestHead
 post_with fields = record own_head { method = codes "POST"; target = codes "/me/withdraw?now"; fields = fields }
 

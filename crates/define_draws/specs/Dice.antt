@@ -1,5 +1,5 @@
 -- Dice: which of `total` tickets some digits name. The digits are read in groups of one size; a group names a ticket or is refused, so
--- that each ticket is named by as many groups as any other. `tickets` reads so.
+-- that all tickets are named by equally many groups. `tickets` reads digits this way.
 use Rattle.std.specs.Prelude.{ℕ, pos, zero, suc, ◌+◌, ◌*◌, ◌/◌, ◌^◌, ◌==◌, Bool, true, false, not, ◌&&◌, nat_le, nat_lt, List, length, take, drop, position, sum, Option, Some, None, Result, Ok, Err}
 use Rattle.std.specs.Char.{is_ascii_digit}
 use Rattle.std.specs.List.{find, range_with_len}

@@ -1,4 +1,4 @@
--- The seal of some bytes: their SHA-256 digest (FIPS 180-4) in lower case hexadecimal digits. `sealed_draw` and summaries seal so.
+-- The seal of some bytes: their SHA-256 digest (FIPS 180-4) in lower case hexadecimal digits. `sealed_draw` makes it; summaries have it.
 use Rattle.std.specs.Prelude.{ℕ, Bool, List, bytes_eq, map}
 use Rattle.std.specs.Char.{to_ascii_lowercase}
 use Rattle.hex.specs.Hex.{encode_lower}

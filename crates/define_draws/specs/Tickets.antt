@@ -1,5 +1,5 @@
 -- Tickets: the rows of a lottery have consecutive ranges of whole numbers, from 0, each as long as the row's weight. `tickets` finds
--- rows so.
+-- rows this way.
 use Rattle.std.specs.Prelude.{ℕ, suc, ◌+◌, ◌-◌, ◌<◌, ◌≤◌, nat_lt, if◌then◌else◌, List, [], ◌∷◌, length, map, slice_index, sum, take}
 use Rattle.define_pools.specs.Lottery.{Lottery}
 

@@ -1,7 +1,7 @@
 //! A public draw: the tickets of a lottery's rows, which ticket the digits of dice name, seals, and what is drawn. The definitions are in
-//! `specs/`. Stands on `define_pools` and on SHA-256 as the kit's sha2 defines it. Above: `tickets`, which reads dice and finds rows;
-//! `sealed_draw`, which draws; `define_made_pools`, whose summary has a seal; `define_offices`, whose rounds are sealed and drawn so; the
-//! commands `draw` and `seal`.
+//! `specs/`. Stands on `define_pools` and the toolchain's definition of SHA-256. Used by `tickets`, which reads dice and finds rows;
+//! `sealed_draw`, which draws; `define_short_draws`, which shortens lotteries; `define_made_pools`, whose summary has a seal;
+//! `define_offices`, whose rounds are sealed and drawn in this way; and the commands about seals, draws and dice.
 //!
 //! The functions have no body: their contracts are laws over the definitions, and worked examples. The promise that matters most is
 //! `dice_are_fair`.
@@ -43,7 +43,7 @@ pub enum DiceStop {
     },
 }
 
-/// If the lottery's total agrees, its weights sum to it.
+/// If `TotalAgrees` holds of a lottery, its weights sum to its total.
 pub fn weights_sum()
     ensures { (lottery : Lottery) → TotalAgrees lottery → lottery.total ≡ sum (weights_of lottery) }
 {}
@@ -87,7 +87,8 @@ pub fn draws_the_row_of_the_ticket()
     ensures seal { (lottery : Lottery) (kept given digits : List ℕ) (drawn : Drawn) → draw lottery kept given digits ≡ Ok drawn → map to_ascii_lowercase given ≡ kept }
 {}
 
-/// Draws of small lotteries, computed on the definitions.
+/// Which tickets digits name, or why none, for totals from 1 to 10^38; and the rows of the tickets of a small lottery. Computed on the
+/// definitions.
 pub fn worked_draws()
     ensures three { name_ticket 3 (codes "97") ≡ Ok (record { ticket = pos 2; used = 2 }) }
     ensures refused { name_ticket 3 (codes "9") ≡ Err (DiceStop.MoreDigits 1) }

@@ -5,11 +5,11 @@ use Rattle.csv.specs.Reading.{AreRecords, Reached}
 use Rattle.csv.specs.declared.parser.Config.{Config}
 use Rattle.csv.specs.declared.parser.State.{State}
 
--- a read that gives a record doesn't give none
+-- a read can't both give a record and give none
 clash : {X : Type 0} (r : Option X) (x : X) → r ≡ Some x → r ≡ None → ⊥
 clash r x some none = cc
 
--- a read gives one record
+-- a read gives at most one record
 same_some : {X : Type 0} (r : Option X) (x y : X) → r ≡ Some x → r ≡ Some y → x ≡ y
 same_some r x y first second = cc
 

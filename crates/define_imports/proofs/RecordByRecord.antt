@@ -1,4 +1,4 @@
--- Reading records one by one: `wanted` is the result for all records, and `before` what those before place `i` add up to.
+-- Reading records one by one. `wanted` is the result for all records; `before` is the value that the records before place `i` give.
 use Rattle.std.proofs.Common.{◌≡◌, ◌∙◌, ap, sym, ℕ, suc, ◌+◌, ◌<◌, ◌≤◌, add-one, List, ◌∷◌, map, length, drop, get_or, drop-cons, Option, Some, None, Result, Ok, Err}
 use Rattle.std.proofs.lemmas.List.{drop_all}
 use Rattle.define_imports.specs.Cells.{Fault, fault_or, read_from}
@@ -6,7 +6,7 @@ use Rattle.define_imports.specs.Cells.{Fault, fault_or, read_from}
 module _ {V R : Type 0} (kind_of : V → List (List ℕ) → Option ℕ) (after : V → List (List ℕ) → V) (fields : R → List (List ℕ)) (rows : List R) (place i : ℕ) (before : V) (wanted : Result V Fault)
     (same : read_from kind_of after place before (map fields (drop i rows)) ≡ wanted) where
   module _ (row : R) (inside : i < length rows) (there : row ≡ get_or rows i row) where
-    -- the rows from place `i` on begin with this one
+    -- the rows from place `i` on begin with `row`
     parted : drop i rows ≡ row ∷ drop (i + 1) rows
     parted = drop-cons rows i row inside ∙ (ap (λ r. r ∷ drop (suc i) rows) (sym there) ∙ ap (λ k. row ∷ drop k rows) (sym (add-one i)))
 
@@ -23,6 +23,6 @@ module _ {V R : Type 0} (kind_of : V → List (List ℕ) → Option ℕ) (after 
         ap (λ v. read_from kind_of after (place + 1) v (map fields (drop (i + 1) rows))) e
         ∙ (sym (ap (λ k. fault_or k place (read_from kind_of after (place + 1) (after before (fields row)) (map fields (drop (i + 1) rows)))) h) ∙ from_row)
 
-  -- if no record is left, the result is what they add up to
+  -- if no record is left, the result is `before`, the value that all records give
   pub ends_with : length rows ≤ i → wanted ≡ Ok before
   ends_with h = sym same ∙ ap (λ rest. read_from kind_of after place before (map fields rest)) (drop_all i rows h)

@@ -29,7 +29,7 @@ all_with_rule ok (c ∷ cs) rule h new more =
       | false ↦ λ grown. and_from (ok c) (list_all ok (with_rule cs rule)) parts.0 (all_with_rule ok cs rule parts.1 new grown)
     ]) more
 
--- the names of the categories after a rule was added: the same, with that of a new category at the end
+-- adding a rule leaves the names of the categories as they are, or, if its category is new, appends the category's name
 names_with_rule : (categories : List Category) (rule : Rule) →
     category_names (with_rule categories rule) ≡ cond (includes_list (category_names categories) rule.category) (category_names categories) (category_names categories ++ rule.category ∷ [])
 names_with_rule [] rule = refl
@@ -44,7 +44,7 @@ names_with_rule (c ∷ cs) rule =
     inside true = refl
     inside false = refl
 
--- how many categories there are after a rule was added
+-- adding a rule leaves the number of categories as it is, or adds 1 if the rule's category is new
 length-with_rule : (categories : List Category) (rule : Rule) → length (with_rule categories rule) ≡ cond (includes_list (category_names categories) rule.category) (length categories) (suc (length categories))
 length-with_rule [] rule = refl
 length-with_rule (c ∷ cs) rule =
@@ -65,9 +65,9 @@ values_none (c ∷ cs) name h =
     let parts = or_parts (bytes_eq name c.name) (includes_list (category_names cs) name) h in
     rw parts.0 (values_none cs name parts.1)
 
--- ---- room
+-- ---- room for one more value
 
--- if there is room for a value of this category, its category has at most 49 values, and if the category is new, there are at most 19
+-- if there is room for a value of this category, the category has at most 49 values, and if it is new, there are at most 19 categories
 room : (categories : List Category) (name : List ℕ) → is_full categories name ≡ false → (length (values_of categories name) < 50) × (includes_list (category_names categories) name ≡ false → length categories < 20)
 room categories name h =
     (elim (includes_list (category_names categories) name) as (λ b. includes_list (category_names categories) name ≡ b → cond b (leb 50 (length (values_of categories name))) (leb 20 (length categories)) ≡ false →
@@ -155,9 +155,9 @@ kept categories rule drafts fit =
     alone : is_value rule.value ≡ true → is_category (record { name = rule.category; values = rule.value ∷ [] }) ≡ true
     alone good = and_from (is_name rule.category && true && true) (is_value rule.value && true) (and_from (is_name rule.category && true) true (and_from (is_name rule.category) true fit.named refl) refl) (and_from (is_value rule.value) true good refl)
 
--- ---- all records
+-- ---- reading all records
 
--- what each record without a fault keeps, all of them keep
+-- if each record without a fault keeps `P`, reading all records keeps `P`
 read_keeps : {V : Type 0} (P : V → Type 0) (kind_of : V → List (List ℕ) → Option ℕ) (after : V → List (List ℕ) → V) → ((v : V) (fields : List (List ℕ)) → P v → kind_of v fields ≡ None → P (after v fields)) →
     (place : ℕ) (before : V) (records : List (List (List ℕ))) (value : V) → P before → read_from kind_of after place before records ≡ Ok value → P value
 read_keeps {V} P kind_of after step place before [] value p h = subst P (same before value (Ok before) refl h) p
@@ -170,7 +170,7 @@ read_keeps {V} P kind_of after step place before (fields ∷ later) value p h =
       | Some kind ↦ λ e k. absurd cc
     ]) refl h
 
--- the categories of at least one record may be rules
+-- the categories that are read from at least one record may be rules
 pub rules_are_right : (header first : List (List ℕ)) (later : List (List (List ℕ))) (categories : List Category) →
     read_from (rule_kind header) (after_rule header) 2 [] (first ∷ later) ≡ Ok categories → AreRules categories
 rules_are_right header first later categories h =
@@ -201,7 +201,7 @@ rules_are_right header first later categories h =
           are = and_from (leb 1 (length cs) && filled) free (and_from (leb 1 (length cs)) filled (le-leb 1 (length cs) some) drafts.filled) drafts.free;
         }
 
--- as `rules_are_right`, for at least one row of any type, of which `fields` gives the fields
+-- as `rules_are_right`, for records of any type `R`; `fields` gives the fields of a record
 pub rows_give_rules : {R : Type 0} (header : List (List ℕ)) (fields : R → List (List ℕ)) (rows : List R) (categories : List Category) → eqb (length rows) 0 ≡ false →
     read_from (rule_kind header) (after_rule header) 2 [] (map fields rows) ≡ Ok categories → AreRules categories
 rows_give_rules header fields [] categories some h = absurd (false≢true (sym some))

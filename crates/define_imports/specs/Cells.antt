@@ -1,5 +1,5 @@
--- Files of CSV: their records, the fields of a record by the names of the columns, and the first fault of a file. Over the reading of CSV
--- that the toolchain's `csv` defines. Rules and Registers stand on it.
+-- Files of CSV: their records, the fields of a record by the names of the columns, and the first fault of a file. Builds on the reading of
+-- CSV that the toolchain's `csv` defines. Rules and Registers stand on it.
 use Rattle.std.specs.Prelude.{ℕ, ◌+◌, ◌==◌, ◌||◌, if◌then◌else◌, Bool, List, [], ◌∷◌, reverse, count_by, position, bytes_eq, Option, Some, None, slice_index_or, Result, Ok, Err}
 use Rattle.csv.specs.Reading.{AreRecords, default_config, strip_bom}
 use Rattle.csv.specs.declared.parser.State.TheVariants as state
@@ -9,7 +9,7 @@ pub record Fault : Type 0 where
   pub place : ℕ
   pub kind : ℕ
 
--- these are the records of a file of CSV. A mark of the byte order at its front is passed over. The header is the first record
+-- `records` are the records of a file of CSV. A mark of the byte order at its front is passed over. The header is the first record
 abbrev pub AreRecordsOf : List ℕ → List (List (List ℕ)) → Type 0
 AreRecordsOf bytes records = AreRecords default_config state.StartRecord (strip_bom bytes) records
 
@@ -52,7 +52,8 @@ cell fields (Some place) = trimmed (slice_index_or fields place [])
 abbrev pub cell_named : List (List ℕ) → List (List ℕ) → List ℕ → List ℕ
 cell_named header fields name = cell fields (column header name)
 
--- the fault of the header: a column that is needed is missing, or is there twice
+-- the fault of the header: there is none, a column that is needed is missing, or a column that is used is there twice. It is also the fault
+-- of a file of rules without a record after the header
 abbrev pub header_fault : Fault
 header_fault = record { place = 1; kind = 2 }
 
@@ -61,8 +62,8 @@ abbrev pub fault_or : {Value : Type 0} → Option ℕ → ℕ → Result Value F
 fault_or None place later = later
 fault_or (Some kind) place later = Err (record { place = place; kind = kind })
 
--- what all records add to `before`, or their first fault. The first one is at `place`. `kind_of` is the lowest kind of fault of a record, if
--- it has a fault, and `after` what it adds
+-- `before` with all records added to it by `after`, or the first fault of a record. The first record is at `place`. `kind_of` gives the
+-- lowest kind of fault of a record, if the record has a fault
 abbrev pub read_from : {Value : Type 0} → (Value → List (List ℕ) → Option ℕ) → (Value → List (List ℕ) → Value) → ℕ → Value → List (List (List ℕ)) → Result Value Fault
 read_from kind_of after place before [] = Ok before
 read_from kind_of after place before (fields ∷ later) =

@@ -1,5 +1,5 @@
--- How a file is read as a charter: a document of TOML with a string `title` and a whole number `size`. Further keys are passed over. Over
--- the reading of TOML that the toolchain's `toml` defines.
+-- How a file is read as a charter: a document of TOML with a string `title` and a whole number `size`. Further keys are passed over. Builds
+-- on the reading of TOML that the toolchain's `toml` defines.
 use Rattle.std.specs.Prelude.{ℕ, ℤ, pos, negsuc, if◌then◌else◌, not, List, codes, Option, Some, None, Result, Ok, Err, option_and_then}
 use Rattle.std.specs.Str.{is_utf8}
 use Rattle.toml.specs.Data.{Members, as_integer, as_str, get_member}
@@ -12,25 +12,26 @@ use Rattle.define_imports.specs.Cells.{Fault}
 abbrev pub fault : ℕ → Result Charter Fault
 fault kind = Err (record { place = 0; kind = kind })
 
--- the size that a whole number is, or 0, which is no size
+-- the whole number as a size; for a negative number 0, which is no size
 abbrev pub size_of : ℤ → ℕ
 size_of (pos number) = number
 size_of (negsuc number) = 0
 
--- 4: the title isn't allowed as a name; 6: the size isn't from 1 to 200
+-- the charter of a title and a size, or its fault. 4: the title isn't allowed as a name; 6: the size isn't from 1 to 200
 abbrev pub judged : List ℕ → ℕ → Result Charter Fault
 judged title size =
     if not (is_name title) then fault 4
     else if not (is_size size) then fault 6
     else Ok (record { title = title; size = size })
 
--- 2: there is no title, or it isn't a string; 3: there is no size, or it isn't a whole number
+-- the charter of the title and the size that were found, or its fault. 2: there is no title, or it isn't a string; 3: there is no size, or
+-- it isn't a whole number
 abbrev pub charter_of_parts : Option (List ℕ) → Option ℤ → Result Charter Fault
 charter_of_parts None size = fault 2
 charter_of_parts (Some title) None = fault 3
 charter_of_parts (Some title) (Some size) = judged title (size_of size)
 
--- 1: the text is no document of TOML
+-- the charter of a document of TOML, or its fault. 1: the text is no document of TOML
 abbrev pub charter_of : Option Members → Result Charter Fault
 charter_of None = fault 1
 charter_of (Some table) =

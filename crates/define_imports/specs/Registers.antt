@@ -1,5 +1,5 @@
--- How a file of CSV is read as rows of the register: columns `id` and `key`, one for each category of the rules, and, if no category has
--- that name, one for households, if the file has it. Over Cells.
+-- How a file of CSV is read as rows of the register. It has the columns `id` and `key`, and one for each category of the rules. It may have
+-- a column `household`, which is for households unless a category has this name. Builds on Cells.
 use Rattle.std.specs.Prelude.{ℕ, ◌==◌, nat_le, if◌then◌else◌, Bool, not, ◌&&◌, ◌||◌, List, [], ◌∷◌, ◌++◌, map, length, codes, Option, Some, None, Result, Err, ◌≡◌}
 use Rattle.std.specs.List.{list_all}
 use Rattle.std.specs.Str.{is_utf8}
@@ -14,11 +14,11 @@ use Rattle.define_imports.specs.Cells.{AreRecordsOf, Fault, cell_named, has_once
 abbrev pub row_columns : List Category → List (List ℕ)
 row_columns rules = codes "id" ∷ codes "key" ∷ category_names rules
 
--- the column `household` is that of a category
+-- a category is called `household`, so a column of this name is for the category
 abbrev pub is_household_taken : List Category → Bool
 is_household_taken rules = includes_list (category_names rules) (codes "household")
 
--- each column that is needed is there once, and that for households at most once
+-- each column that is needed is there once, and a column for households is there at most once
 abbrev pub is_row_header : List Category → List (List ℕ) → Bool
 is_row_header rules header =
     list_all (has_once header) (row_columns rules) && (is_household_taken rules || nat_le (times header (codes "household")) 1)
@@ -28,7 +28,7 @@ abbrev pub filled : List ℕ → Option (List ℕ)
 filled [] = None
 filled (byte ∷ rest) = Some (byte ∷ rest)
 
--- the field for the household, empty if there is no column for it
+-- the field for the household; empty if there is no column for households
 abbrev pub household_cell : List Category → List (List ℕ) → List (List ℕ) → List ℕ
 household_cell rules header fields = if is_household_taken rules then [] else cell_named header fields (codes "household")
 
@@ -63,7 +63,7 @@ row_kind rules header rows fields = lowest_kind (row_kinds rules header fields)
 abbrev pub after_row : List Category → List (List ℕ) → List Given → List (List ℕ) → List Given
 after_row rules header rows fields = rows ++ row_of rules header fields ∷ []
 
--- the rows of a file with these records, or its first fault. It needs a header, and may have no record after it
+-- the rows of a file with these records, or its first fault. The file needs a header, and may have no record after the header
 abbrev pub rows_of : List Category → List (List (List ℕ)) → Result (List Given) Fault
 rows_of rules [] = Err header_fault
 rows_of rules (header ∷ records) =

@@ -1,5 +1,5 @@
--- How a file of CSV is read as rules: columns `category`, `name`, `min` and `max`, and a record for each value. Categories and values are in
--- the order in which they first appear. Over Cells.
+-- How a file of CSV is read as rules: columns `category`, `name`, `min` and `max`, and a record for each value. Categories and values are
+-- in the order in which they first appear. Builds on Cells.
 use Rattle.std.specs.Prelude.{ℕ, ◌==◌, nat_le, if◌then◌else◌, Bool, not, ◌&&◌, ◌||◌, List, [], ◌∷◌, ◌++◌, length, codes, bytes_eq, Option, Result, Err, ◌≡◌}
 use Rattle.std.specs.List.{list_all}
 use Rattle.std.specs.Str.{is_utf8}
@@ -17,7 +17,7 @@ rule_columns = codes "category" ∷ codes "name" ∷ codes "min" ∷ codes "max"
 abbrev pub is_digit : ℕ → Bool
 is_digit byte = nat_le 48 byte && nat_le byte 57
 
--- 1 to 9 digits, with or without leading zeros
+-- the field is a number: 1 to 9 digits, with or without leading zeros
 abbrev pub is_number : List ℕ → Bool
 is_number field = nat_le 1 (length field) && nat_le (length field) 9 && list_all is_digit field
 
@@ -45,7 +45,7 @@ abbrev pub values_of : List Category → List ℕ → List BoundedValue
 values_of [] name = []
 values_of (category ∷ categories) name = if bytes_eq name category.name then category.values else values_of categories name
 
--- the categories, with the value added to the category with this name, which is appended if it is new
+-- the categories with the rule's value added to the rule's category, which is appended if it is new
 abbrev pub with_rule : List Category → Rule → List Category
 with_rule [] rule = record { name = rule.category; values = rule.value ∷ [] } ∷ []
 with_rule (category ∷ categories) rule =
@@ -61,7 +61,7 @@ is_full categories name =
 abbrev pub is_text : List (List ℕ) → List (List ℕ) → Bool
 is_text header fields = list_all (λ name. is_utf8 (cell_named header fields name)) rule_columns
 
--- a category or value has a name that isn't allowed, or a category is named as a column of each register
+-- the category or the value has a name that isn't allowed, or the category has the name of a column that each register has
 abbrev pub is_misnamed : Rule → Bool
 is_misnamed rule = not (is_name rule.category) || not (is_name rule.value.name) || is_reserved rule.category
 
@@ -85,7 +85,8 @@ rule_kind header categories fields = lowest_kind (rule_kinds header categories f
 abbrev pub after_rule : List (List ℕ) → List Category → List (List ℕ) → List Category
 after_rule header categories fields = with_rule categories (rule_of header fields)
 
--- the categories of a file with these records, or its first fault. It needs a header with the four columns, and a record after it
+-- the categories of a file with these records, or its first fault. The file needs a header with the four columns, and a record after the
+-- header
 abbrev pub rules_of : List (List (List ℕ)) → Result (List Category) Fault
 rules_of [] = Err header_fault
 rules_of (header ∷ []) = Err header_fault

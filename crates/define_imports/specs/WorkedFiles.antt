@@ -12,7 +12,7 @@ fault place kind = Err (record { place = place; kind = kind })
 abbrev pub no_text : List ℕ
 no_text = 255 ∷ []
 
--- ---- rules
+-- ---- records and categories of rules
 
 abbrev pub head : List (List ℕ)
 head = codes "category" ∷ codes "name" ∷ codes "min" ∷ codes "max" ∷ []
@@ -41,7 +41,7 @@ many_categories = map (λ letter. record { name = letter ∷ []; values = value 
 abbrev pub many_values : List Category
 many_values = record { name = codes "gender"; values = map (λ letter. value (letter ∷ []) 0 1) (range_with_len 65 50) } ∷ []
 
--- ---- registers
+-- ---- records of registers
 
 abbrev pub columns : List (List ℕ)
 columns = codes "id" ∷ codes "key" ∷ codes "gender" ∷ []

@@ -1,5 +1,5 @@
-//! The files that an office imports, in definitions: a charter in TOML, rules and a register in CSV; the value of a file, or its first fault.
-//! The definitions are in `specs/`. Stands on the definitions of pools and offices and on the toolchain's readings of CSV and TOML.
+//! The files that an office imports, in definitions: a charter in TOML, rules and a register in CSV; the value of a file, or its first
+//! fault. The definitions are in `specs/`. Stands on the definitions of pools and offices and on the toolchain's readings of CSV and TOML.
 //! `office_import` implements it. The functions have no body: their contracts are laws and worked examples.
 #![tactic(auto)]
 
@@ -26,7 +26,7 @@ pub fn read_rules_are_rules()
     ensures { (records : List (List (List ℕ))) (categories : List Category) → rules_of records ≡ Ok categories → AreRules categories }
 {}
 
-/// Charters, one of each kind of fault.
+/// What is read as a charter: some cases without a fault, and at least one for each kind of fault.
 pub fn worked_charters()
     ensures right { charter_of (Some (member (codes "size") (integer (pos 2)) (member (codes "title") (string (codes "River")) no_members))) ≡ Ok (record { title = codes "River"; size = 2 }) }
     ensures no_toml { charter_of None ≡ fault 0 1 }
@@ -41,7 +41,8 @@ pub fn worked_charters()
     ensures blanks_stay { charter_of_parts (Some (codes " River")) (Some (pos 200)) ≡ Ok (record { title = codes " River"; size = 200 }) }
 {}
 
-/// Rules, one of each kind of fault, each with a lower kind in a later record and mostly with a higher kind in the same record.
+/// Files of rules: some without a fault, and at least one for each kind of fault. Many of these also have a fault of a lower kind in a
+/// later record, or one of a higher kind in the same record. Its fault is the lowest kind of the first faulty record.
 pub fn worked_rules()
     ensures two_values { rules_of (head ∷ female ∷ male ∷ []) ≡ Ok rules }
     ensures first_appearance { rules_of (head ∷ female ∷ line (codes "age") (codes "old") (codes "0") (codes "009") ∷ line (codes " gender" ++ 9 ∷ []) (9 ∷ codes "male ") (codes " 1") (codes "1 ") ∷ []) ≡
@@ -65,8 +66,8 @@ pub fn worked_rules()
     ensures one_value_more { read_from (rule_kind head) (after_rule head) 52 many_values (female ∷ (no_text ∷ []) ∷ []) ≡ fault 52 8 }
 {}
 
-/// Registers for rules of one category `gender`, one of each kind of fault, each with a lower kind in a later record and mostly with a higher
-/// kind in the same record.
+/// Files of registers, mostly for rules of one category `gender`: some without a fault, and at least one for each kind of fault. Many of
+/// these also have a fault of a lower kind in a later record, or one of a higher kind in the same record.
 pub fn worked_rows()
     ensures right { rows_of rules (columns ∷ a ∷ row (codes " b ") (codes "k2") (codes "male" ++ 9 ∷ []) ∷ []) ≡
         Ok (given (codes "a") (codes "abc") (codes "female") None ∷ given (codes "b") (codes "k2") (codes "male") None ∷ []) }

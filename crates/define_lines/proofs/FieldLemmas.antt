@@ -64,7 +64,7 @@ digits_plain n h = decimal_by_steps_wide (λ m digits. list_all is_plain digits 
 pub decimal_field : (n : ℕ) → n < 10 ^ 64 → IsField (decimal n)
 decimal_field n h = plain_field (decimal n) (digits_plain n h)
 
--- if all fields are free of LF, so is their line
+-- the line of fields has no LF
 pub line_lacks_feed : (fields : List (List ℕ)) → AllByRecursion IsField fields → Lacks line_feed (line_of fields)
 line_lacks_feed [] h = All-from_recursion (λ b. eqb b 10 ≡ false) [] tt
 line_lacks_feed (field ∷ []) h = h.0.no_feed

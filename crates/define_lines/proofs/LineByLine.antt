@@ -1,4 +1,5 @@
--- Reading line by line: one line, lines without a fault, and that bytes read as a value are the value's spelling.
+-- Laws on reading a text line by line: what one line does, what lines without a fault do, and that bytes that are read as a value are the
+-- spelling of this value.
 use Rattle.std.proofs.Common.{◌≡◌, ℕ, ◌+◌, List, [], ◌∷◌, ◌++◌, Some, None, Result, Ok, Err, refl, sym, ap, ◌∙◌, subst, append_assoc}
 use Rattle.std.specs.List.{AllByRecursion, join_with_byte}
 use Rattle.std.proofs.lemmas.Grind.{flat_map-append}
@@ -63,8 +64,8 @@ module _ {P X : Type 0} (reader : Reader P X) where
 
   -- ---- a text that is read is the spelling of its value
 
-  -- Two assumptions. A line without a fault keeps the progress right and is appended to the lines so far. If a text ends with a value,
-  -- the text of its lines, followed by its last bytes, is the spelling of this value
+  -- Two premises. After a line without a fault, the progress is right and has this line appended to its lines so far. If a text ends with a
+  -- value, the text of its lines, followed by its last bytes, is the spelling of this value
   module _ (IsRight : P → Type 0) (lines_so_far : P → List (List ℕ)) (IsValue : X → Type 0) (spelling : X → List ℕ)
       (line_adds : (progress : P) (line : List ℕ) → IsRight progress → reader.line_kind progress line ≡ None → IsRight (reader.after_line progress line) × (lines_so_far (reader.after_line progress line) ≡ lines_so_far progress ++ line ∷ []))
       (last_is_spelled : (number : ℕ) (progress : P) (bytes : List ℕ) (value : X) → IsRight progress → reader.at_last number progress bytes ≡ Ok value → IsValue value × (text_of (lines_so_far progress) ++ bytes ≡ spelling value)) where

@@ -63,7 +63,7 @@ fields_of-line_of field [] h = slice_split_none (λ b. eqb b tab) field h.0
 fields_of-line_of field (next ∷ later) h =
     slice_split_at (λ b. eqb b tab) field tab (line_of (next ∷ later)) h.0 refl ∙ ap (λ fs. field ∷ fs) (fields_of-line_of next later h.1)
 
--- a line is the line of its fields
+-- the line made of the fields of a line is this line again
 pub line_of-fields_of : (line : List ℕ) → line_of (fields_of line) ≡ line
 line_of-fields_of line = join_with_byte-slice_split tab line
 

@@ -1,4 +1,5 @@
--- Numbers and their digits: each is read from the other.
+-- A field is read as a number, with or without a sign, exactly if it is the spelling of this number, whose absolute value is at most a
+-- limit.
 use Rattle.std.proofs.Common.{◌≡◌, ◌≢◌, ℕ, suc, ◌<◌, ◌≤◌, ◌^◌, true, false, ◌&&◌, cond, leb, eqb, List, [], ◌∷◌, get_or, refl, ◌∙◌, ap, subst, arith, Some, None}
 use Rattle.std.specs.Prelude.{ℤ, pos, negsuc, neg_ℤ, bytes_eq, unsigned_abs}
 use Rattle.std.specs.Fmt.{decimal, signed_decimal}
@@ -16,7 +17,7 @@ bytes_are xs ys h = (bytes_eq-Decides xs ys).0 h
 pub bytes_same : (xs ys : List ℕ) → xs ≡ ys → bytes_eq xs ys ≡ true
 bytes_same xs ys h = (bytes_eq-Decides xs ys).1 h
 
--- the digits of a number up to the limit, below 10 ^ 64, are read as this number
+-- if a number is at most the limit and below 10 ^ 64, its digits are read as this number
 pub number_again : (limit n : ℕ) → n < 10 ^ 64 → n ≤ limit → number_up_to limit (decimal n) ≡ Some n
 number_again limit n small h =
     let value = (decimal_is_IsNumeral_wide n small).1 in

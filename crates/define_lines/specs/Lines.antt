@@ -1,5 +1,5 @@
--- Texts of lines: TAB parts the fields, LF ends each line; and the fault of a text. Reading.antt and the definitions of each text cite
--- it.
+-- Texts made of lines: a TAB separates two fields, and an LF ends each line. Also what the fault of a text is. Reading.antt and the
+-- definitions of each text use this file.
 use Rattle.std.specs.Prelude.{ℕ, ◌==◌, List, [], ◌∷◌, ◌++◌}
 use Rattle.std.specs.List.{flat_map, join_with_byte, slice_split}
 

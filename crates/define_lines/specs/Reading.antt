@@ -1,5 +1,4 @@
--- Texts that are read line by line, up to the first faulty line. Over Lines. The readings of pools, bundles and proofs are each a
--- Reader.
+-- How a text is read line by line, up to the first faulty line. Builds on Lines. Pools, bundles and proofs are each read by a Reader.
 use Rattle.std.specs.Prelude.{ℕ, ◌+◌, List, [], ◌∷◌, Option, Some, None, Result, Err}
 use Rattle.define_lines.specs.Lines.{Fault}
 

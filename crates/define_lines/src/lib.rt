@@ -24,7 +24,7 @@ pub fn signed_number_has_one_spelling()
     ensures spelled { (limit : ℕ) (z : ℤ) (field : List ℕ) → signed_up_to limit field ≡ Some z → (signed_decimal z ≡ field) × (unsigned_abs z ≤ limit) }
 {}
 
-/// A line is the line of its own fields.
+/// Splitting a line into its fields and joining them again gives the same line.
 pub fn line_is_its_fields()
     ensures { (line : List ℕ) → line_of (fields_of line) ≡ line }
 {}

@@ -1,4 +1,4 @@
--- The first of least cost, in a list in order.
+-- `first_cheapest` returns None only for an empty list. In a list that is in order, it returns the first of those with the least cost.
 use Rattle.std.proofs.Common.{◌≡◌, ℕ, ◌≤◌, ◌<◌, Bool, true, false, cond, ltb, List, [], ◌∷◌, Option, Some, None, refl, arith, subst}
 use Rattle.std.specs.Prelude.{Contains}
 use Rattle.std.specs.List.{AllByRecursion}
@@ -9,11 +9,11 @@ use Rattle.define_searches.proofs.Contained.{contains_first, contains_later}
 use Rattle.define_searches.proofs.Order.{Ordered, not_back}
 use Rattle.define_loosenings.specs.Costs.{cheaper, first_cheapest}
 
--- x costs at least as much as `counts`, and more if it comes before `counts`
+-- `x` costs at least as much as `counts`, and more if it comes before `counts`
 abbrev pub IsDearer : (List ℕ → ℕ) → List ℕ → List ℕ → Type 0
 IsDearer cost counts x = (cost counts ≤ cost x) × (comes_before x counts ≡ true → cost counts < cost x)
 
--- `counts` are in the list, and all lists in it are dearer
+-- `counts` are in the list; each list in it costs at least as much, and more if it comes before `counts`
 pub record IsFirst (cost : List ℕ → ℕ) (xs : List (List ℕ)) (counts : List ℕ) : Type 0 where
   pub listed : Contains xs counts
   pub dearer : AllByRecursion (IsDearer cost counts) xs

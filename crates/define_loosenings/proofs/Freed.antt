@@ -29,7 +29,7 @@ free_category size category = record { name = category.name; values = map (free_
 abbrev bound_of : BoundedValue → Bounds
 bound_of value = record { lower = value.lower; upper = value.upper }
 
--- the pool in which each value may have from none to all members of a panel
+-- the same pool, but each value has the lower bound 0 and the panel's size as its upper bound
 abbrev pub freed : Pool → Pool
 freed pool = record { size = pool.size; categories = map (free_category pool.size) pool.categories; volunteers = pool.volunteers }
 
@@ -53,7 +53,7 @@ quotas_free size volunteers team few first (category ∷ categories) =
     (list_all (λ (c, category). list_all (λ (v, value). is_within value (members_with volunteers team c v)) (enumerate_from 0 category.values)) (enumerate_from (first + 1) (map (free_category size) categories)))
     (values_free size first volunteers team few 0 category.values) (quotas_free size volunteers team few (first + 1) categories)
 
--- what holds of a team
+-- the properties of a team
 pub record Team (pool : Pool) (team : List ℕ) : Type 0 where
   pub of_size : is_of_size pool team ≡ true
   pub standings : keeps_standings pool.volunteers team ≡ true
@@ -65,7 +65,7 @@ team_parts pool team h =
     let parts = and_parts (is_of_size pool team) (keeps_standings pool.volunteers team) both.0 in
     record { of_size = parts.0; standings = parts.1; households = both.1 }
 
--- a quota panel is a team that meets the quotas
+-- a team that meets the quotas is a quota panel
 pub panel_of_team : (pool : Pool) (team : List ℕ) → is_team pool team ≡ true → meets_quotas pool.categories pool.volunteers team ≡ true → is_quota_panel pool team ≡ true
 panel_of_team pool team h met =
     let parts = team_parts pool team h in
@@ -148,13 +148,13 @@ module _ (pool : Pool) (alike : ℕ → ℕ → Bool) where
   team_counts_same = filter_agree (makes_team all) (is_composition free) team_is_composition (all_counts all.classes)
 
   module _ (makes : MakesClasses pool alike) where
-    -- the first members of each team's counts are a team
+    -- for the counts of each team, the first members of each class, as many as the counts say, are a team
     pub first_teams : AllByRecursion (λ counts. is_team pool (first_panel all counts) ≡ true) (team_counts all)
     first_teams = subst (λ xs. AllByRecursion (λ counts. is_team pool (first_panel all counts) ≡ true) xs) (sym team_counts_same)
         (each_map (λ counts. is_quota_panel (freed pool) (first_panel free counts) ≡ true) (λ counts. is_team pool (first_panel all counts) ≡ true)
         (λ counts fits. (team_of_panel (freed pool) (first_panel free counts) fits).0) (compositions free) (first_panels_fit (freed pool) alike (freed_makes pool alike makes)))
 
-    -- the first members of each team's counts have these counts
+    -- for the counts of each team, the first members of each class, as many as the counts say, have these counts as their composition
     pub first_teams_compose : AllByRecursion (λ counts. composition_of all (first_panel all counts) ≡ counts) (team_counts all)
     first_teams_compose = subst (λ xs. AllByRecursion (λ counts. composition_of all (first_panel all counts) ≡ counts) xs) (sym team_counts_same)
         (first_panels_compose (freed pool) alike (freed_makes pool alike makes))

@@ -1,15 +1,16 @@
--- Keeping each list that costs less than the one kept before keeps the first of least cost.
+-- Go through lists of counts in order, and keep each that costs less than the one kept so far: the one kept at the end is the first of
+-- those with the least cost.
 use Rattle.std.proofs.Common.{◌≡◌, ℕ, Bool, true, false, cond, ltb, List, [], ◌∷◌, fold, Option, Some, None, refl, sym, ◌∙◌, arith}
 use Rattle.std.specs.List.{AllByRecursion}
 use Rattle.std.proofs.lemmas.Bool.{ltb-true, ltb-false, lt-ltb, le-ltb}
 use Rattle.define_loosenings.specs.Costs.{cheaper, first_cheapest}
 
--- nothing is kept yet, or `counts` cost less than what is kept
+-- true if nothing is kept yet, or `counts` cost less than what is kept
 abbrev pub costs_less : (List ℕ → ℕ) → Option (List ℕ) → List ℕ → Bool
 costs_less cost None counts = true
 costs_less cost (Some kept) counts = ltb (cost counts) (cost kept)
 
--- one step of keeping
+-- what is kept after `counts` were compared: `counts` if nothing was kept before or they cost less than what was kept, else what was kept
 abbrev pub keep : (List ℕ → ℕ) → Option (List ℕ) → List ℕ → Option (List ℕ)
 keep cost kept counts = cond (costs_less cost kept counts) (Some counts) kept
 
@@ -17,7 +18,7 @@ pub keep_none : (cost : List ℕ → ℕ) (kept : Option (List ℕ)) (xs : List 
 keep_none cost kept [] h = refl
 keep_none cost kept (x ∷ xs) h = let e = h.0 in rw e (keep_none cost kept xs h.1)
 
--- of what is kept and what was found later, the first of least cost
+-- the cheaper of what is kept and what is found later; if both cost the same, what is kept
 abbrev better : (List ℕ → ℕ) → Option (List ℕ) → Option (List ℕ) → Option (List ℕ)
 better cost None found = found
 better cost (Some kept) None = Some kept

@@ -59,7 +59,7 @@ module _ (pool : Pool) (alike : ℕ → ℕ → Bool) (makes : MakesClasses pool
       by none None e = e
       by none (Some counts) e = absurd (none (first_panel (classes_by alike pool) counts) (cheapest_is counts e).is_one)
 
--- ---- loosenings
+-- ---- least loosenings
 
 -- a pool whose list of quota panels isn't empty has one
 some_panel : (pool : Pool) → panels pool ≢ [] → (panel : List ℕ) × (is_quota_panel pool panel ≡ true)

@@ -10,7 +10,7 @@ use Rattle.define_pools.specs.Pool.{BoundedValue, Category, IsPool, Pool, Volunt
 use Rattle.define_loosenings.specs.Teams.{DifferInBounds, bounds_moved, distance, is_team, loosened, loosened_category, loosened_value, missed_by, names_of_values, team_cost, values_moved}
 use Rattle.define_loosenings.proofs.Freed.{panel_of_team, team_length, team_of_panel, team_parts}
 
--- ---- one value
+-- ---- the bounds of one value
 
 moved_is_missed : (lower upper number : ℕ) → distance lower (min lower number) + distance upper (max upper number) ≡ missed_by lower upper number
 moved_is_missed lower upper number = omega arith
@@ -40,7 +40,7 @@ still_value value number few h =
     let low = min value.lower number in let up = max value.upper number in
     and_from (is_name value.name) (are_bounds low up) parts.0 (and_from (leb low up) (leb up 999) (le-leb low up (omega arith)) (le-leb up 999 (omega arith)))
 
--- ---- the values of a category, and the categories
+-- ---- the bounds of the values of a category, and of all categories
 
 module _ (volunteers : List Volunteer) (team : List ℕ) where
   abbrev number_of : ℕ → ℕ → ℕ
@@ -52,14 +52,14 @@ module _ (volunteers : List Volunteer) (team : List ℕ) where
   abbrev loose_categories : ℕ → List Category → List Category
   loose_categories first categories = map (λ (c, category). loosened_category volunteers team c category) (enumerate_from first categories)
 
-  -- how far the values of category c are missed
+  -- by how many people the team misses the bounds of these values of category `c`, in all; the first value has the place `first`
   values_missed : ℕ → ℕ → List BoundedValue → ℕ
   values_missed c first values = total (λ (v, value). missed_by value.lower value.upper (number_of c v)) (enumerate_from first values)
 
   all_missed : ℕ → List Category → ℕ
   all_missed first categories = total (λ (c, category). values_missed c 0 category.values) (enumerate_from first categories)
 
-  -- the values are met
+  -- the team meets the bounds of these values of category `c`; the first value has the place `first`
   abbrev values_meet : ℕ → ℕ → List BoundedValue → Bool
   values_meet c first values = list_all (λ (v, value). is_within value (number_of c v)) (enumerate_from first values)
 
@@ -107,7 +107,8 @@ module _ (volunteers : List Volunteer) (team : List ℕ) where
       and_from (is_within value (number_of c first)) (values_meet c (first + 1) values)
       (within_from_none value.lower value.upper (number_of c first) (omega (arith, z))) (values_meet_from c (first + 1) values (omega (arith, z)))
 
-  -- if the values' names are the same, and the others are met, the others differ by at least as much as is missed
+  -- if `others` have the names of `values`, and the team meets the bounds of `others`, the bounds of the two lists differ by at least as
+  -- much as the team misses those of `values`
   values_missed_within : (c first : ℕ) (values others : List BoundedValue) → map (λ (value : BoundedValue). value.name) others ≡ map (λ (value : BoundedValue). value.name) values →
       values_meet c first others ≡ true → values_missed c first values ≤ values_moved values others
   unfolding values_missed
@@ -192,9 +193,9 @@ module _ (volunteers : List Volunteer) (team : List ℕ) where
       let here = values_missed_within first 0 category.values other.values (cc) parts.0 in
       let rest = all_missed_within (first + 1) categories others (cc) parts.1 in omega (arith, here, rest)
 
--- ---- pools
+-- ---- the bounds of a pool
 
--- what a team costs is what it misses
+-- a team's cost is the number of people by which it misses the bounds, added up over the values of all categories
 cost_is : (pool : Pool) (team : List ℕ) → team_cost pool team ≡ all_missed pool.volunteers team 0 pool.categories
 unfolding all_missed values_missed
 cost_is pool team =
@@ -236,14 +237,14 @@ loosened_is_pool pool team p h =
       households = p.households;
     }
 
--- a team costs nothing exactly if it meets the quotas
+-- a team that meets the quotas costs nothing; `met_if_free` is the converse
 pub free_if_met : (pool : Pool) (team : List ℕ) → meets_quotas pool.categories pool.volunteers team ≡ true → team_cost pool team ≡ 0
 free_if_met pool team h = cost_is pool team ∙ none_missed_by_all pool.volunteers team 0 pool.categories h
 
 pub met_if_free : (pool : Pool) (team : List ℕ) → team_cost pool team ≡ 0 → meets_quotas pool.categories pool.volunteers team ≡ true
 met_if_free pool team z = all_meet_from pool.volunteers team 0 pool.categories (sym (cost_is pool team) ∙ z)
 
--- a quota panel of a pool that differs in bounds alone is a team, and costs at most by how much the bounds differ
+-- if two pools differ in bounds alone, a quota panel of `other` is a team of `pool`, and costs at most what the bounds differ by in all
 pub panel_of_other : (pool other : Pool) (team : List ℕ) → DifferInBounds pool other → is_quota_panel other team ≡ true →
     (is_team pool team ≡ true) × (team_cost pool team ≤ bounds_moved pool.categories other.categories)
 panel_of_other pool other team differ h =

@@ -1,4 +1,4 @@
--- The search through live fronts keeps the cheapest team.
+-- The search through live fronts finds the cheapest team.
 use Rattle.std.proofs.Common.{◌≡◌, ℕ, ◌+◌, ◌-◌, ◌≤◌, Bool, true, false, cond, ◌&&◌, eqb, leb, List, [], ◌∷◌, ◌++◌, map, filter, fold, sum_by, Option, Some, None, refl, sym, ap, ◌∙◌, arith, append_assoc}
 use Rattle.std.specs.List.{flat_map, enumerate_from, AllByRecursion}
 use Rattle.std.proofs.lemmas.Bool.{and_parts, and_from, eqb-true, eq-eqb, leb-true, le-leb, ltb-true, lt-ltb, false≢true, false_from_ne_true}
@@ -57,9 +57,9 @@ team_from_front all pre front split leads =
     let high : all.size ≤ taken_by all front + 0 = leb-true all.size (taken_by all front + 0) (rw after at sizes.1) in
     and_from (eqb (taken_by all front) all.size) (takes_one_a_household all.classes front) (eq-eqb (taken_by all front) all.size (omega arith)) parts.1
 
--- ---- what counts that begin with a front cost
+-- ---- the cost of counts that begin with a front
 
--- if P relates the parts of two sums over the values, it relates the sums
+-- if each term of one sum over the values is at most the same term of another, the first sum is at most the second
 sums_within : (f g : ℕ → ℕ → Bounds → ℕ) → ((c v : ℕ) (bound : Bounds) → f c v bound ≤ g c v bound) → (bounds : List (List Bounds)) →
     sum_by (λ (c, values). sum_by (λ (v, bound). f c v bound) (enumerate_from 0 values)) (enumerate_from 0 bounds)
     ≤ sum_by (λ (c, values). sum_by (λ (v, bound). g c v bound) (enumerate_from 0 values)) (enumerate_from 0 bounds)
@@ -75,7 +75,7 @@ sums_within f g le bounds =
 surely_within : (lower upper taken more most : ℕ) → more ≤ most → (lower - (taken + most)) + (taken - upper) ≤ missed_by lower upper (taken + more)
 surely_within lower upper taken more most l = omega arith
 
--- counts that begin with a front cost at least what the front surely costs
+-- counts that begin with a front cost at least the front's sure cost
 sure_cost_within : (all : Classes) (pre later : List Class) (front counts : List ℕ) → Split all pre later front → Gives later counts → sure_cost all front ≤ cost all (front ++ counts)
 sure_cost_within all pre later front counts split gives =
     sums_within (λ c v bound. surely_missed bound (taken_of (has_value c v) all.classes front) (most_given (has_value c v) (later_than front all.classes)))
@@ -89,7 +89,7 @@ sure_cost_within all pre later front counts split gives =
 missed_without : (lower upper taken : ℕ) → missed_by lower upper taken ≤ (lower - (taken + 0)) + (taken - upper)
 missed_without lower upper taken = omega arith
 
--- counts for all classes cost at most what they surely cost as a front
+-- if a front has counts for all classes, they cost at most its sure cost
 cost_of_all : (all : Classes) (pre : List Class) (front : List ℕ) → Split all pre [] front → cost all front ≤ sure_cost all front
 cost_of_all all pre front split =
     sums_within (λ c v bound. missed_by bound.lower bound.upper (taken_of (has_value c v) all.classes front))
@@ -97,13 +97,13 @@ cost_of_all all pre front split =
     (λ c v bound. let after = later_is all pre [] front split in rw after (missed_without bound.lower bound.upper (taken_of (has_value c v) all.classes front)))
     all.bounds
 
--- counts for all classes that surely cost less than those kept cost less
+-- if a front has counts for all classes and its sure cost is less than the cost of the counts kept, its counts cost less too
 whole_costs_less : (all : Classes) (pre : List Class) (kept : Option (List ℕ)) (front : List ℕ) → Split all pre [] front → may_cost_less all kept front ≡ true → costs_less (cost all) kept front ≡ true
 whole_costs_less all pre None front split less = refl
 whole_costs_less all pre (Some kept) front split less =
     let l = ltb-true (sure_cost all front) (cost all kept) less in let within = cost_of_all all pre front split in lt-ltb (cost all front) (cost all kept) (omega arith)
 
--- if counts that begin with a front cost less than those kept, the front surely costs less
+-- if counts that begin with a front cost less than those kept, the front's sure cost is less too
 front_costs_less : (all : Classes) (pre later : List Class) (kept : Option (List ℕ)) (front counts : List ℕ) → Split all pre later front → Gives later counts →
     costs_less (cost all) kept (front ++ counts) ≡ true → may_cost_less all kept front ≡ true
 front_costs_less all pre later None front counts split gives less = refl

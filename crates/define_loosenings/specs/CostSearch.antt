@@ -1,6 +1,6 @@
--- The search for the cheapest team, front by front, with its visits. To enter a front is one visit; the empty front counts one even if it
--- isn't live. From an entered front its children are tried, the greatest count first, and each child that is live at that moment is
--- entered. Over Costs. `quota_loosen` searches this way.
+-- The search for the cheapest team, front by front, with its visits. To enter a front is one visit; the empty front counts as one even if
+-- it isn't live. From an entered front its children are tried, the greatest count first, and each child that is live at that moment is
+-- entered. Builds on Costs. `quota_loosen` searches this way.
 use Rattle.std.specs.Prelude.{ℕ, ◌+◌, nat_lt, if◌then◌else◌, Bool, true, ◌&&◌, List, [], ◌∷◌, ◌++◌, fold, Option, Some, None}
 use Rattle.define_searches.specs.Classes.{Class, Classes}
 use Rattle.define_searches.specs.Compositions.{counts_of, takes_one_a_household}
@@ -11,12 +11,12 @@ use Rattle.define_loosenings.specs.Costs.{cost, sure_cost}
 abbrev pub leads_to_team : Classes → List ℕ → Bool
 leads_to_team all front = size_reachable all front && takes_one_a_household all.classes front
 
--- a front may lead to counts that cost less than those that were kept, if there are any
+-- true if nothing is kept yet, or the front's sure cost is less than the cost of the counts that are kept
 abbrev pub may_cost_less : Classes → Option (List ℕ) → List ℕ → Bool
 may_cost_less all None front = true
 may_cost_less all (Some kept) front = nat_lt (sure_cost all front) (cost all kept)
 
--- a front is live: it may lead to a team that costs less than the one that was kept
+-- a front is live: it may lead to a team that costs less than the one that is kept, or to any team if none is kept yet
 abbrev pub is_live_below : Classes → Option (List ℕ) → List ℕ → Bool
 is_live_below all kept front = leads_to_team all front && may_cost_less all kept front
 
@@ -25,7 +25,8 @@ pub record CostSearch : Type 0 where
   pub visits : ℕ
   pub kept : Option (List ℕ)
 
--- the search from a front that is entered, with the classes that come after it. If none come after it, the front is kept
+-- the search from a front that is entered, with the classes `later` still to come. If no class is still to come, the front is a team's
+-- counts, and is kept
 abbrev pub enter_cheapest : Classes → List Class → List ℕ → CostSearch → CostSearch
 enter_cheapest all [] front so_far = record { visits = so_far.visits + 1; kept = Some front }
 enter_cheapest all (class ∷ later) front so_far =

@@ -1,4 +1,5 @@
--- The counts of teams by classes, and what they cost. Over Classes of `define_searches`. The search for a least loosening goes by them.
+-- The counts of teams by classes, and what they cost. Builds on Teams, and on Classes of `define_searches`. The search for a least
+-- loosening uses these costs.
 use Rattle.std.specs.Prelude.{ℕ, ◌+◌, ◌-◌, ◌==◌, nat_lt, if◌then◌else◌, Bool, true, ◌&&◌, List, [], ◌∷◌, filter, sum_by, Option, Some, None}
 use Rattle.std.specs.List.{enumerate_from}
 use Rattle.define_searches.specs.declared.Bounds.{Bounds}
@@ -22,11 +23,11 @@ cost all counts =
     sum_by (λ (v, bound). missed_by bound.lower bound.upper (taken_of (has_value c v) all.classes counts)) (enumerate_from 0 values))
     (enumerate_from 0 all.bounds)
 
--- how far a number that grows by at most `more` will at least be below the lower or above the upper bound
+-- the least amount by which a number misses its bounds if it may still grow by up to `more`
 abbrev pub surely_missed : Bounds → ℕ → ℕ → ℕ
 surely_missed bound number more = (bound.lower - (number + more)) + (number - bound.upper)
 
--- what all counts that begin with a front cost at least
+-- the sure cost of a front: a lower bound for the cost of all counts that begin with it
 abbrev pub sure_cost : Classes → List ℕ → ℕ
 sure_cost all front =
     sum_by (λ (c, values).
@@ -39,11 +40,11 @@ abbrev pub cheaper : (List ℕ → ℕ) → List ℕ → Option (List ℕ) → L
 cheaper cost counts None = counts
 cheaper cost counts (Some later) = if nat_lt (cost later) (cost counts) then later else counts
 
--- of the lists of counts, the first of least cost
+-- the cheapest of the lists of counts; if several cost the same, the first of these
 abbrev pub first_cheapest : (List ℕ → ℕ) → List (List ℕ) → Option (List ℕ)
 first_cheapest cost [] = None
 first_cheapest cost (counts ∷ rest) = Some (cheaper cost counts (first_cheapest cost rest))
 
--- of the counts of all teams, the first of least cost
+-- the cheapest of the counts of all teams; if several cost the same, the first of these
 abbrev pub cheapest_team : Classes → Option (List ℕ)
 cheapest_team all = first_cheapest (cost all) (team_counts all)

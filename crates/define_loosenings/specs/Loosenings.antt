@@ -1,4 +1,4 @@
--- Least loosenings of a pool: bounds moved so that there is a quota panel, by as little as will do. Over Teams and Costs.
+-- Least loosenings of a pool: bounds moved so that there is a quota panel, and as little as possible. Builds on Teams and Costs.
 use Rattle.std.specs.Prelude.{◌≡◌, ◌≢◌, ◌↔◌, ℕ, ◌≤◌, ◌<◌, Bool, IsTrue, List, [], Option, option_map}
 use Rattle.define_pools.specs.Pool.{Pool, is_quota_panel, panels}
 use Rattle.define_searches.specs.Best.{comes_before}
@@ -7,7 +7,7 @@ use Rattle.define_searches.specs.Compositions.{composition_of, first_panel}
 use Rattle.define_loosenings.specs.Costs.{cheapest_team}
 use Rattle.define_loosenings.specs.Teams.{DifferInBounds, bounds_moved, is_team, loosened, team_cost}
 
--- how far bounds are moved in all, the pool with its bounds moved, and a quota panel of it
+-- a loosening: how far bounds are moved in all, the pool with its bounds moved, and a quota panel of that pool
 pub record Loosening : Type 0 where
   pub total : ℕ
   pub pool : Pool
@@ -17,7 +17,8 @@ pub record Loosening : Type 0 where
 abbrev pub loosening_for : Pool → List ℕ → Loosening
 loosening_for pool team = record { total = team_cost pool team; pool = loosened pool team; panel = team }
 
--- the least loosening of a pool: that for the first members of the cheapest counts, or None if there is no team
+-- the least loosening of a pool, or None if there is no team. Its team is the first members of each class, as many as the cheapest counts
+-- say
 abbrev pub least_loosening : Pool → Option Loosening
 least_loosening pool = option_map (λ counts. loosening_for pool (first_panel (classes_of pool) counts)) (cheapest_team (classes_of pool))
 

@@ -1,9 +1,9 @@
--- Small pools on which the search for the cheapest team computes, for the worked examples.
+-- Small pools for the worked examples of the search for the cheapest team.
 use Rattle.std.specs.Prelude.{ℕ, [], ◌∷◌, codes}
 use Rattle.define_pools.specs.Pool.{Pool}
 use Rattle.define_pools.specs.WorkedExamples.{bounded, category, person}
 
--- two seats for one woman and two men, with these bounds for women
+-- a pool of one woman and two men, with a panel of two, and these bounds for women
 abbrev pub one_woman : ℕ → ℕ → Pool
 one_woman lower upper = record {
   size = 2;

@@ -1,6 +1,7 @@
 //! Least loosenings of quotas: teams, which are panels that need not meet the quotas; what a team costs; the pool with its bounds moved
 //! so that a team is a quota panel; and the search for the cheapest team with the visits that it counts. The definitions are in `specs/`.
-//! Stands on `define_pools` and the classes of `define_searches`. Used by `quota_loosen`, which searches, and the command `loosen`.
+//! Stands on `define_pools` and the classes of `define_searches`. Used by `quota_loosen`, which searches, by `define_cost_bounds` and
+//! `loosening_by_proof`, and by the commands `loosen` and `loosen-by-proof`.
 //!
 //! The functions have no body: their contracts are laws over the definitions, and worked examples. Each law is a promise. The laws hold for
 //! every test of who is alike that makes classes.
@@ -17,13 +18,13 @@ ghost use Rattle.define_loosenings.specs.Loosenings.{IsCheapest, IsLeast, Loosen
 ghost use Rattle.define_loosenings.specs.Teams.{DifferInBounds, bounds_moved, is_team, loosened, team_cost};
 ghost use Rattle.define_loosenings.specs.WorkedLoosenings.{one_woman};
 
-/// The search finds the cheapest team: of the counts of all teams, the first of least cost, and nothing if there is no team.
+/// The search finds the cheapest counts of a team, the first of these if several cost the same, and nothing if there is no team.
 pub fn search_finds_cheapest()
     ensures { (all : Classes) → IsSearchable all → (cheapest_search all).kept ≡ cheapest_team all }
 {}
 
-/// The first members of the cheapest counts are a team; no team costs less; and of the compositions of that cost they have the first.
-/// There are no cheapest counts exactly if there is no team.
+/// The first members of each class, as many as the cheapest counts say, are a team. No team costs less, and of the teams that cost the same
+/// none has an earlier composition. There are no cheapest counts exactly if there is no team.
 pub fn cheapest_is_least()
     ensures found { (pool : Pool) (alike : ℕ → ℕ → Bool) (counts : List ℕ) → MakesClasses pool alike → cheapest_team (classes_by alike pool) ≡ Some counts →
         IsCheapest pool alike counts (first_panel (classes_by alike pool) counts) }
@@ -31,8 +32,8 @@ pub fn cheapest_is_least()
         cheapest_team (classes_by alike pool) ≡ None ↔ ((team : List ℕ) → IsTrue (is_team pool team) → ⊥) }
 {}
 
-/// The pool that is loosened for a team differs in bounds alone, which move by what the team costs in all; the team is a quota panel of
-/// it; and it is within the limits of a pool.
+/// The pool that is loosened for a team differs from the given pool in bounds alone, which are moved by the team's cost in all. The team is
+/// a quota panel of the loosened pool. If the given pool is within the limits of a pool, so is the loosened one.
 pub fn loosened_pool_has_team()
     ensures bounds { (pool : Pool) (team : List ℕ) → DifferInBounds pool (loosened pool team) }
     ensures moved { (pool : Pool) (team : List ℕ) → bounds_moved pool.categories (loosened pool team).categories ≡ team_cost pool team }
@@ -40,16 +41,16 @@ pub fn loosened_pool_has_team()
     ensures limits { (pool : Pool) (team : List ℕ) → IsPool pool → IsTrue (is_team pool team) → IsPool (loosened pool team) }
 {}
 
-/// The least loosening moves bounds alone, by its total in all, and its panel is a quota panel of its pool; no pool that differs in bounds
-/// alone and has a quota panel differs by less; and the total is 0 exactly if the pool itself has a quota panel. There is none exactly if
-/// there is no team.
+/// The least loosening moves bounds alone, by its total in all, and its panel is a quota panel of its pool. No pool that differs from the
+/// given one in bounds alone and has a quota panel differs by less. The total is 0 exactly if the given pool has a quota panel. There is no
+/// least loosening exactly if there is no team.
 pub fn least_loosening_is_least()
     ensures least { (pool : Pool) (loosening : Loosening) → least_loosening pool ≡ Some loosening → IsLeast pool loosening }
     ensures none { (pool : Pool) → least_loosening pool ≡ None ↔ ((team : List ℕ) → IsTrue (is_team pool team) → ⊥) }
 {}
 
-/// The searches over small pools: two women and two men, of whom one each is to be chosen; one woman where two are to be chosen; and no
-/// volunteers.
+/// The searches over small pools: two women and two men, of whom one woman and one man are to be chosen; one woman and two men, of whom two
+/// women are to be chosen; nobody; and a panel of two from one household.
 pub fn worked_cost_searches()
     ensures four { cheapest_search (classes_of four) ≡ record { visits = 5; kept = Some (1 ∷ 1 ∷ []) } }
     ensures one_woman { cheapest_search (classes_of (one_woman 2 2)) ≡ record { visits = 3; kept = Some (1 ∷ 1 ∷ []) } }

@@ -1,4 +1,5 @@
--- The least and the greatest number of a list are in it. No number of the list is less than the least or greater than the greatest.
+-- The least and the greatest number of a list are in it, unless it is empty. No number of the list is less than the least or greater than
+-- the greatest.
 use Rattle.std.proofs.Common.{◌≡◌, ℕ, zero, suc, ◌<◌, ◌≤◌, min, max, List, [], ◌∷◌, length, get_or, All, Contains, fold, refl, sym, ◌∙◌, arith, ⊎_elim, ◌⊎◌}
 use Rattle.std.specs.List.{AllByRecursion}
 use Rattle.std.proofs.lemmas.List.Elements.{All-from_recursion}

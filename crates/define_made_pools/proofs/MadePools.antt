@@ -16,7 +16,7 @@ use lib.Utf8.{encode}
 pub size_fits : (n : ℕ) → 1 ≤ n → n ≤ 400 → (1 ≤ made_size n) × (made_size n ≤ 40) × (made_size n ≤ n)
 size_fits n some few = (omega arith, omega arith, omega arith)
 
--- at most `size` of the first `size` volunteers have a value
+-- at most `size` of the first `size` volunteers have the value at `value_place` of the category at `place`
 pub members_fit : (volunteers : List Volunteer) (size place value_place : ℕ) → members_with volunteers (range_with_len 0 size) place value_place ≤ size
 members_fit volunteers size place value_place =
     omega (arith, count_by-le-length (λ i. eqb (get_or (volunteer volunteers i).values place 0) value_place) (range_with_len 0 size), length-range_with_len 0 size)

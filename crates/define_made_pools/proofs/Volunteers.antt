@@ -1,4 +1,4 @@
--- The volunteers of a made pool: their ids are different names, and their values are places of the three categories.
+-- The volunteers of a made pool: their ids are different names, and each has a value of each of the three categories.
 use Rattle.std.proofs.Common.{◌≡◌, ℕ, zero, suc, ◌+◌, ◌*◌, ◌%◌, ◌<◌, ◌≤◌, Bool, true, false, not, ◌&&◌, ltb, leb, eqb, List, [], ◌∷◌, map, length, cond, get_or, refl, sym, ◌∙◌, ap, ap₂, arith, None}
 use Rattle.std.specs.Prelude.{bytes_eq, count_by}
 use Rattle.std.specs.Fmt.{decimal}
@@ -52,7 +52,7 @@ same_id i j small less e =
     let digits : decimal (i + 1) ≡ decimal (j + 1) = cc in
     let more = decimal_injective (i + 1) (j + 1) (omega arith) (omega arith) digits in omega arith
 
--- if `f` maps no number of a range to `name`, `name` is not in the list of what `f` makes of the range
+-- if `f` maps no number of a range to `name`, `name` isn't among the names that `f` maps the range to
 absent : (f : ℕ → List ℕ) (name : List ℕ) (first count : ℕ) → ((j : ℕ) → first ≤ j → j < first + count → name ≡ f j → ⊥) → includes_list (map f (range_with_len first count)) name ≡ false
 absent f name first zero h = refl
 absent f name first (suc count) h =
@@ -125,7 +125,7 @@ households_are_kept seed n panel =
     at_most_one : (i : ℕ) → leb (count_by (share_household (made_volunteers seed n) i) panel) 1 ≡ true
     at_most_one i = rw (none_counted (share_household (made_volunteers seed n) i) panel (alone i)) refl
 
--- ---- how many have a value
+-- ---- how many volunteers have a value
 
 same_counts : (p : ℕ → Bool) (q : List ℕ → Bool) (f : ℕ → List ℕ) (first count : ℕ) → ((i : ℕ) → first ≤ i → i < first + count → p i ≡ q (f i)) →
     count_by p (range_with_len first count) ≡ count_by q (map f (range_with_len first count))
@@ -136,7 +136,8 @@ same_counts p q f first (suc count) same =
     (same_counts p q f (first + 1) count (λ i low high. same i (omega arith) (omega arith)))
     ∙ sym (sum_by-cons (λ (values : List ℕ). cond (q values) 1 0) (f first) (map f (range_with_len (first + 1) count)))
 
--- the number of the first `size` volunteers with a value equals the number of their lists of values that have it at `place`
+-- how many of the first `size` volunteers have the value at `value_place` of the category at `place`: as many as there are lists among
+-- their lists of values that have `value_place` at `place`
 pub members_are_counted : (seed n size place value_place : ℕ) → size ≤ n →
     members_with (made_volunteers seed n) (range_with_len 0 size) place value_place
     ≡ count_by (λ values. eqb (get_or values place 0) value_place) (map (made_values seed) (range_with_len 0 size))

@@ -1,4 +1,4 @@
--- The pool that is made from a seed and a number of volunteers. Over Generator and Pool of `define_pools`. `office_reports` makes
+-- The pool that is made from a seed and a number of volunteers. Builds on Generator and on Pool of `define_pools`. `office_reports` makes
 -- it.
 use Rattle.std.specs.Prelude.{ℕ, ◌+◌, ◌-◌, ◌*◌, ◌/◌, ◌%◌, max, List, [], ◌∷◌, ◌++◌, map, codes, None}
 use Rattle.std.specs.List.{enumerate_from, range_with_len}
@@ -26,12 +26,12 @@ made_volunteer seed i = record { id = made_id i; values = made_values seed i; st
 abbrev pub made_volunteers : ℕ → ℕ → List Volunteer
 made_volunteers seed n = map (made_volunteer seed) (range_with_len 0 n)
 
--- the bounds of a value that `members` of the first volunteers have: one below, but at least 0, and one above
+-- the bounds of a value that `members` of the first `size` volunteers have: `members - 1`, but at least 0, and `members + 1`
 abbrev pub bounded_by : List ℕ → ℕ → BoundedValue
 bounded_by name members = record { name = name; lower = members - 1; upper = members + 1 }
 
--- the category called `name`. Its values are those at `place` in the volunteers' values; their bounds are made from the first `size`
--- volunteers
+-- the category called `name`, which is at `place` in the pool. The bounds of each value are made from the number of the first `size`
+-- volunteers who have it
 abbrev pub made_category : List Volunteer → ℕ → ℕ → List ℕ → List (List ℕ) → Category
 made_category volunteers size place name value_names = record {
   name = name;

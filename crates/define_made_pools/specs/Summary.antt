@@ -1,4 +1,4 @@
--- The summary of a run that found an answer: a line for each number, and the seal of the bundle. Over Seal of `define_draws`.
+-- The summary of a run that found an answer: a line for each number, and the seal of the bundle. Builds on Seal of `define_draws`.
 -- `office_reports` writes it.
 use Rattle.std.specs.Prelude.{ℕ, min, max, List, [], ◌∷◌, ◌++◌, codes, length, unwrap_or}
 use Rattle.std.specs.Fmt.{decimal}

@@ -1,4 +1,4 @@
--- Small answers, for which the lines before the seal are computed.
+-- Small answers for the worked summaries, with the lines of each summary before its seal.
 use Rattle.std.specs.Prelude.{ℕ, List, [], ◌∷◌, codes, pos}
 use Rattle.define_pools.specs.Certificate.{Answer}
 use Rattle.define_pools.specs.WorkedExamples.{row, stage, dropout_lottery, dropout_stages}

@@ -19,17 +19,17 @@ pub fn made_pool_is_pool()
     ensures { (seed n : ℕ) → 1 ≤ n → n ≤ 400 → IsPool (made_pool seed n) }
 {}
 
-/// The first volunteers of a made pool, as many as a panel has, are a quota panel.
+/// The first `made_size` volunteers of a made pool of 1 to 400 volunteers are a quota panel.
 pub fn first_volunteers_are_a_panel()
     ensures { (seed n : ℕ) → 1 ≤ n → n ≤ 400 → IsTrue (is_quota_panel (made_pool seed n) (range_with_len 0 (made_size n))) }
 {}
 
-/// Each made pool has a quota panel: its first volunteers.
+/// The first `made_size` volunteers are in the list of the quota panels of a made pool of 1 to 400 volunteers.
 pub fn made_pool_has_a_panel()
     ensures { (seed n : ℕ) → 1 ≤ n → n ≤ 400 → Contains (panels (made_pool seed n)) (range_with_len 0 (made_size n)) }
 {}
 
-/// Each number of the generator has 31 bits.
+/// Each number of the generator is below 2^31.
 pub fn numbers_have_31_bits()
     ensures { (seed place : ℕ) → number seed place < 2 ^ 31 }
 {}
@@ -50,9 +50,8 @@ pub fn first_numbers()
     ensures greatest { map (number (2 ^ 63 - 1)) (0 ∷ 1 ∷ 2 ∷ 3 ∷ []) ≡ 500810664 ∷ 416590519 ∷ 133760853 ∷ 1974759426 ∷ [] }
 {}
 
-/// Made pools. In the pool of seed 0 and one volunteer, the volunteer is a young man from the country. In the pool of seed 7 and 20
-/// volunteers, the first three volunteers have these values, and the values have these bounds. The first two are an old woman and a man of
-/// middle age, both from the country.
+/// The made pool of seed 0 and one volunteer, a young man from the country; the sizes of panels for six numbers of volunteers; for seed 7,
+/// the values of the first three volunteers, and the bounds of all values in the pool of 20 volunteers.
 pub fn made_pools()
     ensures single { made_pool 0 1 ≡ record {
       size = 1;

@@ -70,11 +70,12 @@ pub data Refusal : Type 0 where
   -- a withdrawal: the last round is not open, or the volunteer is seated in it
   TooLate : Refusal
 
--- the outcome of a command: a reply, with a change if the tables change; or one of three refusals, at which the tables stay as they are
+-- the outcome of a command: a reply, with a change if the tables change; or a refusal, the stop of a run, or a refused proof, at which the
+-- tables stay as they are
 pub data Outcome : Type 0 where
   Replies : (change : Option Change) (reply : Reply) → Outcome
   Refuses : (refusal : Refusal) → Outcome
-  -- the run over the pool ends with a refusal
+  -- the run over the pool stops; `ending` says why
   Stops : (ending : Ending) → Outcome
   -- the proof is refused, with the first reason that holds
   Unproved : (refusal : reasons.Refusal) → Outcome

@@ -1,5 +1,5 @@
--- The outcome of a command, by the cases of each command in their order. The tables and the command decide it alone, except for a solve of
--- an open round: that is decided by the stated run over the round's pool.
+-- The outcome of each command. It is decided by the tables and the command alone, except for a solve of an open round: that is decided by
+-- the stated run over the round's pool.
 use Rattle.std.specs.Prelude.{ℕ, ◌+◌, ◌==◌, nat_le, if◌then◌else◌, Bool, true, false, not, ◌&&◌, List, [], ◌∷◌, ◌++◌, length, codes, bytes_eq, Option, Some, None, Result, Ok, Err}
 use Rattle.std.specs.List.{find, list_all}
 use Rattle.define_lines.specs.Lines.{text_of}
@@ -51,7 +51,7 @@ abbrev pub are_rules_kept : Option (List Category) → List Category → Bool
 are_rules_kept None rules = false
 are_rules_kept (Some kept) rules = same_rules kept rules
 
--- the register is empty, or `rules` have the names of the rules that are kept, in the same order
+-- the register is empty, or `rules` have the same names of categories and values, in the same order, as the rules that are kept
 abbrev pub fit_rows : List Entry → Option (List Category) → List Category → Bool
 fit_rows [] kept rules = true
 fit_rows (entry ∷ register) None rules = false
@@ -66,7 +66,7 @@ decide_rules tables rules =
 
 -- ---- the register
 
--- `values` are one value of each category
+-- there is one value for each category, and each is a value of its category
 abbrev pub fits_rules : List Category → List (List ℕ) → Bool
 fits_rules categories values = (length values == length categories) && are_known categories values
 
@@ -82,17 +82,17 @@ with_id register id = find (λ entry. bytes_eq id entry.id) register
 abbrev pub with_hash : List Entry → List ℕ → Option Entry
 with_hash register hash = find (λ entry. bytes_eq hash entry.hash) register
 
--- `entry` has the key, the values and the household of `given`
+-- `entry` has the key's digest, the values and the household of `given`
 abbrev pub is_kept_so : Entry → Given → Bool
 is_kept_so entry given = bytes_eq (seal_of given.key) entry.hash && same_names given.values entry.values && same_household given.household entry.household
 
--- how an import takes a row
+-- what an import does with a row: it adds the row, counts it as repeated, or refuses it
 pub data RowCase : Type 0 where
   IsNew : RowCase
   IsRepeated : RowCase
   IsRefused : (refusal : Refusal) → RowCase
 
--- how an import takes a row with a new id, by the row of the register that has the same key, if there is one
+-- what an import does with a row whose id is new. The last argument is the row of the register with the same key, if there is one
 abbrev pub new_row : List Round → List Entry → Option Entry → RowCase
 new_row rounds register (Some other) = IsRefused (KeyTaken other.id)
 new_row rounds register None =
@@ -100,7 +100,7 @@ new_row rounds register None =
     else if nat_le 400 (length register) then IsRefused (RegisterFull 400)
     else IsNew
 
--- how an import takes a row, by the row of the register that has the same id, if there is one
+-- what an import does with a row. The last argument is the row of the register with the same id, if there is one
 abbrev pub row_case : List Round → List Entry → Given → Option Entry → RowCase
 row_case rounds register given (Some entry) = if is_kept_so entry given then IsRepeated else IsRefused (RowDiffers given.id)
 row_case rounds register given None = new_row rounds register (with_hash register (seal_of given.key))
@@ -124,7 +124,7 @@ register_after IsNew register given = register ++ entry_of given ∷ []
 register_after IsRepeated register given = register
 register_after (IsRefused refusal) register given = register
 
--- the result for a row and the rows after it, if `later` is the result for the rows after it
+-- the result for a row and the rows after it. `later` is the result for the rows after it alone
 abbrev pub sorted_by : RowCase → Given → Result Sorted Refusal → Result Sorted Refusal
 sorted_by IsNew given later = one_more_added (entry_of given) later
 sorted_by IsRepeated given later = one_more_repeated later
@@ -178,7 +178,7 @@ abbrev pub new_draw : ℕ → Bundle → List ℕ → List ℕ → Result draws.
 new_draw number bundle given digits (Ok drawn) = Replies (Some (DrawnWith number digits)) (Lines (text_of (drawn_lines bundle drawn)))
 new_draw number bundle given digits (Err refused) = Refuses (draw_refusal bundle given refused)
 
--- the outcome of another draw from a drawn round: the seal is compared first, then the digits
+-- the outcome of a draw from a round that is drawn already: the seal is compared first, then the digits
 abbrev pub same_draw : Bundle → List ℕ → List ℕ → List ℕ → Outcome
 same_draw bundle kept given digits =
     if not (is_seal (bundle_seal bundle) given) then Refuses (SealDiffers given (bundle_seal bundle))
@@ -229,7 +229,7 @@ show_in tables (Some (Drawn bundle digits dropped)) = Replies None (Lines (bundl
 
 -- ---- withdrawals
 
--- the first row with the digest of a key, and its place, if the register's first row has the place `place`
+-- the first row with the digest `hash` of a key, with its place. `place` is the place of the first row of `register`
 abbrev pub place_of_hash : List Entry → List ℕ → ℕ → Option (ℕ × Entry)
 place_of_hash [] hash place = None
 place_of_hash (entry ∷ register) hash place = if bytes_eq hash entry.hash then Some (place, entry) else place_of_hash register hash (place + 1)
@@ -272,7 +272,7 @@ answered number pool (Finds answer) =
     let bundle : Bundle = record { pool = pool; answer = answer } in changes (SolvedWith number bundle) (solved_line number bundle)
 answered number pool FindsNone = Replies None NoPanel
 
--- ---- solve
+-- ---- the outcome of a solve
 
 -- how a command is decided: at once, or by the stated run over a pool
 pub data Asked : Type 0 where
@@ -299,7 +299,7 @@ solved number pool (run.TotalPasses stood pass) = Stops (run.TotalPasses stood p
 solved number pool (run.PivotsSpent stood) = Stops (run.PivotsSpent stood)
 solved number pool (run.NodesSpent stood) = Stops (run.NodesSpent stood)
 
--- ---- keep
+-- ---- the outcome of keeping a proof
 
 -- the pool of a proof
 abbrev pub proof_pool : Proof → Pool
@@ -311,7 +311,7 @@ abbrev pub shown : Proof → Answered
 shown (OfLottery pool answer trees) = Finds answer
 shown (OfNoPanel pool lines) = FindsNone
 
--- two pools are the same if they have the same text, since each pool has one text
+-- two pools are the same if they have the same text, since no two pools have the same text
 abbrev pub is_same_pool : Pool → Pool → Bool
 is_same_pool one other = bytes_eq (spelling one) (spelling other)
 
@@ -331,7 +331,7 @@ keep_in tables number proof (Some (Solved bundle)) = tells (solved_line number b
 keep_in tables number proof (Some (Sealed bundle)) = tells (solved_line number bundle)
 keep_in tables number proof (Some (Drawn bundle digits dropped)) = tells (solved_line number bundle)
 
--- ---- each command
+-- ---- how each command is decided
 
 abbrev pub asked : Tables → Command → Asked
 asked tables (SetCharter charter) = IsDecided (decide_charter tables charter)

@@ -14,13 +14,13 @@ use Rattle.define_offices.specs.Tables.{Charter, Entry, Round, Open, Solved, Sea
 use Rattle.define_offices.specs.Commands.{Given, Command, SetCharter, SetRules, Register, Solve, Keep, Seal, Draw, Drop, NextRound, Show, Withdraw}
 use Rattle.define_offices.specs.Deciding.{drawn_ids, fits_rules}
 
--- ---- tables
+-- ---- the facts of tables
 
 -- the title is a name, and the size is in its range
 abbrev pub is_charter : Charter → Bool
 is_charter charter = is_name charter.title && is_size charter.size
 
--- a category can't have this name: it is the name of a column of each register
+-- the name is `id` or `key`. No category can have it, since each register has a column of this name
 abbrev pub is_reserved : List ℕ → Bool
 is_reserved name = bytes_eq name (codes "id") || bytes_eq name (codes "key")
 
@@ -51,7 +51,8 @@ entry_ids register = map (λ entry. entry.id) register
 abbrev pub entry_hashes : List Entry → List (List ℕ)
 entry_hashes register = map (λ entry. entry.hash) register
 
--- there are a charter and rules, the bundle's weights sum to its total, and its volunteers have the ids of the register's rows, in order
+-- there are a charter and rules, the bundle satisfies `IsBundle`, its weights sum to its total, and its volunteers have the ids of the
+-- register's rows, in order
 pub record KeepsBundle (tables : Tables) (bundle : Bundle) : Type 0 where
   pub charter : IsTrue (is_some tables.charter)
   pub rules : IsTrue (is_some tables.rules)
@@ -95,7 +96,7 @@ pub record IsTables (tables : Tables) : Type 0 where
   pub closed : IsTrue (closed_but_last tables.rounds)
   pub rounds : (place : ℕ) (round : Round) → round_at tables.rounds place ≡ Some round → KeepsRound tables round
 
--- ---- commands
+-- ---- the limits of commands
 
 abbrev pub is_key : List ℕ → Bool
 is_key key = nat_le 1 (length key) && nat_le (length key) 200 && list_all (λ byte. nat_le 33 byte && nat_le byte 126) key

@@ -13,7 +13,7 @@ use Rattle.define_offices.specs.declared.Part.TheVariants as part
 use Rattle.define_offices.specs.Commands.{Refusal, NoRound, Incomplete}
 use Rattle.define_offices.specs.Tables.{Charter, Entry, Round, Open, Solved, Sealed, Drawn, Tables, round_at}
 
--- the volunteers, numbered from `i`. Each gets the standing that `other` returns for the volunteer's number and standing so far
+-- the volunteers, each with a new standing: what `other` returns for the volunteer's number and old standing. The first has number `i`
 abbrev pub restood : (ℕ → Standing → Standing) → ℕ → List Volunteer → List Volunteer
 restood other i [] = []
 restood other i (volunteer ∷ volunteers) = record volunteer { standing = other i volunteer.standing } ∷ restood other (i + 1) volunteers
@@ -40,7 +40,7 @@ not_seated panel (number ∷ drops) = if includes panel number then not_seated p
 
 -- ---- what a round has drawn
 
--- what the digits draw, or nothing if they name no ticket. The digits of a drawn round always name one
+-- what the digits draw; if they name no ticket, ticket 0 and an empty panel. The digits of a drawn round always name a ticket
 abbrev pub drawn_or_nothing : Result draws.Drawn draws.Refused → draws.Drawn
 drawn_or_nothing (Ok drawn) = drawn
 drawn_or_nothing (Err refused) = record { ticket = 0; used = 0; panel = [] }
@@ -86,7 +86,7 @@ after_withdrawals register i standing.Open = standing_of (has_withdrawn register
 after_withdrawals register i standing.Seated = standing.Seated
 after_withdrawals register i standing.Gone = standing.Gone
 
--- the pool of the round that comes after a drawn one. A round that has another one after it is always drawn, so the other cases don't occur
+-- the pool of the round that follows a drawn round. Every round but the last is drawn, so the other cases don't occur
 abbrev pub pool_after : List Entry → Option Round → Pool
 pool_after register (Some (Drawn bundle digits dropped)) =
     restood_pool (after_withdrawals register) (next_pool bundle.pool (drawn_of bundle digits).panel (numbers_of bundle.pool dropped))

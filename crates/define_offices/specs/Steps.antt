@@ -7,7 +7,7 @@ use Rattle.define_offices.specs.Tables.{Entry, Round, Open, Solved, Sealed, Draw
 use Rattle.define_offices.specs.Commands.{Command, Solve, Change, CharterSet, RulesSet, Added, SolvedWith, SealTold, DrawnWith, DroppedOut, Begun, Withdrawn, Outcome, Replies, Refuses, Stops, Unproved}
 use Rattle.define_offices.specs.Deciding.{IsDecided, NeedsRun, asked, solved}
 
--- ---- changes
+-- ---- how changes alter the tables
 
 abbrev pub solved_with : Bundle → Round → Round
 solved_with answered Open = Solved answered
@@ -61,7 +61,7 @@ tables_after tables (Refuses refusal) = tables
 tables_after tables (Stops ending) = tables
 tables_after tables (Unproved refusal) = tables
 
--- ---- steps
+-- ---- the outcome of a command, and the tables that commands leave
 
 -- `command` over `tables` has the outcome `outcome`
 pub data Comes (tables : Tables) (command : Command) (outcome : Outcome) : Type 0 where

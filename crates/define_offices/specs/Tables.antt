@@ -10,8 +10,8 @@ pub record Charter : Type 0 where
   pub title : List ℕ
   pub size : ℕ
 
--- a row of the register: the digest of the volunteer's key, for each category the name of a value, a household if one is known, and
--- whether the volunteer withdrew
+-- a row of the register: the volunteer's id, the digest of the volunteer's key, for each category the name of a value, a household if one
+-- is known, and whether the volunteer withdrew
 pub record Entry : Type 0 where
   pub id : List ℕ
   pub hash : List ℕ
@@ -19,14 +19,15 @@ pub record Entry : Type 0 where
   pub household : Option (List ℕ)
   pub withdrawn : Bool
 
--- a round, by its phase: with its bundle, and, once it is drawn, with the digits of the dice and the ids of the volunteers who dropped out
+-- a round, by its phase. It has a bundle once it is solved; and, once it is drawn, the digits of the dice and the ids of the volunteers who
+-- dropped out
 pub data Round : Type 0 where
   Open : Round
   Solved : (bundle : Bundle) → Round
   Sealed : (bundle : Bundle) → Round
   Drawn : (bundle : Bundle) (digits : List ℕ) (dropped : List (List ℕ)) → Round
 
--- the categories are the rules; rounds are numbered from 1
+-- all that an office keeps of one assembly. `rules` are the categories; the first of `rounds` is round 1
 pub record Tables : Type 0 where
   pub charter : Option Charter
   pub rules : Option (List Category)
@@ -75,7 +76,7 @@ last_phase [] = phase.Open
 last_phase (round ∷ []) = phase_of round
 last_phase (round ∷ next ∷ later) = last_phase (next ∷ later)
 
--- the first round is the last, and nothing is answered yet: charter, rules and rows may still come
+-- round 1 is the last round and is open: charter and rules may still be set, and rows may still be added
 abbrev pub is_enrolling : List Round → Bool
 is_enrolling [] = false
 is_enrolling (Open ∷ []) = true
@@ -109,7 +110,7 @@ same_rules (category ∷ categories) [] = false
 same_rules (category ∷ categories) (other ∷ others) =
     bytes_eq category.name other.name && same_values category.values other.values && same_rules categories others
 
--- the same names of categories and values in the same order, whatever the bounds
+-- both lists have the same names of categories and values, in the same order; their bounds may differ
 abbrev pub same_shape : List Category → List Category → Bool
 same_shape [] [] = true
 same_shape [] (other ∷ others) = false

@@ -1,4 +1,4 @@
--- An assembly of two women and two men, from the rules to a second round, on which the definitions compute.
+-- An assembly of two women and two men, from the rules to a second round, for the worked examples.
 use Rattle.std.specs.Prelude.{ℕ, List, [], ◌∷◌, codes, None, Some}
 use Rattle.define_pools.specs.Pool.{Category}
 use Rattle.define_pools.specs.WorkedExamples.{couple, four, after_dropout, dropout_lottery, dropout_stages}
@@ -36,7 +36,7 @@ rows = a ∷ b ∷ c ∷ d ∷ []
 abbrev pub with_rules : Tables
 with_rules = record first_tables { rules = Some rules }
 
--- the four are registered
+-- the tables after the rules are set and the four volunteers are registered
 abbrev pub with_rows : Tables
 with_rows = record with_rules { register = entry_of a ∷ entry_of b ∷ entry_of c ∷ entry_of d ∷ [] }
 
@@ -49,14 +49,14 @@ in_rounds rounds = record ready { rounds = rounds }
 abbrev pub first_bundle : Bundle
 first_bundle = record { pool = four; answer = pairs }
 
--- the digits `0` drew a and c
+-- the first round after the digits `0` drew the panel of a and c, of whom `dropped` dropped out
 abbrev pub drawn : List (List ℕ) → Round
 drawn dropped = Drawn first_bundle (codes "0") dropped
 
 abbrev pub second_bundle : Bundle
 second_bundle = record { pool = after_dropout; answer = record { lottery = dropout_lottery; stages = dropout_stages } }
 
--- the ticket that `0` names, and the panel
+-- the lines of the draw by the digits `0`: the ticket with how many digits were read, and the panel
 abbrev pub the_draw : List (List ℕ)
 the_draw = line_of (codes "ticket" ∷ codes "0" ∷ codes "1" ∷ []) ∷ line_of (codes "panel" ∷ codes "a" ∷ codes "c" ∷ []) ∷ []
 

@@ -23,7 +23,7 @@ ghost use Rattle.define_offices.specs.WorkedOffice.{rules, river, rows, given, a
 /// How far a round has come.
 #[derive(Clone, Copy, Debug, PartialEq, Eq)]
 pub enum Phase {
-    /// Nothing is answered yet.
+    /// It has no bundle yet.
     Open,
     /// It has a bundle.
     Solved,
@@ -40,12 +40,12 @@ pub enum Part {
     Charter,
     /// The rules: categories with bounds.
     Rules,
-    /// Somebody who dropped out.
+    /// A dropout: nobody of the drawn panel has dropped out yet.
     Drops,
 }
 
-/// Rules and four rows are imported. The rows are imported again, then with another value in one row, then with a fifth row that has the
-/// key of another row.
+/// Rules are set, and set again. Four rows are refused before the rules are set, and then imported. They are imported again, then with
+/// another value in one row, then with a fifth row that has the key of another row.
 pub fn worked_imports()
     ensures rules { asked first_tables (SetRules rules) ≡ IsDecided (changes (RulesSet rules) (line_of (codes "rules" ∷ codes "set" ∷ []))) }
     ensures again { asked with_rules (SetRules rules) ≡ IsDecided (tells (line_of (codes "rules" ∷ codes "same" ∷ []))) }
@@ -56,7 +56,9 @@ pub fn worked_imports()
     ensures taken { asked with_rows (Register (rows ++ given (codes "e") (codes "abc") (codes "male") ∷ [])) ≡ IsDecided (Refuses (KeyTaken (codes "a"))) }
 {}
 
-/// The four rows and a charter make the pool of two women and two men. Its answer is kept, sealed, and drawn from.
+/// The four rows and a charter make the pool of two women and two men. Its answer is kept and sealed, and a panel is drawn. Each of these
+/// commands changes nothing if it is given again. A solve without a charter, a draw with other digits, and a solve of a round that
+/// doesn't exist are refused.
 pub fn worked_first_round()
     ensures no_charter { asked with_rows (Solve 1 (limits 127 100 100)) ≡ IsDecided (Refuses (Incomplete part.Charter)) }
     ensures charter { asked with_rows (SetCharter river) ≡ IsDecided (changes (CharterSet river) (line_of (codes "charter" ∷ codes "set" ∷ []))) }
@@ -73,7 +75,9 @@ pub fn worked_first_round()
     ensures no_such_round { asked (in_rounds (drawn [] ∷ [])) (Solve 9 (limits 127 100 100)) ≡ IsDecided (Refuses (NoRound 1)) }
 {}
 
-/// One of the panel drops out. In the pool of the second round the other member is seated, and the answer of that pool is kept.
+/// A member of the drawn panel drops out. In the pool of the second round the other member is seated, and the answer of that pool is kept.
+/// Round 1 is shown. A volunteer withdraws. Refused are a dropout of somebody who was not drawn, a second round before a dropout, a dropout
+/// once the second round has begun, and a withdrawal with the key of the volunteer who is seated or with an unknown key.
 pub fn worked_second_round()
     ensures not_seated { asked (in_rounds (drawn [] ∷ [])) (Drop 1 (codes "b")) ≡ IsDecided (Refuses (NotSeated (codes "b"))) }
     ensures no_drops { asked (in_rounds (drawn [] ∷ [])) (NextRound 1) ≡ IsDecided (Refuses (Incomplete part.Drops)) }
@@ -90,8 +94,9 @@ pub fn worked_second_round()
     ensures unknown { asked (in_rounds (drawn (codes "a" ∷ []) ∷ Open ∷ [])) (Withdraw (codes "k5")) ≡ IsDecided (Refuses UnknownKey) }
 {}
 
-/// Proofs for the first round, whoever made them. A valid proof of the round's pool is kept. A proof that is refused, or of another pool,
-/// changes nothing, nor does a valid proof that there is no quota panel. A round that has an answer keeps it.
+/// Proofs that are given for the first round, whoever made them. A valid proof of the round's pool is kept. The tables don't change if
+/// there is no charter, for a refused proof, for a proof of another pool, or for a valid proof that there is no quota panel. A round that
+/// has an answer already keeps it.
 pub fn worked_proofs()
     ensures no_charter { asked with_rows (Keep 1 (four_proof four_trees)) ≡ IsDecided (Refuses (Incomplete part.Charter)) }
     ensures kept { asked ready (Keep 1 (four_proof four_trees)) ≡ IsDecided (changes (SolvedWith 1 first_bundle) (line_of (codes "solved" ∷ codes "1" ∷ codes "2" ∷ codes "2" ∷ []))) }

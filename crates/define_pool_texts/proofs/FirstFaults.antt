@@ -1,4 +1,5 @@
--- Where the first fault is: the lines before it begin a pool's text, and with it they don't.
+-- The lines before the first faulty line begin the text of some pool, or are right lines of version 2 that still lack a household line.
+-- Together with the faulty line they begin no pool's text, unless the fault is a missing end.
 use Rattle.std.proofs.Common.{◌≡◌, ◌≢◌, ℕ, suc, Bool, true, false, eqb, ltb, ◌+◌, ◌-◌, ◌<◌, List, [], ◌∷◌, ◌++◌, length, take, get_or, refl, sym, ◌∙◌, ap, subst, arith, append_assoc, length-append, Some, None, ◌⊎◌, inl, inr}
 use Rattle.std.specs.Prelude.{Result, Ok, Err}
 use Rattle.std.specs.List.{AllByRecursion}
@@ -55,7 +56,7 @@ version_begins true =
     begins lodger (version_line true ∷ []) _ (record { size = refl; few_categories = refl; categories = refl; different_categories = refl; few_volunteers = refl; ids = refl; different_ids = refl; values = refl; households = refl }) refl
 version_begins false = begins (empty_pool 1) (version_line false ∷ []) (size_line 1 ∷ end_line ∷ []) (IsPool-empty_pool 1 refl) refl
 
--- the right lines between the size and the end are those of the pool in its own version, or the first household line is still missing
+-- after the size line, the right lines so far are those of the pool in its own version, or the first household line is still missing
 own_or_awaits : (pool : Pool) (passed : Passed) → IsRightInside pool passed → (lines_in passed.second pool ≡ lines_before_end pool) ⊎ AwaitsHousehold (lines_in passed.second pool)
 own_or_awaits pool passed right =
     (elim (awaits_household passed) as (λ b. awaits_household passed ≡ b → (lines_in passed.second pool ≡ lines_before_end pool) ⊎ AwaitsHousehold (lines_in passed.second pool)) [

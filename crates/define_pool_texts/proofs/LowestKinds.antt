@@ -1,4 +1,4 @@
--- The lowest of the kinds of fault that apply.
+-- The lowest kind of fault that applies to a line.
 use Rattle.std.proofs.Common.{◌≡◌, ℕ, ◌<◌, ◌≤◌, Bool, true, false, not, ◌&&◌, ◌||◌, cond, eqb, ltb, List, [], ◌∷◌, ◌++◌, map, refl, sym, ◌∙◌, arith, Option, Some, None}
 use Rattle.std.specs.List.{list_all}
 use Rattle.std.specs.Str.{is_utf8}
@@ -25,7 +25,7 @@ lowest_kind-append ((kind, false) ∷ first) second = lowest_kind-append first s
 abbrev pub encoding_kind : List ℕ → Option ℕ
 encoding_kind line = lowest_kind ((11, not (is_utf8 line)) ∷ [])
 
--- a line's kind is that of its entry, or, if the entry has no fault, that of its encoding
+-- a line's kind of fault is that of its entry; if the entry has no fault, it is that of the line's encoding
 pub line_kind_of : (pool : Pool) (passed : Passed) (line : List ℕ) →
     line_kind (Inside pool passed) line ≡ kind_or (entry_kind pool passed (entry_of (fields_of line))) (encoding_kind line)
 line_kind_of pool passed line = lowest_kind-append (entry_kinds pool passed (entry_of (fields_of line))) ((11, not (is_utf8 line)) ∷ [])

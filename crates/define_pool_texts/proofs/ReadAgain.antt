@@ -213,11 +213,11 @@ volunteer_is_new pool id names known each new is room =
     let few : leb 400 (length pool.volunteers) ≡ false = lt-leb 400 (length pool.volunteers) room in
     rw (known, same, new, limits, few) refl
 
--- the volunteer as the volunteer's own line leaves them: open, without a household
+-- the volunteer as known after the volunteer's own line: open, without a household
 abbrev opened : Volunteer → Volunteer
 opened volunteer = record { id = volunteer.id; values = volunteer.values; standing = Open; household = None }
 
--- the volunteer as the volunteer's own line and household line leave them: open, with the household
+-- the volunteer as known after the volunteer's own line and household line: open, with the household
 abbrev lodged : Volunteer → Volunteer
 lodged volunteer = record { id = volunteer.id; values = volunteer.values; standing = Open; household = volunteer.household }
 
@@ -283,12 +283,12 @@ ids_behind done volunteer same todo e =
 
 -- ---- the household lines, after the volunteers' lines, in a text of version 2
 module _ (size : ℕ) (categories : List Category) where
-  -- the progress with these volunteers, of whom household lines have passed the first `passed`
+  -- the progress with these volunteers, after household lines that have passed the first `passed` of them
   housing : ℕ → List Volunteer → Progress
   housing passed volunteers = Inside (made size categories volunteers) (record { second = true; households = passed; standings = 0 })
 
-  -- the household lines of `todo` lead from a pool in which `todo` have no household to one in which they have theirs; `done` have theirs
-  -- already
+  -- reading the household lines of `todo` leads from a pool in which none of `todo` has a household to one in which each of `todo` has
+  -- theirs, if any; each of `done` has theirs already
   Houses : List Volunteer → List Volunteer → ℕ → Type 0
   Houses done todo passed =
       (last : ℕ) × (passed ≤ last) × (list_any (λ (v : Volunteer). is_some v.household) todo ≡ true → 0 < last)
@@ -398,8 +398,8 @@ module _ (size : ℕ) (categories : List Category) (second : Bool) (households :
   standing_at : ℕ → Passed
   standing_at passed = record { second = second; households = households; standings = passed }
 
-  -- the standing lines of `todo` lead from a pool in which `todo` are open to one in which they have their standings; `done` have theirs
-  -- already
+  -- reading the standing lines of `todo` leads from a pool in which all of `todo` are open to one in which each of `todo` has their
+  -- standing; each of `done` has theirs already
   Leads : List Volunteer → List Volunteer → ℕ → Type 0
   Leads done todo passed = (last : ℕ) × Runs (Inside (made size categories (done ++ map lodged todo)) (standing_at passed)) (standing_lines todo) (Inside (made size categories (done ++ todo)) (standing_at last))
 

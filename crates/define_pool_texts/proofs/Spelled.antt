@@ -50,7 +50,7 @@ entry_lines (OfStanding standing id) = standing_line standing id
 entry_lines TheEnd = end_line ∷ []
 entry_lines Unknown = [] ∷ []
 
--- a bound in range is spelled by its field
+-- if the bound that a field gives is in range, the field is the spelling of this bound
 bound_spelled : (field : List ℕ) → bound_of field ≤ 999 → decimal (bound_of field) ≡ field
 bound_spelled field h =
     (elim (number_up_to 999 field) as (λ o. number_up_to 999 field ≡ o → unwrap_or o 1000 ≤ 999 → decimal (unwrap_or o 1000) ≡ field) [

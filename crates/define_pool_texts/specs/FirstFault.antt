@@ -1,4 +1,5 @@
--- The first fault of a text, described without reading it line by line. Over PoolReading. Only the laws of this crate cite it.
+-- What the laws of this crate say about the first fault of a text: which lines begin the text of some pool, and which kind of fault is the
+-- lowest. Builds on PoolReading. Only these laws use it.
 use Rattle.std.specs.Prelude.{◌≡◌, ℕ, ◌-◌, ◌==◌, ◌≤◌, Bool, true, false, ◌&&◌, IsTrue, List, [], ◌++◌, take, slice_index_or}
 use Rattle.std.specs.List.{fold, list_any}
 use Rattle.define_pools.specs.Pool.{Pool, IsPool, has_households}
@@ -23,7 +24,7 @@ AwaitsHousehold lines = (pool : Pool) × IsPool pool × (has_households pool ≡
 abbrev pub lines_before : Fault → List ℕ → List (List ℕ)
 lines_before fault bytes = take (fault.line - 1) (pieces_of bytes)
 
--- the lines up to and with the faulty one
+-- the lines before the faulty one, followed by the faulty one
 abbrev pub lines_up_to : Fault → List ℕ → List (List ℕ)
 lines_up_to fault bytes = take fault.line (pieces_of bytes)
 

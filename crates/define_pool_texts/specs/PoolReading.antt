@@ -1,5 +1,5 @@
--- How bytes are read as the text of a pool: as the pool, or as the first faulty line and its lowest kind of fault. Over PoolText and
--- Building of `define_pools`. `pool_text` reads so, and the readings of bundles and proofs go through it.
+-- How bytes are read as the text of a pool: as the pool, or as the first faulty line and its lowest kind of fault. Builds on PoolText and
+-- on Building of `define_pools`. `pool_text` reads this way, and the readings of bundles and proofs include this one.
 use Rattle.std.specs.Prelude.{ℕ, ◌+◌, ◌==◌, nat_lt, nat_le, if◌then◌else◌, Bool, true, false, not, ◌&&◌, ◌||◌, List, [], ◌∷◌, ◌++◌, bytes_eq, codes, Option, Some, None, Result, Ok, Err, unwrap_or, position}
 use Rattle.std.specs.Str.{is_utf8}
 use Rattle.define_pools.specs.declared.Standing.{Standing}
@@ -66,7 +66,7 @@ entry_of_word (StandingWord standing) (id ∷ []) = OfStanding standing id
 entry_of_word EndWord [] = TheEnd
 entry_of_word _ _ = Unknown
 
--- the entry of a line that begins with this word, if it is one, and has `fields` after it
+-- the entry of a line that begins with this word and has `fields` after it; unknown if it begins with none of the words
 abbrev pub entry_behind : Option Word → List (List ℕ) → Entry
 entry_behind None fields = Unknown
 entry_behind (Some word) fields = entry_of_word word fields
@@ -89,10 +89,11 @@ is_ahead passed (Some number) = nat_le passed number
 abbrev pub awaits_household : Passed → Bool
 awaits_household passed = passed.second && passed.households == 0
 
--- the kinds of fault that an entry may have, in rising order, each with whether it applies, given the pool so far and `passed`. 1: the
--- entry is unknown, or not allowed here: a volunteer after a household or standing line, a household in version 1 or after a standing line,
--- in version 2 a standing or the end before the first household line. 9: the id of a household line isn't that of a volunteer after the one
--- of the household line before; for a standing line likewise
+-- the kinds of fault that an entry may have, in rising order, each with whether it applies, given the pool so far and `passed`. Kind 1: the
+-- entry is unknown, or it isn't allowed here: a volunteer after a household or standing line, a household in version 1 or after a standing
+-- line, or in version 2 a standing or the end before the first household line. Kind 9: a household line has an unknown id, or its volunteer
+-- doesn't come after that of the household line before; or a standing line has an unknown id, or its volunteer doesn't come after that of
+-- the standing line before
 abbrev pub entry_kinds : Pool → Passed → Entry → List (ℕ × Bool)
 entry_kinds pool passed (OfCategory name) = category_kinds pool name
 entry_kinds pool passed (OfValue value) = value_kinds pool value
@@ -114,8 +115,8 @@ abbrev pub size_of : List (List ℕ) → ℕ
 size_of (first ∷ field ∷ []) = if bytes_eq first (codes "size") then unwrap_or (number_up_to 200 field) 0 else 0
 size_of _ = 0
 
--- the kinds of fault that a line may have, in rising order, each with whether it applies, given the progress before it. 1: the first line
--- isn't a version line, or a line follows the end; 2: the line has no size; 11: the line isn't UTF-8
+-- the kinds of fault that a line may have, in rising order, each with whether it applies, given the progress before it. Kind 1: the first
+-- line isn't a version line, or a line follows the end. Kind 2: the line after the version has no size. Kind 11: the line isn't UTF-8
 abbrev pub line_kinds : Progress → List ℕ → List (ℕ × Bool)
 line_kinds Begun line = (1, not (bytes_eq line (version_line false) || bytes_eq line (version_line true))) ∷ []
 line_kinds (Versioned second) line = size_kinds (size_of (fields_of line))
@@ -155,8 +156,8 @@ after_line (Versioned second) line = Inside (empty_pool (size_of (fields_of line
 after_line (Inside pool passed) line = after_entry pool passed (entry_of (fields_of line))
 after_line (Ended pool) line = Ended pool
 
--- the pool, or the fault at the end of the text, given the bytes after the last LF. 12: the lines run out before the end. 1: bytes after
--- the end
+-- the result at the end of the text, given the bytes after the last LF: the pool, or a fault. Kind 12: the end line is missing. Kind 1:
+-- there are bytes after the end line
 abbrev pub at_last : ℕ → Progress → List ℕ → Result Pool Fault
 at_last number (Ended pool) [] = Ok pool
 at_last number (Ended pool) (byte ∷ bytes) = Err (record { line = number; kind = 1 })

@@ -1,5 +1,5 @@
--- The text of a pool: each pool has one spelling, of version 1 without households and of version 2 with them. Over Pool of
--- `define_pools`. `pool_text` writes it, and the text of a bundle has it within.
+-- The text of a pool: each pool has one spelling, of version 1 without households and of version 2 with them. Builds on Pool of
+-- `define_pools`. `pool_text` writes it, and the text of a bundle contains it.
 use Rattle.std.specs.Prelude.{ℕ, Bool, true, false, List, [], ◌∷◌, ◌++◌, map, codes, slice_index_or, Option, Some, None}
 use Rattle.std.specs.List.{flat_map}
 use Rattle.std.specs.Fmt.{decimal}
@@ -38,7 +38,7 @@ names_at (category ∷ categories) (place ∷ places) = slice_index_or (value_na
 abbrev pub volunteer_line : List Category → Volunteer → List ℕ
 volunteer_line categories volunteer = line_of (codes "volunteer" ∷ volunteer.id ∷ names_at categories volunteer.values)
 
--- the line of a household, if there is one: its word, the volunteer's id, and the household's name
+-- the line of a household, if there is one: the word `household`, the volunteer's id, and the household's name
 abbrev pub household_line : Option (List ℕ) → List ℕ → List (List ℕ)
 household_line None id = []
 household_line (Some name) id = line_of (codes "household" ∷ id ∷ name ∷ []) ∷ []
@@ -47,7 +47,7 @@ household_line (Some name) id = line_of (codes "household" ∷ id ∷ name ∷ [
 abbrev pub household_lines : List Volunteer → List (List ℕ)
 household_lines volunteers = flat_map (λ volunteer. household_line volunteer.household volunteer.id) volunteers
 
--- the line of a volunteer's standing, if it isn't open: its word, and the volunteer's id
+-- the line of a volunteer's standing, if it isn't open: the word `seated` or `gone`, and the volunteer's id
 abbrev pub standing_line : Standing → List ℕ → List (List ℕ)
 standing_line Open id = []
 standing_line Seated id = line_of (codes "seated" ∷ id ∷ []) ∷ []

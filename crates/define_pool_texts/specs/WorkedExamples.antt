@@ -1,4 +1,4 @@
--- A small pool with a household, on which the definitions compute, for the worked texts here and in `laws_worked`.
+-- A small pool with a household, for the worked texts here and in `laws_worked`.
 use Rattle.std.specs.Prelude.{codes}
 use Rattle.define_pools.specs.Pool.{Pool}
 use Rattle.define_pools.specs.Building.{household_set}

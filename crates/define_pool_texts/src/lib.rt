@@ -1,6 +1,6 @@
 //! The text of a pool: its one spelling, and the first fault of bytes that spell no pool. The definitions are in `specs/`. Stands on
-//! `define_pools` and `define_lines`. Above: `pool_text`, which reads and writes it, and `define_bundles`, whose text has a
-//! pool's within it.
+//! `define_pools` and `define_lines`. Used by `pool_text`, which reads and writes these texts, and by `define_bundles`, whose texts contain
+//! the text of a pool.
 //!
 //! The functions have no body: their contracts are laws over the definitions, and worked examples.
 #![tactic(auto)]
@@ -16,7 +16,7 @@ ghost use Rattle.define_pool_texts.specs.WorkedExamples.{housed};
 ghost use Rattle.define_pool_texts.specs.PoolReading.{Progress, line_kinds, read};
 ghost use Rattle.define_pool_texts.specs.FirstFault.{IsPoolText, BeginsPoolText, AwaitsHousehold, lines_before, lines_up_to, IsLowest, kinds_at};
 
-/// How far the lines after the size have come.
+/// How far a text has come after its size: the version, and how many volunteers its household and standing lines have passed.
 #[derive(Clone, Copy, Debug, PartialEq, Eq)]
 pub struct Passed {
     /// True if the text is of version 2.
@@ -46,9 +46,10 @@ pub fn one_pool_per_text()
 {}
 
 /// The lines before the first faulty line begin the text of some pool, and with the faulty line they begin none. If the kind is 12, all
-/// finished lines are right, but the end is missing. From the third line on, the lines before the faulty one are the text of a pool, or are
-/// one once the end is added. There is one exception: right lines of version 2 without a household line yet. They count as a beginning even
-/// if there can be no volunteer for such a line, and the end doesn't close them.
+/// lines that end with LF are right, but the end line is missing. If the faulty line is the third or a later one, the lines before it are
+/// the text of a pool, or become one if the end line is added. There is one exception: right lines of version 2 that still lack a household
+/// line. They count as a beginning even if no household line can follow, as when nobody can be added since an earlier category has no
+/// values; and adding the end line doesn't make them a pool's text.
 pub fn first_fault_is_first()
     ensures before { (bytes : List ℕ) (fault : Fault) → read bytes ≡ Err fault →
         BeginsPoolText (lines_before fault bytes) ⊎ AwaitsHousehold (lines_before fault bytes) }
@@ -58,16 +59,16 @@ pub fn first_fault_is_first()
     ensures missing_end { (bytes : List ℕ) (fault : Fault) → read bytes ≡ Err fault → fault.kind ≡ 12 → length (pieces_of bytes) ≡ fault.line }
 {}
 
-/// The kinds that a line may have are one rising list. The first fault's kind is the lowest of those that apply to its line, unless it is
-/// 12, a missing end.
+/// The kinds that a line may have are listed in rising order. The first fault's kind is the lowest of those that apply to its line, except
+/// kind 12, a missing end.
 pub fn first_fault_is_lowest()
     ensures lowest { (kinds : List (ℕ × Bool)) (kind : ℕ) → IsTrue (is_increasing (map (λ one. one.0) kinds)) → lowest_kind kinds ≡ Some kind → IsLowest kinds kind }
     ensures rising { (progress : Progress) (line : List ℕ) → IsTrue (is_increasing (map (λ one. one.0) (line_kinds progress line))) }
     ensures fault { (bytes : List ℕ) (fault : Fault) → read bytes ≡ Err fault → fault.kind ≢ 12 → IsLowest (kinds_at fault bytes) fault.kind }
 {}
 
-/// Worked examples: the texts of two women and two men, of the same after a dropout, of the same with a and c in one household, and of
-/// nobody; and bytes that are no text.
+/// Worked examples: the texts of two women and two men, of the same four after a dropout, of the four with a and c in one household, and of
+/// a pool of nobody; and bytes that are no text.
 pub fn worked_texts()
     ensures four_length { length (spelling four) ≡ 138 }
     ensures four { read (spelling four) ≡ Ok four }

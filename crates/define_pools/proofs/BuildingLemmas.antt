@@ -35,8 +35,8 @@ all_different_push (ys ∷ yss) xs h k =
     let none : includes_list (yss ++ xs ∷ []) ys ≡ false = list_any-append (bytes_eq ys) yss (xs ∷ []) ∙ or_from (includes_list yss ys) (bytes_eq ys xs || false) (not-true (includes_list yss ys) parts.0) (or_from (bytes_eq ys xs) false other refl) in
     and_from (not (includes_list (yss ++ xs ∷ []) ys)) (all_different (yss ++ xs ∷ [])) (not_from_false (includes_list (yss ++ xs ∷ []) ys) none) (all_different_push yss xs parts.1 apart.1)
 
--- If the test for kind 10 is false, which is that the name breaks the limits or `count` is at least `limit`, then the name keeps the limits
--- and `count` is below `limit`.
+-- Kind 10 applies if the name breaks the limits or `count` is at least `limit`. If it doesn't apply, the name keeps the limits and `count`
+-- is below `limit`.
 limits_and_room : (name : List ℕ) (limit count : ℕ) → (not (keeps_name_limits name) || leb limit count) ≡ false → (keeps_name_limits name ≡ true) × (count < limit)
 limits_and_room name limit count h =
     let parts = or_parts (not (keeps_name_limits name)) (leb limit count) h in
@@ -56,7 +56,7 @@ IsPool-empty_pool size h = record {
   households = refl;
 }
 
--- what holds of a category without a fault
+-- the properties of a category without a fault
 pub record CategoryFits (pool : Pool) (name : List ℕ) : Type 0 where
   pub nobody : pool.volunteers ≡ []
   pub new : includes_list (category_names pool.categories) name ≡ false
@@ -125,7 +125,7 @@ categories_with_value (category ∷ (next ∷ later)) value h good new room =
     let parts = and_parts (is_category category) (list_all is_category (next ∷ later)) h in
     and_from (is_category category) (list_all is_category (with_value (next ∷ later) value)) parts.0 (categories_with_value (next ∷ later) value parts.1 good new room)
 
--- what holds of a value without a fault
+-- the properties of a value without a fault
 pub record ValueFits (pool : Pool) (value : BoundedValue) : Type 0 where
   pub some : 0 < length pool.categories
   pub nobody : pool.volunteers ≡ []
@@ -194,7 +194,7 @@ has_values_places (category ∷ categories) (name ∷ names) h k =
     let here : ltb (unwrap_or (place_of category.values name) 0) (length category.values) ≡ true = rw found.1 (lt-ltb found.0 (length category.values) found.2) in
     and_from (ltb (unwrap_or (place_of category.values name) 0) (length category.values)) (has_values categories (places_of categories names)) here (has_values_places categories names parts.1 (omega arith))
 
--- what holds of a volunteer without a fault
+-- the properties of a volunteer without a fault
 pub record VolunteerFits (pool : Pool) (id : List ℕ) (names : List (List ℕ)) : Type 0 where
   pub known : are_known pool.categories names ≡ true
   pub each : length names ≡ length pool.categories

@@ -124,7 +124,7 @@ module _ (pool : Pool) (mine other : Lottery) (is_mine : IsLottery pool mine) (i
       not_greater other.total mine.total (rising (counts pool other)) (rising (counts pool mine)) (Rises-rising (counts pool other)) (Rises-rising (counts pool mine))
       (λ u before. let here = h u (λ w l. sym (other_at w) ∙ before w l ∙ mine_at w) in omega (arith, mine_at u, other_at u, here))
 
-  -- what holds after some stages: the settled have equal chances in both lotteries, and the other lottery's panels attain the caps
+  -- what is known after some stages: whoever is settled has equal chances in both lotteries, and the other lottery's panels attain the caps
   record Agrees (earlier : List Stage) : Type 0 where
     equal : AllByRecursion (λ i. is_settled earlier i ≡ true → x i ≡ y i) (everybody pool)
     attained : AllByRecursion (λ row. attains earlier row.panel ≡ true) other.rows
@@ -253,7 +253,7 @@ module _ (pool : Pool) (mine other : Lottery) (is_mine : IsLottery pool mine) (i
           (each_both (λ row. leb 1 row.weight ≡ true) (λ row. heavy stage row.panel * row.weight ≡ light stage row.panel * row.weight) other.rows
           (each_from_list_all (λ row. leb 1 row.weight) other.rows is_other.total_agrees.weights) same)
 
-      -- so the lotteries also agree after the stage
+      -- the lotteries also agree after the stage
       agree_after : Agrees (stage ∷ earlier)
       agree_after = record {
         equal =

@@ -1,4 +1,4 @@
--- Sorted lists compared in lexicographic order, by how many of their numbers are at most a given one.
+-- Sorted lists are compared in lexicographic order by counting, for each number `u`, how many of their numbers are at most `u`.
 use Rattle.std.proofs.Common.{◌≡◌, ℕ, zero, suc, ◌+◌, ◌*◌, ◌≤◌, ◌<◌, Bool, true, false, cond, leb, ltb, eqb, List, [], ◌∷◌, map, refl, sym, ap, ◌∙◌, ⊎_elim, true≢false, arith, le_refl, le_of_lt, le_of_eq, mul-le-mul_right}
 use Rattle.std.specs.List.{AllByRecursion}
 use Rattle.std.proofs.lemmas.Bool.{leb-true, leb-false, le-leb, lt-leb, cases_lt, le-ltb, eqb-true}
@@ -70,7 +70,7 @@ some_at_most : (k a : ℕ) (xs : List ℕ) → 1 ≤ at_most k (a * k) (a ∷ xs
 some_at_most k a xs =
     let same : leb (a * k) (a * k) ≡ true = le-leb (a * k) (a * k) (omega arith) in rw same (omega arith)
 
--- at the first number where `f` and `g` differ, if there is one, `g` is less
+-- at the least number where `f` and `g` have different values, if there is one, `g` has the lesser value
 abbrev pub NoMoreAtFirst : (ℕ → ℕ) → (ℕ → ℕ) → Type 0
 NoMoreAtFirst f g = (u : ℕ) → ((w : ℕ) → w < u → f w ≡ g w) → g u ≤ f u
 

@@ -1,12 +1,13 @@
--- Building a pool step by step: what each step adds, and the kinds of fault of a step, by the numbers that a faulty pool text has. If
--- several kinds apply, the lowest is the answer. Over Pool. `pool_model` builds so, and `define_pool_texts` cites the kinds.
+-- Building a pool step by step: what each step adds, and the kinds of fault that a step may have, by their numbers in the text of a pool.
+-- If several kinds apply, the fault has the lowest. Builds on Pool. `pool_model` builds pools this way, and `define_pool_texts` uses the
+-- kinds.
 use Rattle.std.specs.Prelude.{ℕ, zero, suc, ◌+◌, ◌==◌, nat_lt, nat_le, if◌then◌else◌, Bool, true, not, ◌&&◌, ◌||◌, List, [], ◌∷◌, ◌++◌, map, length, bytes_eq, Option, Some, None, unwrap_or, option_map}
 use Rattle.define_pools.specs.declared.Standing.{Standing}
 use Rattle.define_pools.specs.declared.Standing.TheVariants.{Open}
 use Rattle.define_pools.specs.Lists.{includes_list}
 use Rattle.define_pools.specs.Pool.{Pool, Category, BoundedValue, Volunteer, is_size, are_bounds, keeps_name_limits}
 
--- the first kind of the list that applies, or None. The list has kinds in rising order, each with whether it applies
+-- the first kind of the list that applies, or None. The list is in rising order; each kind comes with whether it applies
 abbrev pub lowest_kind : List (ℕ × Bool) → Option ℕ
 lowest_kind [] = None
 lowest_kind ((kind, applies) ∷ rest) = if applies then Some kind else lowest_kind rest
@@ -37,13 +38,14 @@ abbrev pub place_of : List BoundedValue → List ℕ → Option ℕ
 place_of [] name = None
 place_of (value ∷ values) name = if bytes_eq name value.name then Some 0 else option_map (λ place. place + 1) (place_of values name)
 
--- category by category, the place of the value whose name `names` gives, or 0 if no value has this name. Ends with the shorter list
+-- for each category, the place of the value whose name `names` gives, or 0 if no value has this name. If the lists differ in length, the
+-- longer one is cut
 abbrev pub places_of : List Category → List (List ℕ) → List ℕ
 places_of [] names = []
 places_of (category ∷ categories) [] = []
 places_of (category ∷ categories) (name ∷ names) = unwrap_or (place_of category.values name) 0 ∷ places_of categories names
 
--- category by category, the name that `names` gives is that of a value. Names past the last category aren't tested
+-- each name is that of a value of its category. Names after the last category aren't tested
 abbrev pub are_known : List Category → List (List ℕ) → Bool
 are_known [] names = true
 are_known (category ∷ categories) [] = true
@@ -53,7 +55,7 @@ are_known (category ∷ categories) (name ∷ names) = includes_list (value_name
 abbrev pub empty_pool : ℕ → Pool
 empty_pool size = record { size = size; categories = []; volunteers = [] }
 
--- 2: the size is out of range
+-- the kinds of fault of a size. Kind 2: the size is out of range
 abbrev pub size_kinds : ℕ → List (ℕ × Bool)
 size_kinds size = (2, not (is_size size)) ∷ []
 
@@ -63,7 +65,8 @@ size_kind size = lowest_kind (size_kinds size)
 abbrev pub category_added : Pool → List ℕ → Pool
 category_added pool name = record pool { categories = pool.categories ++ record { name = name; values = [] } ∷ [] }
 
--- 1: there are volunteers already; 3: an earlier category has this name; 10: the name isn't allowed, or it would be a 21st category
+-- the kinds of fault of a new category. Kind 1: there are volunteers already. Kind 3: an earlier category has this name. Kind 10: the name
+-- isn't allowed, or there are 20 categories already
 abbrev pub category_kinds : Pool → List ℕ → List (ℕ × Bool)
 category_kinds pool name =
     (1, nat_lt 0 (length pool.volunteers))
@@ -77,8 +80,9 @@ category_kind pool name = lowest_kind (category_kinds pool name)
 abbrev pub value_added : Pool → BoundedValue → Pool
 value_added pool value = record pool { categories = with_value pool.categories value }
 
--- 1: there is no category yet, or there are volunteers already; 4: an earlier value of the last category has this name; 5: the bounds
--- are out of order or range; 10: the name isn't allowed, or it would be a 51st value
+-- the kinds of fault of a new value. Kind 1: there is no category yet, or there are volunteers already. Kind 4: an earlier value of the
+-- last category has this name. Kind 5: the bounds are out of order or range. Kind 10: the name isn't allowed, or the category has 50 values
+-- already
 abbrev pub value_kinds : Pool → BoundedValue → List (ℕ × Bool)
 value_kinds pool value =
     (1, length pool.categories == 0 || nat_lt 0 (length pool.volunteers))
@@ -90,13 +94,13 @@ value_kinds pool value =
 abbrev pub value_kind : Pool → BoundedValue → Option ℕ
 value_kind pool value = lowest_kind (value_kinds pool value)
 
--- the pool with one more volunteer, open and without a household, who has the id `id` and the values that `names` names
+-- the pool with one more volunteer, open and without a household, who has the id `id` and in each category the value with the given name
 abbrev pub volunteer_added : Pool → List ℕ → List (List ℕ) → Pool
 volunteer_added pool id names =
     record pool { volunteers = pool.volunteers ++ record { id = id; values = places_of pool.categories names; standing = Open; household = None } ∷ [] }
 
--- 6: a name given for a category is none of its values; 7: not one name per category; 8: an earlier volunteer has this id; 10: the id
--- isn't allowed, or it would be a 401st volunteer
+-- the kinds of fault of a new volunteer. Kind 6: a name given for a category is none of its values. Kind 7: there isn't one name per
+-- category. Kind 8: an earlier volunteer has this id. Kind 10: the id isn't allowed, or there are 400 volunteers already
 abbrev pub volunteer_kinds : Pool → List ℕ → List (List ℕ) → List (ℕ × Bool)
 volunteer_kinds pool id names =
     (6, not (are_known pool.categories names))
@@ -108,7 +112,7 @@ volunteer_kinds pool id names =
 abbrev pub volunteer_kind : Pool → List ℕ → List (List ℕ) → Option ℕ
 volunteer_kind pool id names = lowest_kind (volunteer_kinds pool id names)
 
--- the volunteers, with the standing `standing` for volunteer `number`, counted from 0
+-- the same volunteers, but the one at place `number`, counted from 0, has the standing `standing`
 abbrev pub with_standing : List Volunteer → ℕ → Standing → List Volunteer
 with_standing [] number standing = []
 with_standing (volunteer ∷ volunteers) zero standing = record volunteer { standing = standing } ∷ volunteers
@@ -117,7 +121,7 @@ with_standing (volunteer ∷ volunteers) (suc number) standing = volunteer ∷ w
 abbrev pub standing_set : Pool → ℕ → Standing → Pool
 standing_set pool number standing = record pool { volunteers = with_standing pool.volunteers number standing }
 
--- the volunteers, with a household of the name `name` for volunteer `number`, counted from 0
+-- the same volunteers, but the one at place `number`, counted from 0, has a household of the name `name`
 abbrev pub with_household : List Volunteer → ℕ → List ℕ → List Volunteer
 with_household [] number name = []
 with_household (volunteer ∷ volunteers) zero name = record volunteer { household = Some name } ∷ volunteers
@@ -126,7 +130,7 @@ with_household (volunteer ∷ volunteers) (suc number) name = volunteer ∷ with
 abbrev pub household_set : Pool → ℕ → List ℕ → Pool
 household_set pool number name = record pool { volunteers = with_household pool.volunteers number name }
 
--- 10: the name isn't allowed
+-- the kinds of fault of a household's name. Kind 10: the name isn't allowed
 abbrev pub household_kinds : List ℕ → List (ℕ × Bool)
 household_kinds name = (10, not (keeps_name_limits name)) ∷ []
 

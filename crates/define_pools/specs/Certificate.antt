@@ -1,4 +1,4 @@
--- Stages, and when they certify a lottery. Over Lottery and Pool. The checks, the run and the proofs by additions rest on it.
+-- Stages, and when they certify a lottery. Builds on Lottery and Pool. The checks, the run and the proofs by additions use it.
 use Rattle.std.specs.Prelude.{◌≡◌, ℕ, nat_lt, nat_le, ◌==◌, Bool, not, ◌||◌, IsTrue, List, [], ◌∷◌, length, filter, fold, ℤ, pos, ◌+ℤ◌, int_lt, int_le, slice_index_or}
 use Rattle.std.specs.Ordering.{int_eq}
 use Rattle.std.specs.List.{list_all, list_any}
@@ -66,7 +66,7 @@ StagesHold pool lottery earlier [] = IsTrue (list_all (is_settled earlier) (ever
 StagesHold pool lottery earlier (stage ∷ later) =
     StageHolds pool lottery earlier stage × StagesHold pool lottery (stage ∷ earlier) later
 
--- the stages show that the lottery is leximin greatest
+-- the lottery is one over the quota panels of the pool, and its stages hold. So it is leximin greatest (`certified_is_greatest`)
 pub record Certifies (pool : Pool) (lottery : Lottery) (stages : List Stage) : Type 0 where
   pub is_lottery : IsLottery pool lottery
   pub stages_hold : StagesHold pool lottery [] stages

@@ -1,4 +1,4 @@
--- Lotteries over a pool, and which of two is above the other. Over Pool. An auditor reads this file and Pool.
+-- Lotteries over a pool, and when one lottery is above another. Builds on Pool. An auditor reads this file and Pool.
 use Rattle.std.specs.Prelude.{◌≡◌, ℕ, ◌*◌, ◌==◌, nat_lt, nat_le, if◌then◌else◌, Bool, false, IsTrue, IsFalse, List, [], ◌∷◌, map, length, filter, sum_by}
 use Rattle.std.specs.List.{list_all}
 use Rattle.define_pools.specs.Lists.{includes, all_different, rising}
@@ -9,7 +9,7 @@ pub record LotteryRow : Type 0 where
   pub panel : List ℕ
   pub weight : ℕ
 
--- panels with their weights, and a total. That the total is the weights' sum is said by `TotalAgrees`
+-- panels with their weights, and a total. `TotalAgrees` says that the total is the sum of the weights
 pub record Lottery : Type 0 where
   pub total : ℕ
   pub rows : List LotteryRow
@@ -19,7 +19,7 @@ pub record TotalAgrees (lottery : Lottery) : Type 0 where
   pub weights : IsTrue (list_all (λ row. nat_le 1 row.weight) lottery.rows)
   pub total : lottery.total ≡ sum_by (λ row. row.weight) lottery.rows
 
--- at least one quota panel, all different, each with a weight of at least 1; and the total, which is the weights' sum
+-- at least one row; the panels are different quota panels, each with a weight of at least 1; and the total is the sum of the weights
 pub record IsLottery (pool : Pool) (lottery : Lottery) : Type 0 where
   pub some : IsTrue (nat_lt 0 (length lottery.rows))
   pub panels : IsTrue (list_all (λ row. is_quota_panel pool row.panel) lottery.rows)
@@ -34,7 +34,7 @@ count lottery i = sum_by (λ row. row.weight) (filter (λ row. includes row.pane
 abbrev pub counts : Pool → Lottery → List ℕ
 counts pool lottery = map (count lottery) (everybody pool)
 
--- of two lists of counts, equally long, the first is lexicographically greater, each count as a fraction of its list's total
+-- compares two lists of counts of equal length, each count divided by its list's total: true if the first list is lexicographically greater
 abbrev pub first_is_greater : ℕ → ℕ → List ℕ → List ℕ → Bool
 first_is_greater first_total second_total [] seconds = false
 first_is_greater first_total second_total (first ∷ firsts) [] = false

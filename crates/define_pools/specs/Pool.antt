@@ -1,4 +1,4 @@
--- Pools, quota panels, and the list of a pool's quota panels. Stands on Lists; everything that speaks of pools stands on it.
+-- Pools, quota panels, and the list of a pool's quota panels. Builds on Lists. Every other file about pools builds on this one.
 use Rattle.std.specs.Prelude.{ℕ, ◌==◌, nat_lt, nat_le, Bool, true, false, not, ◌&&◌, IsTrue, List, [], ◌∷◌, map, length, count_by, filter, slice_index, slice_index_or, Option, Some, None, is_some, bytes_eq}
 use Rattle.std.specs.List.{list_all, list_any, enumerate_from, range_with_len}
 use Rattle.std.specs.Str.{is_utf8}
@@ -17,7 +17,7 @@ pub record Category : Type 0 where
   pub name : List ℕ
   pub values : List BoundedValue
 
--- a volunteer: for each category the place of a value, and the name of a household, if one is known
+-- a volunteer: an id, for each category the place of a value, a standing, and the name of a household, if one is known
 pub record Volunteer : Type 0 where
   pub id : List ℕ
   pub values : List ℕ
@@ -56,7 +56,7 @@ are_bounds lower upper = nat_le lower upper && nat_le upper 999
 abbrev pub is_value : BoundedValue → Bool
 is_value value = is_name value.name && are_bounds value.lower value.upper
 
--- a category has a name and at most 50 values of different names
+-- a category has a name and at most 50 values, each of which satisfies `is_value`, with different names
 abbrev pub is_category : Category → Bool
 is_category category =
     is_name category.name && nat_le (length category.values) 50 && all_different (map (λ value. value.name) category.values)
@@ -69,7 +69,8 @@ has_values [] (place ∷ places) = false
 has_values (category ∷ categories) [] = false
 has_values (category ∷ categories) (place ∷ places) = nat_lt place (length category.values) && has_values categories places
 
--- what holds of each pool: its numbers are within the limits, and names and ids are different
+-- what makes a pool: its numbers, names and bounds are within the limits; categories have different names, and volunteers different ids;
+-- and each volunteer has a value of each category
 pub record IsPool (pool : Pool) : Type 0 where
   pub size : IsTrue (is_size pool.size)
   pub few_categories : IsTrue (nat_le (length pool.categories) 20)
@@ -89,7 +90,7 @@ has_households pool = list_any (λ volunteer. is_some volunteer.household) pool.
 abbrev pub everybody : Pool → List ℕ
 everybody pool = range_with_len 0 (length pool.volunteers)
 
--- volunteer `i`, counted from 0. If there are at most `i` volunteers, one without values who is gone
+-- volunteer `i`, counted from 0. If there is no volunteer `i`, a volunteer without values who is gone
 abbrev pub volunteer : List Volunteer → ℕ → Volunteer
 volunteer volunteers i = slice_index_or volunteers i (record { id = []; values = []; standing = Gone; household = None })
 
@@ -109,13 +110,13 @@ meets_quotas categories volunteers panel =
     list_all (λ (value_place, value). is_within value (members_with volunteers panel category_place value_place)) (enumerate_from 0 category.values))
     (enumerate_from 0 categories)
 
--- the standing allows that the volunteer is on the panel (if `is_in` is true), or isn't (if it is false)
+-- the standing allows a volunteer to be on a panel if `is_in` is true, and to be off it if `is_in` is false
 abbrev pub allows : Standing → Bool → Bool
 allows Open is_in = true
 allows Seated is_in = is_in
 allows Gone is_in = not is_in
 
--- the panel holds every seated and no gone volunteer
+-- the panel has everyone who is seated and no one who is gone
 abbrev pub keeps_standings : List Volunteer → List ℕ → Bool
 keeps_standings volunteers panel =
     list_all (λ (i, volunteer). allows volunteer.standing (includes panel i)) (enumerate_from 0 volunteers)

@@ -1,4 +1,4 @@
--- Small pools with their lotteries and certificates, on which the definitions are computed. Worked examples of many crates use them.
+-- Small pools with their lotteries and certificates, for the worked examples of many crates.
 use Rattle.std.specs.Prelude.{ℕ, List, [], ◌∷◌, ℤ, pos, negsuc, codes, None, Some}
 use Rattle.define_pools.specs.declared.Standing.TheVariants.{Open, Seated, Gone}
 use Rattle.define_pools.specs.Pool.{BoundedValue, Category, Volunteer, Pool}
@@ -6,7 +6,7 @@ use Rattle.define_pools.specs.Lottery.{LotteryRow, Lottery}
 use Rattle.define_pools.specs.Certificate.{Stage}
 use Rattle.define_pools.specs.Building.{standing_set}
 
--- an open volunteer with the places of the values, without a household
+-- an open volunteer with this id and these places of values, without a household
 abbrev pub person : List ℕ → List ℕ → Volunteer
 person id values = record { id = id; values = values; standing = Open; household = None }
 
@@ -24,7 +24,7 @@ row panel weight = record { panel = panel; weight = weight }
 abbrev pub stage : ℤ → List ℤ → Stage
 stage cap weights = record { cap = cap; weights = weights }
 
--- two women and two men, one of each to be chosen
+-- two women and two men, of whom one woman and one man are to be chosen
 abbrev pub four : Pool
 four = record {
   size = 2;
@@ -40,7 +40,7 @@ four_stages =
     stage (pos 1) (pos 1 ∷ pos 1 ∷ pos 0 ∷ pos 0 ∷ []) ∷
     stage (pos 0) (negsuc 0 ∷ negsuc 0 ∷ pos 1 ∷ pos 1 ∷ []) ∷ []
 
--- the four after a and c were drawn and a dropped out: c keeps the seat
+-- the pool `four` after a and c were drawn and a dropped out: a is gone, and c keeps the seat
 abbrev pub after_dropout : Pool
 after_dropout = standing_set (standing_set four 0 Gone) 2 Seated
 
@@ -65,7 +65,7 @@ family = record four {
       ∷ of_household (codes "h") (person (codes "c") (1 ∷ [])) ∷ person (codes "d") (1 ∷ []) ∷ [];
 }
 
--- two seats for one woman and one man, who are of one household
+-- two seats for one woman and one man who are of one household, so there is no quota panel
 abbrev pub couple : Pool
 couple = record {
   size = 2;

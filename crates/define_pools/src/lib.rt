@@ -1,5 +1,5 @@
-//! What the program is measured against: pools and quota panels, lotteries and their order, certificates, and how a pool is built. The
-//! definitions are in `specs/`. Stands on `laws_basic`. Used by every crate that speaks of pools: `pool_model` has the values in code,
+//! The definitions that the program is measured against: pools and quota panels, lotteries and their order, certificates, and how a pool is
+//! built. They are in `specs/`. Stands on `laws_basic`. Used by every crate about pools: `pool_model` has the values in code,
 //! `define_pool_texts` their text, and `define_searches` the classes.
 //!
 //! The functions have no body: their contracts are laws over the definitions, and each is a promise. The one that matters most is
@@ -28,7 +28,7 @@ pub fn certified_is_greatest()
     ensures { (pool : Pool) (lottery : Lottery) (stages : List Stage) → Certifies pool lottery stages → LeximinGreatest pool lottery }
 {}
 
-/// The list `panels pool` has all quota panels of the pool, and nothing else.
+/// The list `panels pool` contains all quota panels of the pool, and nothing else.
 pub fn all_are_listed()
     ensures { (pool : Pool) (panel : List ℕ) → Contains (panels pool) panel ↔ IsTrue (is_quota_panel pool panel) }
 {}

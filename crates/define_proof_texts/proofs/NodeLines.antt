@@ -1,4 +1,4 @@
--- What a line of a tree is read as, and that its spelling is the line.
+-- What a line of a tree is read as, and that the spelling of what is read is the line again.
 use Rattle.std.proofs.Common.{◌≡◌, ℕ, ◌+◌, ◌-◌, ◌<◌, ◌≤◌, ◌^◌, true, ◌&&◌, cond, eqb, leb, ltb, List, [], ◌∷◌, ◌++◌, map, refl, sym, ◌∙◌, ap, subst, arith, lit<, Option, Some, None}
 use Rattle.std.specs.Prelude.{bytes_eq, codes, ℤ, unsigned_abs}
 use Rattle.std.specs.Fmt.{decimal, signed_decimal}
@@ -23,7 +23,7 @@ use Rattle.define_proof_texts.specs.ProofReading.{LineInTree, NextTree, OfNode, 
 
 -- ---- a line is the spelling of what it is read as
 
--- inside tree `number` of `last`, the line is the spelling of `said`, and its numbers are in range
+-- inside tree `number` of `last`, the line is the spelling of `said`, and the numbers in `said` are in range
 abbrev pub IsSpelled : ℕ → ℕ → ℕ → List ℕ → LineInTree → Type 0
 IsSpelled volunteers number last line (OfNode node) = (line ≡ node_line node) × (is_tree_line volunteers node ≡ true)
 IsSpelled volunteers number last line NextTree = (line ≡ tree_line (number + 1)) × (number < last) × (number < most_trees)
@@ -129,7 +129,7 @@ signed_field z small =
     wide : (n : ℕ) → n ≤ number_limit → n + 0 ≤ 2 ^ 127 - 1
     wide n h = let most : number_limit < 2 ^ 127 - 1 = lit< tt in omega arith
 
--- what holds of a multiplier in its ranges
+-- the properties of a multiplier in its ranges
 record MultiplierParts (multiplier : Multiplier) : Type 0 where
   number : multiplier.number ≤ last_constraint
   factor : unsigned_abs multiplier.factor ≤ number_limit
@@ -162,7 +162,7 @@ multipliers_again (multiplier ∷ multipliers) h =
     ∙ ap (λ o. with_number (multiplier_of (Some multiplier.number) o) rest) (signed_again number_limit multiplier.factor (omega arith) small)
     ∙ ap (with_number (Some multiplier)) (multipliers_again multipliers parts.1)
 
--- what holds of a leaf in its ranges
+-- the properties of a leaf in its ranges
 record LeafParts (leaf : Leaf) : Type 0 where
   scale : leaf.scale ≤ number_limit
   multipliers : list_all is_multiplier leaf.multipliers ≡ true

@@ -26,7 +26,7 @@ use Rattle.define_proof_texts.specs.ProofReading.{Begun, Closed, InBundle, InNoP
 use Rattle.define_proof_texts.proofs.NodeLines.{close_again, next_again, node_again, node_lacks_feed, tree_lacks_feed}
 use Rattle.define_proof_texts.proofs.Spelled.{keep_ranges}
 
--- none of the lines has an LF or a fault, and after them the first progress has become the second
+-- none of the lines has an LF or a fault, and reading them leads from the first progress to the second
 abbrev pub Runs : Progress → List (List ℕ) → Progress → Type 0
 Runs = reading.Runs reader
 

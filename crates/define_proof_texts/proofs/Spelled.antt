@@ -95,9 +95,9 @@ behind_bundle : (pool : Pool) (answer : Answer) (before after : List (List ℕ))
 behind_bundle pool answer before after line e =
     ap (λ rest. proof_line ∷ (bundle_lines pool answer ++ rest)) e ∙ ap (λ rest. proof_line ∷ rest) (sym (append_assoc (bundle_lines pool answer) before (line ∷ [])))
 
--- ---- one more line
+-- ---- a line without a fault is added to the lines so far
 
--- if a kind of fault that applies unless `test` is true doesn't apply, `test` is true
+-- a list has one kind of fault, which applies exactly if `test` is false. If no kind of the list applies, `test` is true
 passed : (test : Bool) (kind : ℕ) → lowest_kind ((kind, not test) ∷ []) ≡ None → test ≡ true
 passed test kind h = not-false test (no_kind (not test) kind None h).0
 
@@ -217,7 +217,7 @@ line_adds (InTrees bundle whole lines) line right h =
 line_adds (InNoPanel pool lines) line right h = no_panel_adds pool lines line (said_in_no_panel pool line) right (line_spelled (length pool.volunteers) 0 0 line) h
 line_adds (Closed proof) line right h = cc
 
--- ---- all lines
+-- ---- the lines of a whole text
 
 -- if the text ends with a proof, its lines and the last bytes are the spelling of this proof
 last_is_spelled : (number : ℕ) (progress : Progress) (bytes : List ℕ) (proof : Proof) → IsRight progress → at_last number progress bytes ≡ Ok proof →

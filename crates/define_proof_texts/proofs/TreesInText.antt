@@ -93,7 +93,7 @@ tree_lines_stand (OfNoPanel pool lines) stage place has m = of_none pool lines p
 
 -- ---- the line that a refusal names
 
--- if the first fault of a proof's tree is in a line, and the refusal names this line, the refusal names a line of the text
+-- if a refusal names the line in which the first fault of a proof's tree is, this is a line of the text
 in_text : (proof : Proof) (refusal : Refusal) (problem : Problem) (all : List Standing) (line : ℕ) → HasTree proof refusal.stage → refusal.who ≡ line ∷ [] →
     tree_fault problem all (lines_before proof refusal.stage + 1) (tree_of proof refusal.stage) ≡ fault line refusal.reason → NamesTextLine proof refusal
 in_text proof refusal problem all line has who first =

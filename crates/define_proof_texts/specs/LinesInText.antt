@@ -1,5 +1,5 @@
--- Where the lines of a proof's trees are in its text. Over ProofText, and Refusals of `define_additions`. The refusals of `verify` name
--- lines by their number in the text.
+-- Where the lines of a proof's trees are in its text. Builds on ProofText, and on Refusals of `define_additions`. The refusals of `verify`
+-- name lines by their number in the text.
 use Rattle.std.specs.Prelude.{◌≡◌, ℕ, ◌+◌, ◌≤◌, List, [], ◌∷◌, ◌++◌, drop, length, map}
 use Rattle.define_checks.specs.Reasons.{Refusal}
 use Rattle.define_additions.specs.ProofVerdict.{OfLottery, OfNoPanel, Proof}
@@ -10,7 +10,8 @@ use Rattle.define_proof_texts.specs.ProofText.{close_line, lines_before_close, n
 abbrev pub proof_lines : Proof → List (List ℕ)
 proof_lines proof = lines_before_close proof ++ close_line ∷ []
 
--- the proof has a tree of number `stage`: that of the stage, or tree 0 if the proof is that there is no quota panel
+-- the proof has a tree with the number `stage`: the tree of this stage in a proof of a lottery, or tree 0 in a proof that there is no quota
+-- panel
 abbrev pub HasTree : Proof → ℕ → Type 0
 HasTree (OfLottery pool answer trees) stage = (1 ≤ stage) × (stage ≤ length trees)
 HasTree (OfNoPanel pool lines) stage = stage ≡ 0

@@ -1,5 +1,5 @@
--- What bytes are as the text of a proof: the proof that they spell, or the first faulty line and its lowest kind of fault. Over ProofText
--- and the readings of pools and bundles. The reader and the commands cite it.
+-- How bytes are read as the text of a proof: as the proof that they spell, or as the first faulty line and its lowest kind of fault. Builds
+-- on ProofText and on the readings of pools and bundles. The reader of proofs and the commands use it.
 use Rattle.std.specs.Prelude.{ℕ, ◌+◌, ◌==◌, nat_lt, if◌then◌else◌, Bool, true, not, ◌&&◌, ◌||◌, List, [], ◌∷◌, ◌++◌, bytes_eq, codes, length, ℤ, Option, Some, None, Result, Ok, Err, is_none}
 use Rattle.define_pools.specs.Building.{lowest_kind}
 use Rattle.define_pools.specs.Pool.{Pool}
@@ -42,7 +42,7 @@ pub data LineInTree : Type 0 where
   TheClose : LineInTree
   Unknown : LineInTree
 
--- the multiplier of `number` and `factor`; None if one is missing
+-- the multiplier of `number` and `factor`; None if either is missing
 abbrev pub multiplier_of : Option ℕ → Option ℤ → Option Multiplier
 multiplier_of (Some number) (Some factor) = Some (record { number = number; factor = factor })
 multiplier_of _ _ = None
@@ -110,8 +110,8 @@ begins_bundle line = is_none (bundles.line_kind bundles.Begun line)
 abbrev pub begins_pool : List ℕ → Bool
 begins_pool line = is_none (pools.line_kind pools.Begun line)
 
--- the kinds of fault that a line of the bundle may have, given the bundle's progress. 22: after the bundle's end, any line except the one
--- that begins tree 1
+-- the kinds of fault that a line of the bundle may have, given the bundle's progress. Kind 22: the line follows the bundle's end, and isn't
+-- the first line of tree 1
 abbrev pub bundle_kinds : bundles.Progress → List ℕ → List (ℕ × Bool)
 bundle_kinds bundles.Begun line = bundles.line_kinds bundles.Begun line
 bundle_kinds (bundles.InPool second progress) line = bundles.line_kinds (bundles.InPool second progress) line
@@ -119,23 +119,24 @@ bundle_kinds (bundles.InRows pool lottery) line = bundles.line_kinds (bundles.In
 bundle_kinds (bundles.InStages pool answer) line = bundles.line_kinds (bundles.InStages pool answer) line
 bundle_kinds (bundles.Done bundle) line = (22, not (bytes_eq line (tree_line 1))) ∷ []
 
--- the kinds of fault that a line of the pool may have, given the pool's progress. 22: after the pool's end, any line except `none`
+-- the kinds of fault that a line of the pool may have, given the pool's progress. Kind 22: the line follows the pool's end, and isn't
+-- `none`
 abbrev pub pool_kinds : pools.Progress → List ℕ → List (ℕ × Bool)
 pool_kinds pools.Begun line = pools.line_kinds pools.Begun line
 pool_kinds (pools.Versioned second) line = pools.line_kinds (pools.Versioned second) line
 pool_kinds (pools.Inside pool passed) line = pools.line_kinds (pools.Inside pool passed) line
 pool_kinds (pools.Ended pool) line = (22, not (bytes_eq line none_line)) ∷ []
 
--- the kinds of fault that a line inside a tree may have. 22: the line is not allowed there
+-- the kinds of fault that a line inside a tree may have. Kind 22: the line isn't allowed there
 abbrev pub tree_kinds : LineInTree → List (ℕ × Bool)
 tree_kinds (OfNode node) = []
 tree_kinds NextTree = []
 tree_kinds TheClose = []
 tree_kinds Unknown = (22, true) ∷ []
 
--- the kinds of fault that a line may have, in rising order, each with whether it applies, given the progress before the line. 21: the
--- first line isn't that of a proof. 22: the second line begins neither a bundle nor a pool; after `none`, the line doesn't begin tree 0.
--- See above for the lines of bundles, pools and trees. 23: a line follows the last one
+-- the kinds of fault that a line may have, in rising order, each with whether it applies, given the progress before the line. Kind 21: the
+-- first line isn't that of a proof. Kind 22: the second line begins neither a bundle nor a pool, or the line after `none` doesn't begin
+-- tree 0. Kind 23: a line follows the last one. For lines of bundles, pools and trees, see `bundle_kinds`, `pool_kinds` and `tree_kinds`
 abbrev pub line_kinds : Progress → List ℕ → List (ℕ × Bool)
 line_kinds Begun line = (21, not (bytes_eq line proof_line)) ∷ []
 line_kinds Opened line = (22, not (begins_bundle line || begins_pool line)) ∷ []

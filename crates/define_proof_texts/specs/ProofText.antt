@@ -1,4 +1,4 @@
--- The text of a proof: each proof has exactly one. Over BundleText of `define_bundles`, and TreeLines and TreeRanges of
+-- The text of a proof: each proof has exactly one. Builds on BundleText of `define_bundles`, and on TreeLines and TreeRanges of
 -- `define_additions`. `proof_text` writes it.
 use Rattle.std.specs.Prelude.{◌≡◌, ℕ, ◌+◌, nat_le, IsTrue, List, [], ◌∷◌, ◌++◌, length, map, codes}
 use Rattle.std.specs.Fmt.{decimal, signed_decimal}
@@ -12,19 +12,20 @@ use Rattle.define_additions.specs.ProofVerdict.{OfLottery, OfNoPanel, Proof}
 use Rattle.define_additions.specs.TreeLines.{OfLeaf, OfSplit, TreeLine}
 use Rattle.define_additions.specs.TreeRanges.{is_tree_line}
 
--- the most trees that a proof can have: one for each stage, and each stage settles at least one of 400 volunteers
+-- the most trees that a proof can have: it has one for each stage, each stage settles at least one volunteer, and there are at most 400
+-- volunteers
 abbrev pub most_trees : ℕ
 most_trees = 400
 
--- what holds of each proof of a lottery: pool and answer are a bundle; each stage has a tree, whose lines are in their ranges; and there
--- are at most `most_trees` trees
+-- what makes a proof of a lottery: pool and answer are a bundle; each stage has a tree, whose lines are in their ranges; and there are at
+-- most `most_trees` trees
 pub record IsLotteryProof (pool : Pool) (answer : Answer) (trees : List (List TreeLine)) : Type 0 where
   pub is_bundle : IsBundle (record { pool = pool; answer = answer })
   pub one_each : length trees ≡ length answer.stages
   pub few_trees : IsTrue (nat_le (length trees) most_trees)
   pub in_ranges : IsTrue (list_all (λ lines. list_all (is_tree_line (length pool.volunteers)) lines) trees)
 
--- what holds of each proof that there is no quota panel: the pool satisfies `IsPool`, and the tree's lines are in their ranges
+-- what makes a proof that there is no quota panel: the pool satisfies `IsPool`, and the tree's lines are in their ranges
 pub record IsNoPanelProof (pool : Pool) (lines : List TreeLine) : Type 0 where
   pub is_pool : IsPool pool
   pub in_ranges : IsTrue (list_all (is_tree_line (length pool.volunteers)) lines)
@@ -33,7 +34,7 @@ abbrev pub IsProof : Proof → Type 0
 IsProof (OfLottery pool answer trees) = IsLotteryProof pool answer trees
 IsProof (OfNoPanel pool lines) = IsNoPanelProof pool lines
 
--- the first line
+-- the first line of a proof's text
 abbrev pub proof_line : List ℕ
 proof_line = line_of (codes "proof" ∷ codes "1" ∷ [])
 
@@ -41,7 +42,8 @@ proof_line = line_of (codes "proof" ∷ codes "1" ∷ [])
 abbrev pub none_line : List ℕ
 none_line = codes "none"
 
--- the line that begins tree `number`: the number is that of its stage, from 1, or 0 for the tree that there is no quota panel
+-- the line that begins tree `number`. A stage's tree has the stage's number, from 1; the tree of a pool without a quota panel has the
+-- number 0
 abbrev pub tree_line : ℕ → List ℕ
 tree_line number = line_of (codes "tree" ∷ decimal number ∷ [])
 
@@ -67,7 +69,7 @@ abbrev pub trees_from : ℕ → List (List TreeLine) → List (List ℕ)
 trees_from number [] = []
 trees_from number (lines ∷ later) = tree_lines number lines ++ trees_from (number + 1) later
 
--- the last line
+-- the last line of a proof's text
 abbrev pub close_line : List ℕ
 close_line = codes "close"
 

@@ -1,4 +1,4 @@
--- Small texts of proofs on which the definitions compute.
+-- Small texts of proofs, for the worked examples.
 use Rattle.std.specs.Prelude.{ℕ, false, List, [], ◌∷◌, ◌++◌, codes, Result, Err}
 use Rattle.define_bundles.specs.BundleText.{lines_before_done}
 use Rattle.define_bundles.specs.WorkedExamples.{four_answer}
@@ -31,19 +31,19 @@ second_version = line_of (codes "proof" ∷ codes "2" ∷ []) ∷ []
 abbrev pub without_pool : List (List ℕ)
 without_pool = proof_line ∷ none_line ∷ []
 
--- a pool with the size 0, which isn't allowed
+-- a proof whose pool has the size 0, which isn't allowed
 abbrev pub without_size : List (List ℕ)
 without_size = proof_line ∷ version_line false ∷ line_of (codes "size" ∷ codes "0" ∷ []) ∷ []
 
--- a pool without its end
+-- a proof that ends after the first line of its pool
 abbrev pub without_end : List (List ℕ)
 without_end = proof_line ∷ version_line false ∷ []
 
--- a bundle without its end
+-- a proof whose bundle lacks its last line
 abbrev pub without_done : List (List ℕ)
 without_done = proof_line ∷ lines_before_done four four_answer
 
--- a bundle without a tree
+-- a proof of a bundle, without trees
 abbrev pub without_tree : List (List ℕ)
 without_tree = proof_line ∷ (bundle_lines four four_answer ++ close_line ∷ [])
 

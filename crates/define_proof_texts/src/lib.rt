@@ -42,8 +42,8 @@ pub fn kinds_rise()
 {}
 
 /// In the text, exactly `lines_before` lines come before those of tree `stage`. The tree's lines follow, then the next tree or the last
-/// line. So the line at `place` in the tree is line `lines_before + place + 1` of the text. If the tree has only `place` lines, that is
-/// the line after them.
+/// line. So the line at `place` in the tree is line `lines_before + place + 1` of the text. If the tree has only `place` lines, line
+/// `lines_before + place + 1` is the first line after the tree.
 pub fn tree_lines_in_text()
     ensures { (proof : Proof) (stage place : ℕ) → HasTree proof stage → place ≤ length (tree_of proof stage) →
         drop (lines_before proof stage + place) (proof_lines proof) ≡ map node_line (drop place (tree_of proof stage)) ++ lines_behind proof stage }
@@ -76,8 +76,9 @@ pub fn worked_texts()
         line_of (codes "bound" ∷ codes "0" ∷ codes "0" ∷ codes "-1" ∷ codes "3" ∷ codes "1" ∷ []) ∷ [] }
 {}
 
-/// What lines are read as inside tree 1 of 2, for four volunteers. `close` comes too early there; the next tree's line is that of tree 2;
-/// a split is on a number below 4; a leaf has constraints in rising order, each with a factor that isn't 0.
+/// What lines are read as inside tree 1 of 2, for four volunteers. `close` isn't allowed before the last tree; the line that begins the
+/// next tree must be that of tree 2; a split must be on a volunteer with a number below 4; the constraints of a leaf must be in rising
+/// order, each with a factor that isn't 0; and a leaf's numbers must be in their ranges.
 pub fn worked_lines()
     ensures marks { map (line_in_tree 4 1 2) (codes "close" ∷ line_of (codes "tree" ∷ codes "2" ∷ []) ∷ line_of (codes "tree" ∷ codes "3" ∷ []) ∷ codes "none" ∷ [])
         ≡ Unknown ∷ NextTree ∷ Unknown ∷ Unknown ∷ [] }
@@ -94,8 +95,8 @@ pub fn worked_lines()
         ≡ Unknown ∷ Unknown ∷ Unknown ∷ Unknown ∷ Unknown ∷ Unknown ∷ Unknown ∷ Unknown ∷ Unknown ∷ Unknown ∷ [] }
 {}
 
-/// Texts that are read, and texts with a first fault: in the first line, in the second, in the pool or the bundle, at an end that is
-/// missing, and after the bundle or the pool.
+/// A text that is read as a proof, and texts with a first fault: in the first or second line, in the pool, after the bundle, in the trees,
+/// after the last line, or because the end of the pool, the bundle or the proof is missing.
 pub fn worked_faults()
     ensures read { read_text (whole four_trees) ≡ Ok (four_proof four_trees) }
     ensures empty { read_proof [] ≡ faulty 1 23 }

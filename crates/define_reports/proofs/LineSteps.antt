@@ -1,4 +1,4 @@
--- A text that grows by the lines of the next element of a list. `round_reports` writes the report so.
+-- A text that grows by the lines of the next element of a list. `round_reports` writes the report this way.
 use Rattle.std.proofs.Common.{◌≡◌, ℕ, ◌+◌, ◌<◌, List, [], ◌∷◌, ◌++◌, length, get_or, take, map, sym, ap, ◌∙◌, arith}
 use Rattle.std.specs.List.{enumerate_from, flat_map}
 use Rattle.std.proofs.lemmas.List.{append-nil, length-take, map-append, take_more}
@@ -6,7 +6,8 @@ use Rattle.std.proofs.lemmas.List.Concat.{flat_map-append}
 use Rattle.define_lines.specs.Lines.{text_of}
 use Rattle.define_lines.proofs.LineLemmas.{text_of-append}
 
--- a text with lines at its end, and then with more of them
+-- if `before` is `start` followed by `lines`, and `after` is `before` followed by `more`, then `after` is `start` followed by `lines` and
+-- `more`
 pub lines_added : (start before after : List ℕ) (lines more : List (List ℕ)) → before ≡ start ++ text_of lines → after ≡ before ++ text_of more → after ≡ start ++ text_of (lines ++ more)
 lines_added start before after lines more b a = a ∙ ap (λ text. text ++ text_of more) b ∙ text_of-append start lines more
 
@@ -28,14 +29,14 @@ module _ {X : Type 0} where
         ap (enumerate_from 0) taken_more ∙ enumerate_from-push 0 (take i xs) x
         ∙ ap (λ n. enumerate_from 0 (take i xs) ++ (let pair : ℕ × X = (n, x) in pair) ∷ []) e
 
-    -- a line for each element with its number, and the line of one more
+    -- if a text has a line for each of the first `i` elements, appending the line of element `i` gives those of the first `i + 1`
     pub line_of_each : (line : ℕ × X → List ℕ) (start before after : List ℕ) → before ≡ start ++ text_of (map line (enumerate_from 0 (take i xs))) →
         after ≡ before ++ text_of (line (i, x) ∷ []) → after ≡ start ++ text_of (map line (enumerate_from 0 (take (i + 1) xs)))
     line_of_each line start before after b a =
         lines_added start before after (map line (enumerate_from 0 (take i xs))) (line (i, x) ∷ []) b a
         ∙ ap (λ all. start ++ text_of all) (sym (ap (map line) numbered_more ∙ map-append line (enumerate_from 0 (take i xs)) ((i, x) ∷ [])))
 
-    -- lines for each element with its number, and those of one more
+    -- if a text has the lines of the first `i` elements, appending the lines of element `i` gives those of the first `i + 1`
     pub lines_of_each : (lines : ℕ × X → List (List ℕ)) (start before after : List ℕ) → before ≡ start ++ text_of (flat_map lines (enumerate_from 0 (take i xs))) →
         after ≡ before ++ text_of (lines (i, x)) → after ≡ start ++ text_of (flat_map lines (enumerate_from 0 (take (i + 1) xs)))
     lines_of_each lines start before after b a =

@@ -1,4 +1,5 @@
--- The steps of loops over volunteers and members: the line of one member more, the chance of one volunteer more, and one more who isn't gone.
+-- The steps of the loops over volunteers and members. A step appends the line of a member, the chance of a volunteer, or the number of a
+-- volunteer who isn't gone.
 use Rattle.std.proofs.Common.{◌≡◌, ℕ, ◌+◌, ◌<◌, Bool, true, false, List, [], ◌∷◌, ◌++◌, length, get_or, take, map, filter, ℤ, pos, unsigned_abs, None, sym, ap, ◌∙◌, arith}
 use Rattle.std.specs.List.{range_with_len}
 use Rattle.std.proofs.Math.ListN.{get_or-map}
@@ -16,7 +17,7 @@ use Rattle.define_reports.specs.Report.{chance_line, chance_of, member_line}
 use Rattle.define_reports.proofs.LineSteps.{lines_added}
 
 module _ (pool : Pool) where
-  -- ---- members
+  -- ---- the lines of members
 
   pub member_added : (members : List ℕ) (index : ℕ) (start before after : List ℕ) (seen : Volunteer) → index < length members →
       seen ≡ get_or pool.volunteers (get_or members index 0) seen → get_or members index 0 < length pool.volunteers →
@@ -57,7 +58,7 @@ module _ (pool : Pool) where
           lines_added start before after (map chance_at (range_with_len 0 i)) (chance_at i ∷ []) b (a ∙ ap (λ l. before ++ text_of (l ∷ [])) line)
           ∙ ap (λ all. start ++ text_of all) (sym (map-range_with_len_more chance_at 0 i i (omega arith)))
 
-    -- ---- who isn't gone
+    -- ---- the numbers of volunteers who aren't gone
 
     abbrev pub is_here : ℕ → Bool
     is_here k = allows (volunteer pool.volunteers k).standing true

@@ -1,5 +1,5 @@
--- The report of a round: its title, phase and pool; past `Open` its lottery with each volunteer's chance, from the seal on the seal, and of a
--- round that was drawn the draw. Over Pools and Lines of `define_offices`. `round_reports` writes it.
+-- The report of a round: its title, phase and pool. Once the round is solved, also its lottery with each volunteer's chance; once it is
+-- sealed, also the seal; and once it is drawn, also the draw. Builds on Pools and Lines of `define_offices`. `round_reports` writes it.
 use Rattle.std.specs.Prelude.{ℕ, true, List, [], ◌∷◌, ◌++◌, codes, filter, length, map, Option, Some, None, Result, Ok, Err}
 use Rattle.std.specs.Fmt.{decimal}
 use Rattle.std.specs.List.{enumerate_from, flat_map}
@@ -36,7 +36,7 @@ lottery_lines lottery = number_line (codes "panels") (length lottery.rows) ∷ t
 abbrev pub seal_lines : Bundle → List (List ℕ)
 seal_lines bundle = seal_line bundle ∷ []
 
--- a ticket, and how many digits were read
+-- the line of a ticket: its number, and how many digits were read
 abbrev pub ticket_line : ℕ → ℕ → List ℕ
 ticket_line ticket used = line_of (codes "ticket" ∷ decimal ticket ∷ decimal used ∷ [])
 
@@ -47,7 +47,7 @@ member_line id = field_line (codes "member") id
 abbrev pub draw_lines : Pool → List ℕ → draws.Drawn → List (List ℕ)
 draw_lines pool digits drawn = field_line (codes "digits") digits ∷ ticket_line drawn.ticket drawn.used ∷ map member_line (member_ids pool drawn.panel)
 
--- what a round shows of its bundle, by how far it has come
+-- what a report shows of a round's bundle, which depends on the round's phase
 abbrev pub bundle_lines : Round → List (List ℕ)
 bundle_lines Open = []
 bundle_lines (Solved bundle) = lottery_lines bundle.answer.lottery
@@ -61,18 +61,18 @@ bundle_lines (Drawn bundle digits dropped) =
 abbrev pub not_gone : Pool → List ℕ
 not_gone pool = filter (λ i. allows (volunteer pool.volunteers i).standing true) (everybody pool)
 
--- the groups of volunteers that are counted for each value: who isn't gone, and the panel that was drawn
+-- the lists of volunteers of which the members with a value are counted: those who aren't gone, and the panel, if one was drawn
 abbrev pub counted : Pool → Round → List (List ℕ)
 counted pool Open = not_gone pool ∷ []
 counted pool (Solved bundle) = not_gone pool ∷ []
 counted pool (Sealed bundle) = not_gone pool ∷ []
 counted pool (Drawn bundle digits dropped) = not_gone pool ∷ (drawn_of bundle digits).panel ∷ []
 
--- how many of each group have the value at `value_place` of the category at `category_place`
+-- how many volunteers of each list in `groups` have the value at `value_place` of the category at `category_place`
 abbrev pub numbers_with : List Volunteer → List (List ℕ) → ℕ → ℕ → List ℕ
 numbers_with volunteers groups category_place value_place = map (λ group. members_with volunteers group category_place value_place) groups
 
--- the line of a value: its category, its bounds, and these numbers
+-- the line of a value: its category, its name, its bounds, and `numbers`
 abbrev pub quota_line : List ℕ → BoundedValue → List ℕ → List ℕ
 quota_line category value numbers =
     line_of (codes "quota" ∷ category ∷ value.name ∷ decimal value.lower ∷ decimal value.upper ∷ map decimal numbers)
@@ -100,7 +100,7 @@ chance_lines pool lottery = map (λ i. chance_line (volunteer pool.volunteers i)
 
 -- ---- the report
 
--- a round past `Open` has a bundle
+-- the lines of the volunteers' chances; there are none if the round is open, and so has no bundle
 abbrev pub chance_lines_in : Option Bundle → List (List ℕ)
 chance_lines_in None = []
 chance_lines_in (Some bundle) = chance_lines bundle.pool bundle.answer.lottery
@@ -113,7 +113,7 @@ report_lines number title round pool =
     ++ chance_lines_in (bundle_of round)
     ++ end_line ∷ []
 
--- if a round has a pool, there is a charter, and the round itself
+-- the text of a report. If a round has a pool, the round exists and there is a charter, so the cases without them don't occur
 abbrev pub report_with : ℕ → Option Charter → Option Round → Pool → List ℕ
 report_with number (Some charter) (Some round) pool = text_of (report_lines number charter.title round pool)
 report_with number (Some charter) None pool = []
@@ -123,6 +123,6 @@ abbrev pub report_over : Tables → ℕ → Result Pool Refusal → Result (List
 report_over tables number (Ok pool) = Ok (report_with number tables.charter (named_round tables.rounds number) pool)
 report_over tables number (Err refusal) = Err refusal
 
--- the report of the round of a number, or why it has no pool
+-- the report of round `number`, or the refusal that says why the round has no pool
 abbrev pub report_of : Tables → ℕ → Result (List ℕ) Refusal
 report_of tables number = report_over tables number (pool_of tables number)

@@ -1,6 +1,6 @@
-//! The report of a round of an office: what it is called, how far it has come, its quotas, its lottery with each volunteer's chance, the seal
-//! and the draw. The definitions are in `specs/`. Stands on `define_offices`, and on `define_made_pools` for lines of one field. Above:
-//! `round_reports`, which writes it.
+//! The report of a round of an office: the assembly's title, the round's phase, its quotas, its lottery with each volunteer's chance, the
+//! seal and the draw. The definitions are in `specs/`. Stands on `define_offices`, and on `define_made_pools` for lines of one field. Used
+//! by `round_reports`, which writes the report.
 //!
 //! The functions have no body: their contracts are laws over the definitions, and worked examples.
 #![tactic(auto)]
@@ -15,19 +15,19 @@ ghost use Rattle.define_offices.specs.WorkedOffice.{with_rows};
 ghost use Rattle.define_reports.specs.Report.{report_of};
 ghost use Rattle.define_reports.specs.WorkedReports.{drawn_report, drawn_tables, open_report, open_tables};
 
-/// A round has a report if it has a pool. Else its report is refused for what its pool is refused for.
+/// A round has a report if it has a pool. If it has no pool, the report is refused with the same refusal as the pool.
 pub fn reports_need_pools()
     ensures report { (tables : Tables) (number : ℕ) (pool : Pool) → pool_of tables number ≡ Ok pool → IsOk (report_of tables number) }
     ensures refused { (tables : Tables) (number : ℕ) (refusal : Refusal) → pool_of tables number ≡ Err refusal → report_of tables number ≡ Err refusal }
 {}
 
-/// The report of the round that the digits `0` drew, and of an open round with two volunteers, of whom one has withdrawn.
+/// The reports of a round in which the digits `0` drew a panel, and of an open round with two volunteers, of whom one has withdrawn.
 pub fn worked_reports()
     ensures drawn { report_of drawn_tables 1 ≡ Ok drawn_report }
     ensures open { report_of open_tables 1 ≡ Ok open_report }
 {}
 
-/// There is no report of a round that isn't there, nor without a charter.
+/// There is no report of a round that doesn't exist, and none if there is no charter.
 pub fn worked_refusals()
     ensures no_round { report_of drawn_tables 2 ≡ Err (NoRound 1) }
     ensures round_zero { report_of first_tables 0 ≡ Err (NoRound 1) }

@@ -28,7 +28,7 @@ module _ (table : Table) (x : Var) where
   sum-one factors (row ∷ rows) (suc i) l h =
       omega (arith, ints, ap (λ z. factors 0 *ℤ z) (h 0 (omega arith) (λ e. omega (arith, e))), mul-zero (factors 0), sum-one (λ k. factors (suc k)) rows i (omega arith) (λ k l n. h (suc k) (omega arith) (λ e. n (omega (arith, e)))))
 
-  -- terms of at most 0 have a sum of at most 0
+  -- if each term is at most 0, so is their sum
   sum-le : (factors : ℕ → ℤ) (rows : List Row) → ((k : ℕ) → k < length rows → (factors k *ℤ coefficient table (get_or rows k zero_row) x) ≤ℤ pos 0) → sum_of_coefficients table x factors rows ≤ℤ pos 0
   sum-le factors [] h = omega (arith, ints)
   sum-le factors (row ∷ rows) h = omega (arith, ints, h 0 (omega arith), sum-le (λ k. factors (suc k)) rows (λ k l. h (suc k) (omega arith)))
@@ -127,7 +127,7 @@ module _ (table : Table) (h : IsInOrder table) where
             (subst (λ z. pos 0 ≤ℤ z) (sym (one_factor (suc t) s k l)) (product-not_negative (pos s.multiple) (value table (basic_at table k) (unit (suc t))) (omega (arith, ints)) (class_of_other table (basic_at table k) t c))) in
             product-not_positive (s.factors k) (coefficient_at table k v) factor (none k l)
 
-    -- if no row has a coefficient above 0 on v, no unit row of a class has one
+    -- if v isn't a column, and no row has a coefficient above 0 on v, no unit row of a class has one
     no_class : is_column v ≡ false → (t : ℕ) → t < length table.sizes → value table v (unit (suc t)) ≤ℤ pos 0
     no_class e t l =
         let s = h.units (suc t) (omega arith) in
@@ -138,7 +138,7 @@ module _ (table : Table) (h : IsInOrder table) where
         by : (z : ℤ) (m : ℕ) → (pos m *ℤ z) ≤ℤ pos 0 → 0 < m → z ≤ℤ pos 0
         by z m k p = le-unscaled z (pos 0) m p (omega (arith, ints, k, mul-zero (pos m)))
 
-    -- so if v is a variable of the table, some row has a coefficient above 0 on v. For a stage's variable this supposes that some class
+    -- if v is a variable of the table, some row has a coefficient above 0 on v. If v is a stage's variable, this requires that some class
     -- was unsettled when the stage was entered
     pub some_positive : IsKnown table v → ((r : ℕ) → v ≡ Stage r → (t : ℕ) × (t < length table.sizes) × (get_or (get_or table.stages r []) t false ≡ true)) → ⊥
     some_positive known stage = by v refl

@@ -1,4 +1,4 @@
--- What holds of the row that is left and of the variable that enters, if Bland's rule chooses them.
+-- Properties of the row and the entering variable that Bland's rule chooses.
 use Rattle.std.proofs.Common.{◌≡◌, ℕ, ◌<◌, Bool, true, false, not, ◌&&◌, ◌||◌, ◌++◌, length, map, Option, Some, None, pos, ◌*ℤ◌, ◌≤ℤ◌, ◌<ℤ◌, refl, sym, ap, ◌∙◌, arith}
 use Rattle.std.specs.Prelude.{int_lt}
 use Rattle.std.specs.Ordering.{int_eq}
@@ -77,7 +77,7 @@ module _ (table : Table) (r : ℕ) (v : Var) (c : IsChosen table r v) where
   pub left-positive : pos 0 <ℤ coefficient_at table r v
   left-positive = lt-tested (pos 0) (coefficient_at table r v) (and_parts (may_leave table v r) (list_all (λ j. not (may_leave table v j) || not (leaves_before table v j r)) (row_numbers table)) least).0
 
-  -- no row with a coefficient above 0 has a lesser ratio of right side to coefficient than row r, which is left
+  -- no row with a coefficient above 0 has a lesser ratio of right side to coefficient than row r, whose basic variable leaves
   pub left-least : (i : ℕ) → i < length table.rows → pos 0 <ℤ coefficient_at table i v → ((row_at table r).b *ℤ coefficient_at table i v) ≤ℤ ((row_at table i).b *ℤ coefficient_at table r v)
   left-least i l positive =
       let all = each_from_list_all (λ j. not (may_leave table v j) || not (leaves_before table v j r)) (row_numbers table)

@@ -1,4 +1,4 @@
--- The row that is left, found row by row as the best so far; and that there is one.
+-- The search for the row whose basic variable leaves, which keeps the best row so far; and that it finds one.
 use Rattle.std.proofs.Common.{◌≡◌, ◌≢◌, ℕ, zero, suc, ◌+◌, ◌<◌, ◌≤◌, Bool, true, false, not, ◌&&◌, ◌||◌, [], length, Option, Some, None, pos, ◌≤ℤ◌, refl, ap, ap₂, ◌∙◌, subst, arith, inl, inr, ◌⊎◌, ⊎_elim}
 use Rattle.std.specs.Prelude.{int_lt}
 use Rattle.std.specs.Option.{option_map, option_and_then}
@@ -16,7 +16,7 @@ use Rattle.define_rows.proofs.Chosen.{each_row, row_each}
 use Rattle.define_rows.proofs.Entered.{entered-known, entered-stage}
 use Rattle.define_rows.proofs.Bounded.{some_positive}
 
--- row b may be left, and none of the first n rows that may be left is preferred to it
+-- `may_leave` holds of row b, and none of the first n rows of which it holds is preferred to b
 pub record IsBest (table : Table) (v : Var) (n b : ℕ) : Type 0 where
   pub before : b < n
   pub may : may_leave table v b ≡ true
@@ -42,7 +42,7 @@ module _ (table : Table) (v : Var) (sides : (i : ℕ) → i < length table.rows 
               (candidate k (omega arith) e) (candidate n l may) (candidate b (omega arith) h.may) f before in
               let denied = h.best k (omega arith) e in absurd cc
 
-  -- if b is the best of the first n rows and row n may not be left, or isn't preferred to b, then b is the best of the first n + 1
+  -- if b is the best of the first n rows, and `may_leave` fails for row n or n isn't preferred to b, b is the best of the first n + 1
   pub IsBest-keeps : (n b : ℕ) → IsBest table v n b → (may_leave table v n ≡ false) ⊎ (leaves_before table v n b ≡ false) → IsBest table v (n + 1) b
   IsBest-keeps n b h c = record { before = omega (arith, h.before); may = h.may; best = λ k m e. by k m e (cases_eq k n) }
     where
@@ -50,7 +50,7 @@ module _ (table : Table) (v : Var) (sides : (i : ℕ) → i < length table.rows 
       by k m e (inl s) = ⊎_elim (λ f. let g : may_leave table v k ≡ false = ap (may_leave table v) s ∙ f in absurd cc) (λ f. ap (λ j. leaves_before table v j b) s ∙ f) c
       by k m e (inr o) = h.best k (omega arith) e
 
-  -- if none of the first n rows may be left and row n may, row n is the best of the first n + 1
+  -- if `may_leave` holds of row n and of none of the first n rows, row n is the best of the first n + 1
   pub IsBest-first : (n : ℕ) → n < length table.rows → ((k : ℕ) → k < n → may_leave table v k ≡ false) → may_leave table v n ≡ true → IsBest table v (n + 1) n
   IsBest-first n l none may = record { before = omega arith; may = may; best = λ k m e. by k m e (cases_eq k n) }
     where
@@ -58,7 +58,7 @@ module _ (table : Table) (v : Var) (sides : (i : ℕ) → i < length table.rows 
       by k m e (inl s) = ap (λ j. leaves_before table v j n) s ∙ before-itself (row_at table n).b (coefficient_at table n v) (basic_at table n) (candidate n l may)
       by k m e (inr o) = let f = none k (omega arith) in absurd cc
 
-  -- none of the first n rows may be left, or one of them is the best
+  -- `may_leave` holds of none of the first n rows, or one of them is the best
   best_of : (n : ℕ) → n ≤ length table.rows → ((k : ℕ) → k < n → may_leave table v k ≡ false) ⊎ ((b : ℕ) × IsBest table v n b)
   best_of zero l = inl (λ k m. absurd (omega arith))
   best_of (suc n) l = by (best_of n (omega arith)) (may_leave table v n) refl
@@ -87,7 +87,7 @@ module _ (table : Table) (v : Var) (sides : (i : ℕ) → i < length table.rows 
       by j l true e = ap₂ (λ x y. not x || not y) e (h.best j l e)
       by j l false e = ap (λ x. not x || not (leaves_before table v j b)) e
 
--- in a table in order with a stage open, a variable that enters has a row to leave
+-- in a table in order with a stage open, some row's basic variable leaves when a variable enters
 pub leaving-some : (table : Table) → IsInOrder table → table.in_stage ≡ true → (v : Var) → entering table ≡ Some v → leaving table v ≡ None → ⊥
 unfolding leaving
 leaving-some table h open_now v entered none = ⊎_elim all_none some_best (best_of table v (λ i l. h.sides i (record { b = pos 0; a = [] }) l) (length table.rows) (omega arith))
@@ -100,7 +100,7 @@ leaving-some table h open_now v entered none = ⊎_elim all_none some_best (best
         let least = best_is_least table v (λ i l. h.sides i (record { b = pos 0; a = [] }) l) b best in
         let denied = row_each table (λ i. is_least table v i ≡ false) b (find-none (is_least table v) (row_numbers table) none) best.before in cc
 
--- so if no pivot is chosen, no variable enters
+-- if no pivot is chosen, no variable enters
 pub entering-none : (table : Table) → IsInOrder table → table.in_stage ≡ true → choice table ≡ None → entering table ≡ None
 unfolding choice
 entering-none table h open_now e = by (entering table) refl e

@@ -253,7 +253,7 @@ module _ (table : Table) (a : AllSettled table) where
             minus : (w : ℤ) → pos 0 -ℤ w ≡ neg_ℤ w
             minus w = omega (arith, ints)
 
-    -- so the terms of the stages have the same sum as the terms of the columns
+    -- the terms of the stages have the same sum as the terms of the columns
     balanced : total (length table.rows) stage_terms ≡ total (length table.rows) column_terms
     unfolding stage_terms column_terms
     balanced =

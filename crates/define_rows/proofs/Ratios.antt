@@ -1,4 +1,4 @@
--- The rows that may be left are totally ordered by `goes_before`, so one of them is preferred to all others.
+-- The rows of which `may_leave` holds are totally ordered by `goes_before`, so one of them is preferred to all others.
 use Rattle.std.proofs.Common.{◌≡◌, ◌≢◌, ℕ, suc, ◌*◌, ◌<◌, ◌≤◌, Bool, true, false, ◌&&◌, ◌||◌, ℤ, pos, negsuc, ◌*ℤ◌, ◌≤ℤ◌, ◌<ℤ◌, refl, ap, ap₂, ◌∙◌, arith, inl, inr, ◌⊎◌, ⊎_elim, mul-le-mul_right, le_of_mul-le-mul_right}
 use Rattle.std.specs.Prelude.{int_lt}
 use Rattle.std.specs.Ordering.{int_eq}
@@ -159,7 +159,7 @@ goes-one m n a b x y o = by (cases_lt (m * b) (a * n)) (cases_lt (a * n) (m * b)
     by (inr l) (inr k) (inl d) = inl (record { ratio = inr (omega arith, d) })
     by (inr l) (inr k) (inr d) = inr (record { ratio = inr (omega arith, d) })
 
--- the numbers of a row that may be left: a right side of at least 0, and a coefficient above 0
+-- the numbers of a row of which `may_leave` holds: a right side of at least 0, and a coefficient above 0
 pub record IsCandidate (b c : ℤ) : Type 0 where
   pub side : pos 0 ≤ℤ b
   pub coefficient : pos 0 <ℤ c

@@ -153,7 +153,7 @@ module _ (table : Table) (h : IsInOrder table) where
   first_of_stage : (r : ℕ) → value table (Stage r) (unit 0) ≡ pos 0
   first_of_stage r = dot-none (sizes_where (get_or table.stages r []) table.sizes) (λ t. unit 0 (suc t)) (λ k. unit-other 0 (suc k) (λ e. omega (arith, e)))
 
-  -- so multiplying `only x Column` by the coefficient of x in that unit row doesn't change it
+  -- multiplying `only x Column` by the coefficient of x in the unit row of place 0 doesn't change it
   first_counts : (x : Var) (f : ℕ → ℤ) → value table x (unit 0) *ℤ only x Column (length table.columns) f ≡ only x Column (length table.columns) f
   first_counts (Slack t) f = let none = only-none (Slack t) Column (length table.columns) f (λ c. refl) in ap (λ z. unit 0 (suc t) *ℤ z) none ∙ mul-zero (unit 0 (suc t)) ∙ sym none
   first_counts (Stage r) f =

@@ -31,7 +31,7 @@ filtered-each {X} Q g a (suc n) h = by (g a) refl (filtered-each Q g (a + 1) n (
     by None e rest = rest
     by (Some x) e rest = (h a x (omega arith) (omega arith) e, rest)
 
--- conversely, if Q holds of each element of the filtered map, it holds of each value that g returns for a number of the range
+-- if Q holds of each element of the filtered map, it holds of each value that g returns for a number of the range
 pub each-filtered : {X : Type 0} (Q : X → Type 0) (g : ℕ → Option X) (a n k : ℕ) (x : X) → AllByRecursion Q (filter_map g (range_with_len a n)) → a ≤ k → k < a + n → g k ≡ Some x → Q x
 each-filtered Q g a zero k x h l m e = absurd (omega arith)
 each-filtered {X} Q g a (suc n) k x h l m e = by (g a) refl (cases_eq k a) h (λ o r. each-filtered Q g (a + 1) n k x r (omega arith) (omega arith) e)
@@ -92,7 +92,7 @@ module _ (table : Table) (h : IsInOrder table) where
                 coefficient_is = sym (ap (λ v. v.coefficient) same);
               }
 
-  -- conversely, if column c is basic in a row with a right side above 0, `value_of` returns `there`
+  -- if `there` is the value of column c, which is basic in a row with a right side above 0, `value_of` returns `there`
   pub stands-value : (c : ℕ) (there : ColumnValue) → StandsAt table c there → value_of table c ≡ Some there
   stands-value c there s =
       ap (option_and_then (value_in table c)) s.found ∙ ap (λ b. cond b (Some (record { column = c; side = unsigned_abs (row_at table s.row).b; coefficient = unsigned_abs (coefficient_at table s.row (Column c)) })) None) (tested-lt (pos 0) (row_at table s.row).b s.above)
@@ -106,7 +106,7 @@ module _ (table : Table) (h : IsInOrder table) where
   unfolding solution
   solution-each Q each = All-from_recursion Q (solution table) (filtered-each Q (value_of table) 0 (length table.columns) (λ k x l m e. each k x (omega arith) (stands-at k x e)))
 
-  -- conversely, if Q holds of each value in the solution, it holds of the value of each column that has one
+  -- if Q holds of each value in the solution, it holds of the value of each column that has one
   pub each-solution : (Q : ColumnValue → Type 0) (c : ℕ) (there : ColumnValue) → All Q (solution table) → c < length table.columns → value_of table c ≡ Some there → Q there
   unfolding solution
   each-solution Q c there all l e = each-filtered Q (value_of table) 0 (length table.columns) c there (recursion_from_All Q (solution table) all) (omega arith) (omega arith) e

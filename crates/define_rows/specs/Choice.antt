@@ -1,4 +1,4 @@
--- Bland's rule: the variable that enters, and the row that it enters at. Over Table. `exact_table` chooses so.
+-- Bland's rule: which variable enters, and in which row it becomes basic. Builds on Table. `exact_table` chooses by it.
 use Rattle.std.specs.Prelude.{ℕ, Bool, not, ◌&&◌, ◌||◌, Option, Some, None, ℤ, pos, ◌*ℤ◌, int_lt}
 use Rattle.std.specs.Ordering.{int_eq}
 use Rattle.std.specs.List.{find, list_all, position}
@@ -24,12 +24,13 @@ entering_from table (Some open_row) = find (λ v. is_eligible table v && int_lt 
 unfoldable pub entering : Table → Option Var
 entering table = entering_from table (basic_row table (stage_variable table))
 
--- row i may be left when v enters: its coefficient on v is above 0
+-- the basic variable of row i may leave when v enters: the row's coefficient on v is above 0
 abbrev pub may_leave : Table → Var → ℕ → Bool
 may_leave table v i = int_lt (pos 0) (coefficient_at table i v)
 
--- of two rows that may be left, the first is preferred. Each is given by its right side, its coefficient and its basic variable. The lesser
--- ratio of right side to coefficient is preferred; of equal ratios, the basic variable that comes first in order
+-- the first of two rows is preferred to the second, if the basic variables of both may leave. Each row is given by its right side, its
+-- coefficient and its basic variable. The lesser ratio of right side to coefficient is preferred; of equal ratios, the basic variable that
+-- comes first in order
 abbrev pub goes_before : ℤ → ℤ → Var → ℤ → ℤ → Var → Bool
 goes_before b c x other_b other_c y =
     int_lt (b *ℤ other_c) (other_b *ℤ c) || int_eq (b *ℤ other_c) (other_b *ℤ c) && comes_before x y
@@ -39,14 +40,14 @@ abbrev pub leaves_before : Table → Var → ℕ → ℕ → Bool
 leaves_before table v i j =
     goes_before (row_at table i).b (coefficient_at table i v) (basic_at table i) (row_at table j).b (coefficient_at table j v) (basic_at table j)
 
--- row i may be left, and no other row that may be left is preferred to it
+-- the basic variable of row i may leave, and no other row of which this holds is preferred to it
 abbrev pub is_least : Table → Var → ℕ → Bool
 is_least table v i = may_leave table v i && list_all (λ j. not (may_leave table v j) || not (leaves_before table v j i)) (row_numbers table)
 
--- the number of the row that is left when v enters
+-- the number of the row whose basic variable leaves when v enters, if there is one
 unfoldable pub leaving : Table → Var → Option ℕ
 leaving table v = find (is_least table v) (row_numbers table)
 
--- the number of the row that is left, and the variable that enters
+-- the pivot that is chosen, if there is one: the number of the row whose basic variable leaves, and the variable that enters
 unfoldable pub choice : Table → Option (ℕ × Var)
 choice table = option_and_then (λ v. option_map (λ i. (i, v)) (leaving table v)) (entering table)

@@ -1,4 +1,4 @@
--- Laws that the functions of this crate promise: each step keeps a table in order, an entering variable has a row to leave, and closing a
+-- Laws that the functions of this crate promise: each step keeps a table in order, a basic variable leaves when one enters, and closing a
 -- stage settles a class.
 use Rattle.std.specs.Prelude.{◌≡◌, ◌≢◌, ℕ, ◌<◌, ◌≤◌, true, false, List, [], length, sum, Some, None, Ok, slice_index, slice_index_or}
 use Rattle.std.specs.List.{All}
@@ -32,7 +32,7 @@ pub record MayEnter (table : Table) : Type 0 where
   pub shut : table.in_stage ≡ false
   pub unsettled : settled_count table < length table.sizes
 
--- a table in order stays in order when a stage is entered
+-- a table in order stays in order when a stage is entered that may be entered
 abbrev pub EnterKeepsOrder : Type 0
 EnterKeepsOrder = (table : Table) → MayEnter table → IsInOrder (enter_stage table)
 
@@ -43,7 +43,7 @@ pub record MayAdd (table : Table) (counts : List ℕ) : Type 0 where
   pub bounds : (t : ℕ) → t < length table.sizes → slice_index counts t ≤ slice_index table.sizes t
   pub fresh : (c : ℕ) → c < length table.columns → slice_index_or table.columns c [] ≢ counts
 
--- a table in order stays in order when a column is added
+-- a table in order stays in order when a column is added that may be added
 abbrev pub AddKeepsOrder : Type 0
 AddKeepsOrder = (table : Table) (counts : List ℕ) → MayAdd table counts → IsInOrder (add_column table counts)
 
@@ -68,7 +68,7 @@ pub record HasClosedRowsOf (table made : Table) : Type 0 where
 abbrev pub PivotKeepsClosedRows : Type 0
 PivotKeepsClosedRows = (table made : Table) (r : ℕ) (v : Var) → IsPivoted table made r v → HasClosedRowsOf table made
 
--- in a table in order with a stage open, some row is left when the entering variable v enters
+-- in a table in order with a stage open, some row's basic variable leaves when the entering variable v enters
 abbrev pub SomeRowLeaves : Type 0
 SomeRowLeaves = (table : Table) (v : Var) → IsInOrder table → table.in_stage ≡ true → entering table ≡ Some v → leaving table v ≢ None
 

@@ -1,4 +1,4 @@
--- Which classes each closed stage settled, and that each step keeps this record. Over InOrder. `laws_of_runs` makes the stages of a
+-- Which classes each closed stage settled, and that each step keeps this record. Builds on Laws. `laws_of_runs` makes the stages of a
 -- certificate from the record.
 use Rattle.std.specs.Prelude.{◌≡◌, ℕ, ◌<◌, Bool, true, false, List, [], length, ℤ, pos, ◌≤ℤ◌, ◌<ℤ◌, slice_index, slice_index_or, Ok}
 use Rattle.define_rows.specs.declared.Var.{Var}

@@ -1,4 +1,4 @@
--- The solution of a table in order: columns of positive value, in rising order, whose values sum to one. Over InOrder. `define_runs`
+-- The solution of a table in order: columns of positive value, in rising order, whose values sum to one. Builds on InOrder. `define_runs`
 -- spreads the columns over panels.
 use Rattle.std.specs.Prelude.{◌≡◌, ℕ, ◌*◌, ◌/◌, ◌<◌, [], length, sum_by, slice_index_or}
 use Rattle.std.specs.Int.{◌∣◌}
@@ -14,7 +14,7 @@ abbrev pub numerator_over : ℕ → ColumnValue → ℕ
 numerator_over common there = (lowest_of there.side there.coefficient).num * (common / (lowest_of there.side there.coefficient).den)
 
 pub record SolutionStands (table : Table) : Type 0 where
-  -- the columns are in rising order, so no column comes twice
+  -- the columns are in rising order, so none is listed twice
   pub rises : AllPairs (λ a b. a.column < b.column) (solution table)
   -- they are columns of the table
   pub known : All (λ there. there.column < length table.columns) (solution table)

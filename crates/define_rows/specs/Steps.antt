@@ -1,4 +1,5 @@
--- The steps other than the pivot: entering and closing a stage, adding a column; and the solution. Over Table. `exact_table` makes them.
+-- The steps other than the pivot: entering and closing a stage, and adding a column. Also the solution. Builds on Table. `exact_table`
+-- makes these steps.
 use Rattle.std.specs.Prelude.{if◌then◌else◌, ℕ, Bool, true, false, not, ◌||◌, List, [], ◌∷◌, ◌++◌, map, length, Option, Some, None, ℤ, pos, int_lt, unsigned_abs, unwrap_or}
 use Rattle.std.specs.List.{filter_map, range_with_len}
 use Rattle.std.specs.Option.{option_and_then}

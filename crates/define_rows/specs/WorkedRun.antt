@@ -10,7 +10,7 @@ use Rattle.define_rows.specs.Steps.{ColumnValue}
 abbrev pub row : ℤ → ℤ → ℤ → Row
 row b first second = record { b = b; a = first ∷ second ∷ [] }
 
--- the first column is (1, 0), and nobody is settled
+-- the first table, with the column (1, 0); nobody is settled
 abbrev pub started : Table
 started = record {
   sizes = 1 ∷ 1 ∷ [];
@@ -25,11 +25,11 @@ started = record {
   pivots = 0;
 }
 
--- both classes are unsettled as the first stage is entered
+-- the table after the first stage was entered, in which both classes are unsettled
 abbrev pub entered : Table
 entered = record started { stages = (true ∷ true ∷ []) ∷ []; in_stage = true }
 
--- the variable of stage 0 enters at row 2
+-- the table after the variable of stage 0 entered at row 2
 abbrev pub once : Table
 once = record entered {
   rows = row (pos 1) (pos 0) (pos 0) ∷ row (pos 1) (pos 1) (negsuc 0) ∷ row (pos 0) (pos 0) (pos 1) ∷ [];
@@ -37,11 +37,11 @@ once = record entered {
   pivots = 1;
 }
 
--- the column (0, 1) is added
+-- the table after the column (0, 1) was added
 abbrev pub widened : Table
 widened = record once { columns = (1 ∷ 0 ∷ []) ∷ (0 ∷ 1 ∷ []) ∷ [] }
 
--- column 1 enters at row 1
+-- the table after column 1 entered at row 1
 abbrev pub twice : Table
 twice = record widened {
   rows = row (pos 1) (negsuc 0) (pos 1) ∷ row (pos 1) (pos 1) (negsuc 0) ∷ row (pos 1) (pos 1) (pos 1) ∷ [];
@@ -49,7 +49,7 @@ twice = record widened {
   pivots = 2;
 }
 
--- row 2 closes, and both classes settle
+-- the table after row 2 closed, which settled both classes
 abbrev pub ended : Table
 ended = record twice { closed = 2 ∷ []; settled = true ∷ true ∷ []; in_stage = false }
 

@@ -1,4 +1,4 @@
--- A run with greater budgets ends as it did, unless a budget was spent.
+-- A run whose ending is not a spent budget has the same ending with greater budgets.
 use Rattle.std.proofs.Common.{◌≡◌, ℕ, zero, suc, ◌≤◌, Bool, true, false, cond, leb, ltb, List, length, Option, Some, None, refl, sym, ap, ◌∙◌, arith}
 use Rattle.std.proofs.lemmas.Bool.{false_from_ne_true, leb-false, leb-true, ltb-false, ltb-true}
 use Rattle.define_rows.specs.declared.Var.{Var}
@@ -16,7 +16,7 @@ use Rattle.define_runs.specs.OtherLimits.{is_spent}
 use Rattle.define_runs.specs.Run.{RunLimits, Ending, Ends, Next, GoOn, Ended, NodesSpent, PivotsSpent, answered, closed_rows, follow, opened, opening, parts_of, pivoted, priced, pricing_visits, started, step, step_in_stage}
 use Rattle.define_runs.proofs.Following.{stays_ended}
 
--- the same width, with budgets that are at least as great
+-- `more` has the width of `limits`, and budgets that are at least as great
 pub record HasMore (limits more : RunLimits) : Type 0 where
   pub bits : more.bits ≡ limits.bits
   pub pivots : limits.pivots ≤ more.pivots

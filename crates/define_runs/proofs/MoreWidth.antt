@@ -1,4 +1,4 @@
--- A run that ended with an answer, or without a panel, ends the same under greater limits.
+-- A run that ended with an answer has the same answer under greater limits; one that ended without a panel ends so again.
 use Rattle.std.proofs.Common.{◌≡◌, ℕ, zero, suc, ◌≤◌, Bool, true, false, cond, leb, ltb, List, [], length, map, Option, Some, None, Result, Ok, Err, refl, sym, ap, ◌∙◌, subst, arith}
 use Rattle.std.specs.Prelude.{slice_index_or}
 use Rattle.define_pools.specs.Lottery.{Lottery}
@@ -20,14 +20,14 @@ use Rattle.define_runs.proofs.MoreBudget.{still_enough, still_within}
 use Rattle.define_runs.proofs.StepCases.{StepIs, Enters, Answers, NoPivot, Pivots, Passes, NoVisits, Widens, Closes, step_is}
 use Rattle.define_runs.proofs.Wider.{add_width, added_wider, choice_same, close_width, closed_wider, enter_width, entered_wider, pivot_lasts, pivot_width, solution_same, start_lasts, start_width, wider}
 
--- each limit is at least as great
+-- each limit of `more` is at least that of `limits`
 pub record Allows (limits more : RunLimits) : Type 0 where
   pub bits : limits.bits ≤ more.bits
   pub pivots : limits.pivots ≤ more.pivots
   pub opening : limits.opening ≤ more.opening
   pub pricing : limits.pricing ≤ more.pricing
 
--- true unless the ending is an answer, or that there is no panel
+-- true if the run stopped, so that it has neither an answer nor the result that there is no panel
 abbrev pub stops : Ending → Bool
 stops NoPanel = false
 stops (Found last answer) = false

@@ -22,7 +22,7 @@ allows limits more may = record { bits = may.bits; pivots = may.pivots; opening 
 pub budgets_keep_ending : BudgetsKeepEnding
 budgets_keep_ending pool limits more ending has ends kept = ends_same (classes_of pool) (run_limits limits) (run_limits more) (has_more limits more has) ending ends kept
 
--- limits of the width `bits`, with the sum of both budgets of pivots and the sum of both budgets of visits
+-- limits of the width `bits` whose budgets are the sums of the budgets of `limits` and `other`
 abbrev both : ℕ → Limits → Limits → Limits
 both bits limits other = record { bits = bits; pivots = limits.pivots + other.pivots; nodes = limits.nodes + other.nodes }
 

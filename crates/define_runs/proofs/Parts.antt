@@ -74,7 +74,7 @@ module _ (all : Classes) (limits : RunLimits) (table : Table) (keeps : KeepsRun 
   all_apart (there ∷ theres) pairs within =
       ap₂ (λ a b. not a && b) (stands_apart there theres (later there theres pairs) within.1) (all_apart theres (rest_pairs there theres pairs) within.1)
 
-  -- ---- their values sum to one
+  -- ---- the values of the parts sum to one
 
   numerators : (common : ℕ) (theres : List ColumnValue) → total (λ part. part.1.num * (common / part.1.den)) (map part_at theres) ≡ total (numerator_over common) theres
   unfolding part_at

@@ -32,7 +32,7 @@ use Rattle.define_runs.specs.Keeps.{KeepsRun, IsPriced}
 column_coefficient : (table : Table) (i c : ℕ) → coefficient_at table i (Column c) ≡ (row_at table i).b -ℤ weight_in (row_at table i).a (get_or table.columns c [])
 column_coefficient table i c = coefficient-Column table (row_at table i) c
 
--- ---- nothing enters
+-- ---- a table in which no variable enters
 
 pub record IsAtRest (table : Table) : Type 0 where
   pub row : ℕ
@@ -143,7 +143,7 @@ composition_fits all keeps counts there =
       bounds = within_sizes all.classes counts (recursion_from_All (λ class. class.most ≤ length class.members) all.classes keeps.most) gives;
     }
 
--- ---- the two laws
+-- ---- a composition that pricing found, as a new column
 
 module _ (all : Classes) (limits : RunLimits) (table : Table) (counts : List ℕ) (limited : KeepsLimits all) (priced : IsPriced all limits table counts) where
   pub better : Qualifies all (closed_rows table) (row_at table (open_row table)) counts

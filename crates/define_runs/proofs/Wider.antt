@@ -23,7 +23,7 @@ use Rattle.define_rows.proofs.PivotLaws.{after-Ok_parts, operation-Ok_parts}
 
 -- ---- steps that don't pass
 
--- if `first` doesn't fail, `second` doesn't either, and has the same outcome
+-- if `first` succeeds, `second` succeeds with the same outcome
 abbrev pub Lasts : {A : Type 0} → Result A Pass → Result A Pass → Type 0
 Lasts {A} first second = (x : A) → first ≡ Ok x → second ≡ Ok x
 

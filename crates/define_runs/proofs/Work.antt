@@ -21,7 +21,7 @@ use Rattle.define_runs.proofs.Kept.{opening_kept, step_kept}
 use Rattle.define_runs.proofs.Priced.{is_chosen}
 use Rattle.define_runs.proofs.StepCases.{StepIs, Enters, Answers, NoPivot, Pivots, Passes, NoVisits, Widens, Closes, step_is}
 
--- ---- what is left after a step
+-- ---- each step leaves less to do
 
 turns_in_stage : (chosen : Option (ℕ × Var)) → (1 ≤ turns_by chosen) × (turns_by chosen ≤ 2)
 turns_in_stage None = (omega arith, omega arith)
@@ -95,7 +95,7 @@ module _ (all : Classes) (limits : RunLimits) (table : Table) (limited : KeepsLi
 -- ---- the whole run
 
 module _ (all : Classes) (limits : RunLimits) (limited : KeepsLimits all) (ranges : AreRunLimits limits) where
-  -- the run that is at `next` has an ending, after `steps` more steps
+  -- a run that has come to `next` ends after `steps` more steps, with this ending
   record ComesTo (next : Next) : Type 0 where
     ending : Ending
     steps : ℕ

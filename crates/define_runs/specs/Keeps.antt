@@ -1,4 +1,4 @@
--- What holds of each table of a run. Over Run. `leximin_run` and `laws_of_runs` rest on it.
+-- The properties that each table of a run has. Builds on Run. `leximin_run` and `laws_of_runs` use them.
 use Rattle.std.specs.Prelude.{◌≡◌, ◌≢◌, ℕ, ◌<◌, ◌≤◌, true, List, length, take, slice_index, Contains, Some, None}
 use Rattle.std.specs.List.{All}
 use Rattle.define_rows.specs.Choice.{choice}
@@ -12,7 +12,7 @@ use Rattle.define_searches.specs.Fronts.{sizes_of}
 use Rattle.define_spreads.specs.Spreading.{AreParts}
 use Rattle.define_runs.specs.Run.{Limits, RunLimits, GoOn, closed_rows, follow, opening, parts_of, run_limits}
 
--- the limits are in their ranges
+-- the width and the budget of pivots are in their ranges; the budgets of visits may be any numbers
 pub record AreRunLimits (limits : RunLimits) : Type 0 where
   pub some_bits : 1 ≤ limits.bits
   pub few_bits : limits.bits ≤ 127
@@ -26,7 +26,7 @@ pub record IsReached (all : Classes) (limits : RunLimits) (table : Table) : Type
   pub steps : ℕ
   pub there : follow all limits (opening all limits) steps ≡ GoOn table
 
--- what holds of each table of a run
+-- the properties that each table of a run has
 pub record KeepsRun (all : Classes) (limits : RunLimits) (table : Table) : Type 0 where
   pub in_order : IsInOrder table
   pub sizes : table.sizes ≡ sizes_of all
@@ -34,7 +34,7 @@ pub record KeepsRun (all : Classes) (limits : RunLimits) (table : Table) : Type 
   pub pivots : table.pivots ≤ limits.pivots
   -- each column is a composition
   pub columns : All (Contains (compositions all)) table.columns
-  -- for each closed row, no composition that attains the rows closed before it weighs more in it than its right side
+  -- each closed row was priced out: no composition that attains the rows closed before this row weighs more in it than its right side
   pub priced_out : (k : ℕ) → k < length table.closed → price all (take k (closed_rows table)) (row_at table (slice_index table.closed k)) ≡ None
 
 -- over classes within the limits of a pool, `KeepsRun` holds of each table that a run reaches

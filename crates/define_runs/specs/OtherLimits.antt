@@ -1,4 +1,4 @@
--- The run over one pool under different limits. Over Run. Why an answer doesn't depend on limits.
+-- How the limits affect the ending of a run over one pool, and why an answer doesn't depend on them. Builds on Run.
 use Rattle.std.specs.Prelude.{◌≡◌, ◌≤◌, Bool, true, false, IsFalse}
 use Rattle.define_pools.specs.Certificate.{Answer}
 use Rattle.define_pools.specs.Pool.{Pool}
@@ -13,23 +13,23 @@ is_spent (TotalPasses stood pass) = false
 is_spent (PivotsSpent stood) = true
 is_spent (NodesSpent stood) = true
 
--- the same width, with budgets that are at least as great
+-- `more` has the width of `limits`, and budgets that are at least as great
 pub record HasMoreBudget (limits more : Limits) : Type 0 where
   pub bits : more.bits ≡ limits.bits
   pub pivots : limits.pivots ≤ more.pivots
   pub nodes : limits.nodes ≤ more.nodes
 
--- each limit is at least as great
+-- each limit of `more` is at least that of `limits`
 pub record AllowsMore (limits more : Limits) : Type 0 where
   pub bits : limits.bits ≤ more.bits
   pub pivots : limits.pivots ≤ more.pivots
   pub nodes : limits.nodes ≤ more.nodes
 
--- with greater budgets a run ends as it did, unless a budget was spent
+-- a run whose ending is not a spent budget has the same ending with greater budgets
 abbrev pub BudgetsKeepEnding : Type 0
 BudgetsKeepEnding = (pool : Pool) (limits more : Limits) (ending : Ending) → HasMoreBudget limits more → RunEnds pool limits ending → IsFalse (is_spent ending) → RunEnds pool more ending
 
--- so under one width, a run has at most one ending that is not a spent budget, whatever the budgets
+-- runs over one pool under the same width, neither of which spent a budget, have the same ending, whatever their budgets are
 abbrev pub OneEndingOverBudgets : Type 0
 OneEndingOverBudgets = (pool : Pool) (limits other : Limits) (first second : Ending) → limits.bits ≡ other.bits → RunEnds pool limits first → RunEnds pool other second →
     IsFalse (is_spent first) → IsFalse (is_spent second) → first ≡ second
@@ -42,10 +42,10 @@ LimitsKeepAnswer = (pool : Pool) (limits more : Limits) (answer : Answer) → Al
 abbrev pub LimitsKeepNoPanel : Type 0
 LimitsKeepNoPanel = (pool : Pool) (limits more : Limits) → AllowsMore limits more → RunEnds pool limits NoPanel → RunEnds pool more NoPanel
 
--- so if runs over one pool under different limits find answers, these are the same
+-- if two runs over one pool under different limits find answers, the answers are the same
 abbrev pub OneAnswerOverLimits : Type 0
 OneAnswerOverLimits = (pool : Pool) (limits other : Limits) (first second : Answer) → RunFinds pool limits first → RunFinds pool other second → first ≡ second
 
--- so if a run finds an answer, no run over the same pool under other limits finds that there is no panel
+-- if a run finds an answer, no run over the same pool under other limits finds that there is no panel
 abbrev pub AnswerOrNoPanel : Type 0
 AnswerOrNoPanel = (pool : Pool) (limits other : Limits) (answer : Answer) → RunFinds pool limits answer → RunEnds pool other NoPanel → ⊥

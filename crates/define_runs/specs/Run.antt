@@ -1,5 +1,5 @@
--- The run: from a pool and limits to a lottery with its stages, or to the first step that is refused. Over the table, the searches and
--- spreading. An auditor of `lottery` reads this file.
+-- The run: from a pool and limits to a lottery with its stages, to the result that there is no panel, or to the first step that is refused.
+-- Builds on the table, the searches and spreading. An auditor of `lottery` reads this file.
 use Rattle.std.specs.Prelude.{◌≡◌, ℕ, zero, suc, nat_lt, nat_le, if◌then◌else◌, List, [], map, length, slice_index_or, Option, Some, None, Result, Ok, Err}
 use Rattle.std.specs.List.{range_with_len}
 use Rattle.frac128.specs.Fractions.{Fraction}
@@ -36,7 +36,7 @@ pub record RunLimits : Type 0 where
   -- how many visits a pricing may make
   pub pricing : ℕ
 
--- both searches have the same budget
+-- the limits of a run: the opening search and each pricing have the same budget
 abbrev pub run_limits : Limits → RunLimits
 run_limits limits = record { bits = limits.bits; pivots = limits.pivots; opening = limits.nodes; pricing = limits.nodes }
 
@@ -75,7 +75,7 @@ stage_of all row = record {
 abbrev pub parts_of : Table → List (List ℕ × Fraction)
 parts_of table = map (λ (c, value). (slice_index_or table.columns c [], value)) (map fraction_of (solution table))
 
--- the ending once everybody is settled: the lottery that the columns are spread to, with the closed rows as its stages
+-- the ending once everybody is settled: the lottery over which the columns are spread, with the closed rows as its stages
 abbrev pub answered : Classes → Table → Result Lottery TotalPass → Ending
 answered all table (Ok lottery) = Found table (record { lottery = lottery; stages = map (stage_of all) (closed_rows table) })
 answered all table (Err pass) = TotalPasses table pass

@@ -1,4 +1,4 @@
--- How much of a run is left to do: each step leaves less, so each run ends. Over Keeps.
+-- How much of a run is left to do: each step leaves less, so each run ends. Builds on Keeps.
 use Rattle.std.specs.Prelude.{◌≡◌, ℕ, ◌+◌, ◌-◌, ◌*◌, ◌<◌, if◌then◌else◌, length, Option, Some, None}
 use Rattle.define_pools.specs.Pool.{IsPool, Pool}
 use Rattle.define_rows.specs.declared.Var.{Var}

@@ -1,4 +1,4 @@
--- Runs over small pools, on which the definitions compute.
+-- Answers of runs over small pools, for the worked examples.
 use Rattle.std.specs.Prelude.{ℕ, [], ◌∷◌, pos, negsuc}
 use Rattle.define_pools.specs.Certificate.{Answer}
 use Rattle.define_runs.specs.Run.{Limits}
@@ -13,7 +13,7 @@ halves = record {
   stages = record { weights = pos 1 ∷ pos 1 ∷ []; cap = pos 1 } ∷ [];
 }
 
--- the answer for one of two women and one of two men, each of whom has the chance 1/2
+-- the answer for two women and two men, of whom one woman and one man are to be chosen; each has the chance 1/2
 abbrev pub pairs : Answer
 pairs = record {
   lottery = record { total = 2; rows = record { panel = 0 ∷ 2 ∷ []; weight = 1 } ∷ record { panel = 1 ∷ 3 ∷ []; weight = 1 } ∷ [] };

@@ -1,7 +1,7 @@
-//! The run that finds the lottery: the opening search, then stage by stage pivots, pricing and closing, and how it ends. The definitions
-//! are in `specs/`. Stands on the table of `define_rows`, the searches of `define_searches` and `define_waves`, and the spreading of
-//! `define_spreads`. Above: `laws_of_runs` proves what each ending says of the pool; `leximin_run` executes the run; the commands and the
-//! office use `Limits` and `Workers`; the summary prints `RunSizes`.
+//! The run that finds the lottery: the opening search, then stage by stage pivots, pricing and closing, and how the run ends. The
+//! definitions are in `specs/`. Stands on the table of `define_rows`, the searches of `define_searches` and `define_waves`, and the
+//! spreading of `define_spreads`. Used by `laws_of_runs`, which proves what each ending says about the pool; by `leximin_run`, which
+//! executes the run; by the commands and the office, for `Limits` and `Workers`; and by the summary, which prints `RunSizes`.
 //!
 //! The functions without a body are the promises: laws over the definitions, and worked examples.
 #![tactic(auto)]
@@ -26,8 +26,9 @@ pub use ranges::{
 };
 pub use sizes::RunSizes;
 
-/// A run has one ending under its limits. Under other budgets of pivots and visits it ends the same, unless a budget is spent in one of the
-/// two. Two runs that find an answer or no panel find the same, whatever their widths and budgets.
+/// A run has one ending under its limits. Under the same width and other budgets of pivots and visits it has the same ending, unless a
+/// budget is spent in one of the two runs. Two runs over one pool that end with an answer or without a panel have the same result, whatever
+/// their widths and budgets.
 pub fn one_ending()
     ensures limits { (pool : Pool) (limits : Seen) (first second : Ending) → RunEnds pool limits first → RunEnds pool limits second → first ≡ second }
     ensures budgets { OneEndingOverBudgets }
@@ -35,23 +36,24 @@ pub fn one_ending()
     ensures no_panel { AnswerOrNoPanel }
 {}
 
-/// With greater budgets a run ends as it did, unless a budget was spent. With greater limits, also of the width, it finds the answer
-/// that it found, and no panel if it found none.
+/// A run that didn't spend a budget has the same ending with greater budgets. If each limit is at least as great, the width included, a run
+/// that found an answer finds the same one, and a run that found no panel finds none.
 pub fn greater_limits_keep_endings()
     ensures budgets { BudgetsKeepEnding }
     ensures answers { LimitsKeepAnswer }
     ensures no_panel { LimitsKeepNoPanel }
 {}
 
-/// Each step of a run leaves less of the run to do. So a run has an ending, over classes within the limits of a pool and so over each
-/// pool.
+/// Each step of a run leaves less of the run to do. So, under limits in their ranges, each run over classes within the limits of a pool
+/// ends, and so does each run over a pool.
 pub fn each_run_ends()
     ensures less { StepLeavesLess }
     ensures classes { EachEnds }
     ensures pool { EachRunEnds }
 {}
 
-/// Each table of a run is in order and has compositions as its columns, and its closed rows were priced out.
+/// Each table of a run is in order, its columns are compositions, and its closed rows were priced out: no composition that attains the rows
+/// closed earlier weighs more in a closed row than its right side.
 pub fn reached_is_kept()
     ensures { ReachedIsKept }
 {}

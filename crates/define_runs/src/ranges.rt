@@ -6,10 +6,10 @@ ghost use Rattle.define_runs.specs.Keeps.{AreLimits};
 
 use std::marker::Model;
 
-/// The least width in bits: with fewer the table has no number but 0.
+/// The least width in bits: with fewer, a table could have no number except 0.
 pub const LEAST_BITS: u32 = 1;
 
-/// The greatest width in bits, that of the machine's signed numbers of 128 bits.
+/// The greatest width in bits: signed numbers of 128 bits have 127 bits besides the sign.
 pub const MOST_BITS: u32 = 127;
 
 /// The most pivots that a run may be allowed.

@@ -32,7 +32,8 @@ module _ (pool : Pool) where
   abbrev shares : ℕ → Bool
   shares = shares_household pool
 
-  -- volunteers `i` and `j` have equal values and equal standing, and neither shares a household. So have any two different alike volunteers
+  -- volunteers `i` and `j` have equal values and equal standing, and neither shares a household. This holds of any two different volunteers
+  -- who are alike
   pub record Alike (i j : ℕ) : Type 0 where
     values : (at i).values ≡ (at j).values
     standing : (at i).standing ≡ (at j).standing

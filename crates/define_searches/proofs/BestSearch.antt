@@ -1,4 +1,4 @@
--- The search through live fronts for the best composition keeps the price.
+-- The search through live fronts for the best composition finds the price.
 use Rattle.std.proofs.Common.{◌≡◌, ℕ, zero, suc, ◌+◌, ◌-◌, Bool, true, false, cond, ◌&&◌, List, [], ◌∷◌, ◌++◌, map, length, filter, take, drop, fold, ℤ, pos, ◌+ℤ◌, Option, Some, None, refl, sym, ap, ◌∙◌, arith, length-append}
 use Rattle.std.specs.Prelude.{int_le, int_lt, unwrap_or}
 use Rattle.std.specs.List.{list_all, flat_map, AllByRecursion}
@@ -174,7 +174,7 @@ none_better all closed row floor pre later front split order entries dead =
     (λ above. false≢true (sym dead ∙ live_from_better all closed row floor pre later front counts split gives entries composes attained above)))
     (all_counts later) (all_counts_give later order))))
 
--- the compositions below a front are those below its children, one child after the other
+-- the compositions that are sought below a front are those sought below its children, one child after the other
 pub sought_by_child : (all : Classes) (closed : List Row) (front : List ℕ) (class : Class) (later : List Class) →
     flat_map (λ c. sought all closed (front ++ c ∷ []) later) (counts_of class) ≡ sought all closed front (class ∷ later)
 sought_by_child all closed front class later =

@@ -188,7 +188,7 @@ module _ (alike : ℕ → ℕ → Bool) (same : IsEquivalenceTest alike) (count 
       (each_range (λ i. cond (in_panel i) (one_if (alike l i)) 0 ≡ cond (ltb (rank (alike l) i) (g l)) (one_if (alike l i)) 0) 0 count (λ i f m. term l i lead (omega arith))) in
       let d = first_some (alike l) (g l) count in omega (arith, a, b, c, d)
 
-  -- so the first panel's composition is the given one
+  -- the first panel's composition is the given one
   composition_is : ((l : ℕ) → l < count → leads alike same count l ≡ true → g l ≤ rank (alike l) count) → composition_of alike firsts panel ≡ map g firsts
   unfolding leads
   composition_is fits = map_same (λ l. count_by (alike l) panel) g firsts

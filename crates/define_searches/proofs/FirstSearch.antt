@@ -62,7 +62,7 @@ taken_within_most p later counts h = omega (arith, gives_most p later counts h, 
 
 -- ---- fronts of compositions are live
 
--- all classes are `pre`, which `front` has counts for, followed by `later`
+-- the classes are `pre` followed by `later`, and `front` has a count for each class of `pre`
 pub record Split (all : Classes) (pre later : List Class) (front : List ℕ) : Type 0 where
   pub whole : all.classes ≡ pre ++ later
   pub fits : length front ≡ length pre

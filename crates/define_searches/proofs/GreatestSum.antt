@@ -151,7 +151,7 @@ weight_bound (class ∷ later) (x ∷ entries) (c ∷ counts) e g =
     let some = some_of class.most x (units later entries) c (taken_of (λ class. true) later counts) (c + taken_of (λ class. true) later counts) here (few_units later entries counts (omega arith) g.1) refl in
     omega (arith, rest, some, product-parts c x, sum_is_lem (pos c *ℤ x) (weight_in entries counts))
 
--- if the later classes can give `counts`, these weigh at most the greatest sum of as many units as they take members
+-- if the later classes can give `counts`, the weight of `counts` is at most the greatest sum of n units, where n is the sum of `counts`
 pub weight_within_greatest : (later : List Class) (entries : List ℤ) (counts : List ℕ) → length entries ≡ length later → Gives later counts →
     AtMost (weight_in entries counts) (greatest_sum (taken_of (λ class. true) later counts) later entries)
 weight_within_greatest later entries counts e g =

@@ -177,7 +177,7 @@ module _ (pool : Pool) (alike : ℕ → ℕ → Bool) (makes : MakesClasses pool
 
 -- ---- each composition in the list
 
--- `counts` as a function `of` the leaders, with each leader's count from `low` to `high`
+-- `counts` are the values of a function `of` at the leaders `firsts`, and its value at each `l` is from `low l` to `high l`
 pub record ByLeader (low high : ℕ → ℕ) (firsts counts : List ℕ) : Type 0 where
   pub of : ℕ → ℕ
   pub is : counts ≡ map of firsts
@@ -215,7 +215,7 @@ least_to_most Open size = omega arith
 least_to_most Seated size = le_of_eq refl
 least_to_most Gone size = le_of_eq refl
 
--- each composition is a function of the leaders, with each count from the least to the most of the leader's class
+-- each composition has a count for each leader, from the least to the most of the leader's class
 pub each_by_leader : (pool : Pool) (alike : ℕ → ℕ → Bool) → is_increasing (leaders alike (length pool.volunteers)) ≡ true →
     AllByRecursion (λ counts. ByLeader (λ l. least_taken (volunteer pool.volunteers l).standing (length (class_of alike (length pool.volunteers) l)))
     (λ l. most_taken (volunteer pool.volunteers l).standing (length (class_of alike (length pool.volunteers) l))) (leaders alike (length pool.volunteers)) counts

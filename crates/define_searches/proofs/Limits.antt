@@ -23,7 +23,7 @@ bound_of value = record { lower = value.lower; upper = value.upper }
 abbrev InRange : Bounds → Type 0
 InRange bound = (bound.lower ≤ bound.upper) × (bound.upper ≤ 999)
 
--- ---- categories
+-- ---- the limits of categories
 
 pub category_parts : (category : Category) → is_category category ≡ true → (length category.values ≤ 50) × (list_all is_value category.values ≡ true)
 category_parts category h =
@@ -40,7 +40,7 @@ value_parts value h =
     let c = and_parts (leb value.lower value.upper) (leb value.upper 999) b.1 in
     (leb-true value.lower value.upper c.0, leb-true value.upper 999 c.1)
 
--- ---- values
+-- ---- the places of values
 
 place_at : (categories : List Category) (values : List ℕ) → has_values categories values ≡ true →
     (length values ≡ length (bounds_of categories)) × ((c : ℕ) → c < length (bounds_of categories) → slice_index values c < length (get_or (bounds_of categories) c []))
@@ -60,7 +60,7 @@ place_at (category ∷ categories) (place ∷ places) h =
     each here count rest zero l = omega arith
     each here count rest (suc c) l = rest c (omega arith)
 
--- ---- classes
+-- ---- the limits of classes
 
 many_from_each : (f : Class → ℕ) (xs : List Class) → AllByRecursion (λ class. 1 ≤ f class) xs → length xs ≤ total f xs
 many_from_each f [] h = omega arith

@@ -1,4 +1,4 @@
--- Properties of the elements of lists that are made for falling counts and joined.
+-- Properties of the elements of a list that joins one list for each count, from the greatest count down.
 use Rattle.std.proofs.Common.{ℕ, zero, suc, ◌+◌, ◌≤◌, List, [], refl, arith, le_of_eq}
 use Rattle.std.specs.List.{flat_map, AllByRecursion}
 use Rattle.laws_basic.proofs.Each.{each_append}

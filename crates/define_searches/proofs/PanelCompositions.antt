@@ -91,9 +91,10 @@ module _ (alike : ℕ → ℕ → Bool) (same : IsEquivalenceTest alike) (count 
 
 -- ---- a quota panel's composition
 
--- In the next three lemmas `s` is a volunteer's standing, `h` says whether the volunteer is on the panel, `a` whether in the class.
+-- In the next three lemmas `s` is a volunteer's standing, `h` says whether the volunteer is on the panel, and `a` whether the volunteer is
+-- in the class.
 
--- if everyone in the class is seated, a member of the class counts at most what the member counts on the panel
+-- if everyone in the class is seated, a volunteer whom the class counts is also counted among the class's members on the panel
 term_seated : (s : Standing) (h a : Bool) → allows s h ≡ true → (a ≡ true → s ≡ Seated) → one_if a ≤ cond h (one_if a) 0
 term_seated s h false e f = omega arith
 term_seated s h true e f =
@@ -106,7 +107,7 @@ term_gone s false false e f = le_of_eq refl
 term_gone s true true e f = absurd (false≢true (subst (λ z. allows z true ≡ true) (f refl) e))
 term_gone s false true e f = le_of_eq refl
 
--- on the panel, a volunteer counts at most what the volunteer counts in the class
+-- a volunteer who is counted among the class's members on the panel is also counted in the class
 pub term_most : (h a : Bool) → cond h (one_if a) 0 ≤ one_if a
 term_most true a = le_of_eq refl
 term_most false a = omega arith
@@ -211,7 +212,8 @@ attains_same pool alike respects panel quota (stage ∷ stages) weigh =
     let here = weighing alike respects.same (length pool.volunteers) stage weigh.0 panel (below pool alike respects panel quota) in
     let rest = attains_same pool alike respects panel quota stages weigh.1 in rw (here, rest) refl
 
--- if no composition that attains the earlier caps weighs more than the cap, no quota panel that attains them does
+-- if each stage gives alike volunteers the same weight, and each composition that attains the earlier caps weighs at most the cap, so does
+-- each quota panel that attains the earlier caps
 pub capped_from_compositions : (pool : Pool) (alike : ℕ → ℕ → Bool) → MakesClasses pool alike → (earlier : List Stage) (stage : Stage) → WeighAlike alike (length pool.volunteers) (stage ∷ earlier) →
     list_all (λ counts. not (composition_attains earlier (leaders alike (length pool.volunteers)) counts) || int_le (composition_weight (weight_of stage) (leaders alike (length pool.volunteers)) counts) stage.cap) (compositions pool alike) ≡ true →
     list_all (λ panel. not (attains earlier panel) || int_le (panel_weight stage panel) stage.cap) (panels pool) ≡ true
@@ -238,7 +240,8 @@ none_above_floor weight floor (counts ∷ rest) e =
       | false ↦ λ t n. (sym (true_is_le (weight counts) floor (lt-false floor (weight counts) t)), none_above_floor weight floor rest n)
     ]) refl e
 
--- if there is no price, no quota panel that attains the earlier caps weighs more than the cap
+-- if each stage gives alike volunteers the same weight, and no composition that attains the earlier caps weighs more than the cap, then no
+-- quota panel that attains the earlier caps weighs more than the cap
 pub is_capped-from_price : (pool : Pool) (alike : ℕ → ℕ → Bool) → MakesClasses pool alike → (earlier : List Stage) (stage : Stage) → WeighAlike alike (length pool.volunteers) (stage ∷ earlier) →
     first_greatest (composition_weight (weight_of stage) (leaders alike (length pool.volunteers))) stage.cap (filter (composition_attains earlier (leaders alike (length pool.volunteers))) (compositions pool alike)) ≡ None → is_capped pool earlier stage ≡ true
 is_capped-from_price pool alike makes earlier stage weigh none =

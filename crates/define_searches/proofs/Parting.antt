@@ -1,4 +1,4 @@
--- The classes of a pool part its volunteers.
+-- Each volunteer of a pool is in exactly one of the pool's classes.
 use Rattle.std.proofs.Common.{◌≡◌, ℕ, ◌<◌, Bool, true, List, [], ◌∷◌, map, length, cond, refl, sym, ◌∙◌, subst, arith}
 use Rattle.std.specs.List.{AllByRecursion, range_with_len}
 use Rattle.laws_basic.proofs.Each.{each_everywhere, each_filter, each_mapped, each_range}

@@ -1,4 +1,4 @@
--- The classes of a pool have the same compositions and the same first panels as in the form by leaders.
+-- The classes of a pool have the same compositions and the same first panels as the form by leaders of LeaderForm.
 use Rattle.std.proofs.Common.{◌≡◌, ℕ, zero, suc, ◌+◌, ◌*◌, ◌≤◌, ◌<◌, Bool, true, false, cond, ◌&&◌, eqb, leb, ltb, List, [], ◌∷◌, map, length, filter, take, count_by, sum_by, slice_index, Option, None, Some, refl, sym, ap, ◌∙◌, ⊎_elim, arith, subst}
 use Rattle.std.specs.Prelude.{MatchOption, ◌↔◌, slice_get}
 use Rattle.std.specs.List.{flat_map, list_all, AllByRecursion, range_with_len, enumerate_from}
@@ -23,7 +23,7 @@ use Rattle.define_searches.proofs.PanelCompositions.{no_panel}
 use Rattle.define_searches.proofs.FirstPanel.{FitsAndComposes, filter_increases, holds_filter, each_first_panel}
 use Rattle.define_searches.proofs.LeaderPanels.{least_to_most}
 
--- ---- classes
+-- ---- the classes are in order
 
 pub classes_in_order : (pool : Pool) (alike : ℕ → ℕ → Bool) → IsSearchable (classes_by alike pool)
 classes_in_order pool alike = record {
@@ -92,7 +92,7 @@ module _ (pool : Pool) (alike : ℕ → ℕ → Bool) where
   pub no_panel_of_classes : MakesClasses pool alike → compositions (classes_by alike pool) ≡ [] → panels pool ≡ []
   no_panel_of_classes makes none = no_panel pool alike makes (sym compositions_same ∙ none)
 
--- ---- first members
+-- ---- the first members of classes
 
 -- if `i` is below `first`, a filtered range from `first` doesn't contain `i`
 not_before : (p : ℕ → Bool) (i c first count : ℕ) → i < first → includes (take c (filter p (range_with_len first count))) i ≡ false

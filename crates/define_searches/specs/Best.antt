@@ -1,4 +1,4 @@
--- What makes a composition the best one. Over Compositions. The law `price_is_best` speaks of it.
+-- What makes a composition the best one. Builds on Compositions. The law `price_is_best` uses it.
 use Rattle.std.specs.Prelude.{ℕ, ◌==◌, nat_lt, Bool, false, ◌&&◌, ◌||◌, IsTrue, List, [], ◌∷◌, Contains, int_lt, int_le}
 use Rattle.define_rows.specs.Row.{Row}
 use Rattle.define_searches.specs.Classes.{Classes}

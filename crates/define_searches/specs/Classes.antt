@@ -1,5 +1,5 @@
--- Classes of volunteers, made by any test of who is alike. Over Pool of `define_pools`. `alike` makes them, and every search goes
--- through them.
+-- Classes of volunteers, made by any test of who is alike. Builds on Pool of `define_pools`. `alike` makes them, and every search works
+-- with them.
 use Rattle.std.specs.Prelude.{◌≡◌, ℕ, ◌==◌, ◌≤◌, ◌<◌, nat_le, if◌then◌else◌, Bool, true, false, not, ◌&&◌, ◌||◌, IsTrue, List, [], map, length, filter, slice_index, slice_index_or, sum_by, count_by, bytes_eq, Option, Some, None, is_some}
 use Rattle.std.specs.List.{find, list_any, position_or_len, range_with_len, All, AllByRecursion}
 use Rattle.define_pools.specs.declared.Standing.{Standing}
@@ -36,7 +36,7 @@ pub record HasPlaces (bounds : List (List Bounds)) (class : Class) : Type 0 wher
 pub record IsSearchable (all : Classes) : Type 0 where
   pub in_order : AllByRecursion (λ class. class.least ≤ class.most) all.classes
 
--- the number of the class that has a volunteer, or the number of all classes if none has
+-- the number of the class that contains volunteer `i`; if none does, the length of the list of classes
 abbrev pub class_number : List Class → ℕ → ℕ
 class_number classes i = position_or_len (λ class. includes class.members i) classes
 
@@ -44,7 +44,8 @@ class_number classes i = position_or_len (λ class. includes class.members i) cl
 abbrev pub volunteer_count : Classes → ℕ
 volunteer_count all = sum_by (λ class. length class.members) all.classes
 
--- each class lists its members in rising order. Each number below the count of volunteers is in exactly one class, and no other is in any
+-- each class lists its members in rising order. The members are numbers below the count of volunteers, and each of these numbers is in
+-- exactly one class
 pub record PartVolunteers (all : Classes) : Type 0 where
   pub rising : AllByRecursion (λ class. IsTrue (is_increasing class.members)) all.classes
   pub known : AllByRecursion (λ class. AllByRecursion (λ i. i < volunteer_count all) class.members) all.classes
@@ -146,7 +147,7 @@ are_equal one other = bytes_eq one.values other.values && is_same_standing one.s
 abbrev pub shares_household : Pool → ℕ → Bool
 shares_household pool i = is_some (shared_household pool.volunteers i)
 
--- two volunteers are alike: they are one, or have equal values and equal standing and neither shares a household
+-- two volunteers are alike: they are the same, or they have equal values and equal standing, and neither shares a household
 abbrev pub are_alike : Pool → ℕ → ℕ → Bool
 are_alike pool i j =
     i == j || (are_equal (volunteer pool.volunteers i) (volunteer pool.volunteers j) && not (shares_household pool i) && not (shares_household pool j))

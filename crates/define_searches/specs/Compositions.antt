@@ -1,4 +1,4 @@
--- Compositions: how many members of each class are taken. Over Classes and the rows of `define_rows`. The searches find them.
+-- Compositions: how many members of each class are taken. Builds on Classes and on the rows of `define_rows`. The searches find them.
 use Rattle.std.specs.Prelude.{ℕ, zero, suc, ◌+◌, ◌-◌, ◌==◌, nat_le, if◌then◌else◌, Bool, true, false, ◌&&◌, ◌||◌, List, [], ◌∷◌, map, count_by, filter, slice_get, slice_index, take, ℤ, int_lt, int_le, Option, Some, None, unwrap_or}
 use Rattle.std.specs.List.{list_all, flat_map, enumerate_from, range_with_len}
 use Rattle.define_pools.specs.Lists.{includes}
@@ -90,7 +90,7 @@ weight_in entries counts = sum_of_products counts entries
 abbrev pub attains : List Row → List ℕ → Bool
 attains closed counts = list_all (λ row. int_le row.b (weight_in row.a counts)) closed
 
--- of the lists that weigh more than a floor, the first of greatest weight
+-- the first list of greatest weight among those that weigh more than a floor
 abbrev pub first_greatest : (List ℕ → ℤ) → ℤ → List (List ℕ) → Option (List ℕ)
 first_greatest weight floor [] = None
 first_greatest weight floor (counts ∷ rest) =

@@ -1,4 +1,5 @@
--- Stages of a certificate as rows over classes. Over Classes and Certificate. The run and the checks use them.
+-- Stages of a certificate as rows over classes. Builds on Classes, and on Certificate of `define_pools`. The laws of the run and the
+-- checks use them.
 use Rattle.std.specs.Prelude.{◌≡◌, ℕ, ◌<◌, Bool, IsTrue, List, map, length}
 use Rattle.std.specs.List.{AllByRecursion}
 use Rattle.define_pools.specs.Pool.{Pool}
@@ -6,7 +7,7 @@ use Rattle.define_pools.specs.Certificate.{Stage, weight_of}
 use Rattle.define_rows.specs.Row.{Row}
 use Rattle.define_searches.specs.Classes.{leaders}
 
--- each of the stages gives alike volunteers the same weight, among the first `count` volunteers
+-- each stage gives the same weight to volunteers who are alike, among the first `count` volunteers
 abbrev pub WeighAlike : (ℕ → ℕ → Bool) → ℕ → List Stage → Type 0
 WeighAlike alike count stages = AllByRecursion (λ stage. (i j : ℕ) → i < count → j < count → IsTrue (alike i j) → weight_of stage i ≡ weight_of stage j) stages
 

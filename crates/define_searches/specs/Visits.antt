@@ -1,6 +1,6 @@
--- The searches, front by front: what they find, and how many fronts they enter. To enter a front is one visit; the empty front counts
+-- The searches, front by front: what they find, and how many fronts they enter. To enter a front is one visit; the empty front counts as
 -- one even if it isn't live. From an entered front its children are tried, the greatest count first, and each child that is live at that
--- moment is entered. Over Fronts. `panel_search` searches so.
+-- moment is entered. Builds on Fronts. `panel_search` searches this way.
 use Rattle.std.specs.Prelude.{ℕ, ◌+◌, if◌then◌else◌, List, [], ◌∷◌, ◌++◌, filter, map, fold, ℤ, Option, Some, None, is_some}
 use Rattle.define_rows.specs.Row.{Row}
 use Rattle.define_searches.specs.Classes.{Class, Classes}
@@ -19,7 +19,8 @@ one_by_one (search ∷ later) =
     if is_some search.found then search
     else record { visits = search.visits + (one_by_one later).visits; found = (one_by_one later).found }
 
--- the search from a front that is entered, with the classes that come after it. If none come after it, the front is a composition
+-- the search from an entered front; the list of classes has those after the front. If the list is empty, the front is a composition, and
+-- the search finds it
 abbrev pub enter_first : Classes → List Class → List ℕ → Search
 enter_first all [] front = record { visits = 1; found = Some front }
 enter_first all (class ∷ later) front =
@@ -36,8 +37,8 @@ pub record Pricing : Type 0 where
   pub floor : ℤ
   pub kept : Option (List ℕ)
 
--- the search from a front that is entered, with the classes that come after it. If none come after it, the front is kept, and its weight is
--- the floor from then on
+-- the search from an entered front; the list of classes has those after the front. If the list is empty, the front is kept, and its weight
+-- is the floor from then on
 abbrev pub enter_best : Classes → List Row → Row → List Class → List ℕ → Pricing → Pricing
 enter_best all closed row [] front so_far = record { visits = so_far.visits + 1; floor = weight_in row.a front; kept = Some front }
 enter_best all closed row (class ∷ later) front so_far =

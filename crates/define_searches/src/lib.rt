@@ -41,7 +41,8 @@ pub fn classes_are_searchable()
     ensures { (pool : Pool) (alike : ℕ → ℕ → Bool) → IsSearchable (classes_by alike pool) }
 {}
 
-/// The classes of a pool are within limits like those of the pool.
+/// The classes of each pool keep the limits of `KeepsLimits`, among them: a panel of at most 200 members; at most 20 categories, each of at
+/// most 50 values; at most 400 classes, with at most 400 members in all.
 pub fn classes_keep_limits()
     ensures { (pool : Pool) (alike : ℕ → ℕ → Bool) → IsPool pool → MakesClasses pool alike → KeepsLimits (classes_by alike pool) }
 {}
@@ -52,31 +53,31 @@ pub fn classes_part_volunteers()
     ensures count { (pool : Pool) (alike : ℕ → ℕ → Bool) → MakesClasses pool alike → volunteer_count (classes_by alike pool) ≡ length pool.volunteers }
 {}
 
-/// If there is no composition, there is no quota panel.
+/// If the classes of a pool have no composition, the pool has no quota panel.
 pub fn no_composition()
     ensures { (pool : Pool) (alike : ℕ → ℕ → Bool) → MakesClasses pool alike → compositions (classes_by alike pool) ≡ [] → panels pool ≡ [] }
 {}
 
-/// The first members of each composition's classes are a quota panel.
+/// For each composition, the first members of each class, as many as the composition takes, are a quota panel.
 pub fn first_members_fit()
     ensures { (pool : Pool) (alike : ℕ → ℕ → Bool) → MakesClasses pool alike →
         AllByRecursion (λ counts. IsTrue (is_quota_panel pool (first_panel (classes_by alike pool) counts))) (compositions (classes_by alike pool)) }
 {}
 
-/// The first members of each composition's classes have that composition.
+/// For each composition, the panel of the first members of each class has this composition.
 pub fn first_members_compose()
     ensures { (pool : Pool) (alike : ℕ → ℕ → Bool) → MakesClasses pool alike →
         AllByRecursion (λ counts. composition_of (classes_by alike pool) (first_panel (classes_by alike pool) counts) ≡ counts) (compositions (classes_by alike pool)) }
 {}
 
-/// An increasing list of volunteers with a composition is a quota panel.
+/// An increasing list of volunteers is a quota panel if the numbers of its members by class are a composition.
 pub fn composed_panels_fit()
     ensures { (pool : Pool) (alike : ℕ → ℕ → Bool) (counts panel : List ℕ) → MakesClasses pool alike → Contains (compositions (classes_by alike pool)) counts →
         IsTrue (is_increasing panel) → IsTrue (list_all (λ i. nat_lt i (length pool.volunteers)) panel) →
         composition_of (classes_by alike pool) panel ≡ counts → IsTrue (is_quota_panel pool panel) }
 {}
 
-/// The first members of any counts are in rising order.
+/// For any counts, the panel of the first members of each class is in rising order.
 pub fn first_members_rise()
     ensures { (all : Classes) (counts : List ℕ) → IsTrue (is_increasing (first_panel all counts)) }
 {}
@@ -86,16 +87,16 @@ pub fn first_search_is_first()
     ensures { (all : Classes) → IsSearchable all → (first_search all).found ≡ first_composition all }
 {}
 
-/// The search over a pool's classes finds nothing exactly if the pool has no quota panel, and else a composition whose first members
-/// are a quota panel.
+/// The search over a pool's classes finds nothing exactly if the pool has no quota panel. If it finds a composition, the panel of the first
+/// members that this composition takes is a quota panel.
 pub fn first_search_decides()
     ensures answer { (pool : Pool) (alike : ℕ → ℕ → Bool) → MakesClasses pool alike → MatchOption (first_search (classes_by alike pool)).found
         (panels pool ≡ []) (λ counts. IsTrue (is_quota_panel pool (first_panel (classes_by alike pool) counts))) }
     ensures none { (pool : Pool) (alike : ℕ → ℕ → Bool) → MakesClasses pool alike → (first_search (classes_by alike pool)).found ≡ None ↔ panels pool ≡ [] }
 {}
 
-/// The price is the best composition: it attains the closed rows and weighs more in the row than its right side; of the compositions
-/// that do, none weighs more, and none earlier in order weighs as much. There is no price exactly if no composition does.
+/// The price is the best composition. It attains the closed rows, and weighs more in the row than the row's right side. Of all compositions
+/// that do both, none weighs more, and none that is earlier in order weighs as much. There is no price exactly if no composition does both.
 pub fn price_is_best()
     ensures best { (all : Classes) (closed : List Row) (priced : Row) (counts : List ℕ) → price all closed priced ≡ Some counts → IsBest all closed priced counts }
     ensures none { (all : Classes) (closed : List Row) (priced : Row) → price all closed priced ≡ None ↔ ((counts : List ℕ) → Qualifies all closed priced counts → ⊥) }
@@ -108,14 +109,14 @@ pub fn best_search_is_price()
         (best_search all closed priced).kept ≡ price all closed priced }
 {}
 
-/// If pricing finds nothing over the classes of a pool, and the stages weigh alike volunteers alike, no quota panel that attains the
-/// earlier caps weighs more than the cap.
+/// If pricing over the classes of a pool finds nothing, and each stage gives the same weight to volunteers who are alike, no quota panel
+/// that attains the earlier caps weighs more than the cap.
 pub fn nothing_to_price()
     ensures { (pool : Pool) (alike : ℕ → ℕ → Bool) (earlier : List Stage) (stage : Stage) → MakesClasses pool alike → WeighAlike alike (length pool.volunteers) (stage ∷ earlier) →
         price (classes_by alike pool) (map (row_of alike pool) earlier) (row_of alike pool stage) ≡ None → IsTrue (is_capped pool earlier stage) }
 {}
 
-/// The first compositions of small pools, with the visits that find them.
+/// Searches for the first composition over small pools, some of which have none: what they find, and their visits.
 pub fn worked_first_searches()
     ensures four { first_search (classes_of four) ≡ record { visits = 3; found = Some (1 ∷ 1 ∷ []) } }
     ensures four_panel { first_panel (classes_of four) (1 ∷ 1 ∷ []) ≡ 0 ∷ 2 ∷ [] }
@@ -126,7 +127,7 @@ pub fn worked_first_searches()
     ensures nobody { first_search (classes_of nobody) ≡ record { visits = 1; found = None } }
 {}
 
-/// The best compositions of small pools in a row, with the visits that find them.
+/// Searches over small pools for the composition of greatest weight in a row: what they find, and their visits.
 pub fn worked_best_searches()
     ensures apart { best_search (classes_of apart) [] (row (pos 0) (pos 0 ∷ pos 0 ∷ pos 1 ∷ pos 0 ∷ []))
         ≡ record { visits = 5; floor = pos 1; kept = Some (1 ∷ 0 ∷ 1 ∷ 0 ∷ []) } }

@@ -38,7 +38,7 @@ pub below-scaled : (f : ℕ → ℕ) (c n : ℕ) → below (λ k. c * f k) n ≡
 below-scaled f c zero = omega arith
 below-scaled f c (suc n) = omega (arith, below-scaled f c n)
 
--- the sum over the places of a list is the sum over the list
+-- the sum over the first `n` places of a list is the sum over its first `n` elements
 pub below-list : {X : Type 0} (f : X → ℕ) (xs : List X) (d : X) (n : ℕ) → n ≤ length xs → below (λ k. f (get_or xs k d)) n ≡ sum_by f (take n xs)
 below-list f xs d zero l = refl
 below-list f xs d (suc n) l =
@@ -48,7 +48,7 @@ below-list f xs d (suc n) l =
 pub below-whole : {X : Type 0} (f : X → ℕ) (xs : List X) (d : X) → below (λ k. f (get_or xs k d)) (length xs) ≡ sum_by f xs
 below-whole f xs d = below-list f xs d (length xs) (omega arith) ∙ ap (sum_by f) (take_all (length xs) xs (omega arith))
 
--- if one number times a total is at most another times it, and the total is at least 1, the number is at most the other
+-- if `a * total` is at most `b * total`, and `total` is at least 1, `a` is at most `b`
 pub le_unscaled : (a b total : ℕ) → 1 ≤ total → a * total ≤ b * total → a ≤ b
 le_unscaled a b total some h = by (cases_lt b a)
   where

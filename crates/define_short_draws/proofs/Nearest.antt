@@ -1,5 +1,5 @@
--- No list of whole numbers with the same sum is nearer to the rows' shares. A price for each ticket, the same for all rows, makes each row's
--- tickets its best choice; the prices cancel in the sums.
+-- No list of whole numbers with the same sum is nearer to the rows' shares than their tickets are. The proof gives each ticket a price, the
+-- same for all rows, at which each row's number of tickets is its best choice; the prices cancel in the sums.
 use Rattle.std.proofs.Common.{◌≡◌, ℕ, zero, suc, ◌+◌, ◌-◌, ◌*◌, ◌<◌, ◌≤◌, Bool, true, false, cond, eqb, leb, ltb, List, get_or, length, map, refl, sym, ap, ap₂, ◌∙◌, arith, inl, inr, ◌⊎◌}
 use Rattle.std.specs.Prelude.{sum}
 use Rattle.std.proofs.lemmas.Bool.{cases_lt, ltb-true, ltb-false}
@@ -14,10 +14,11 @@ use Rattle.define_short_draws.proofs.ByPlace.{below, below-add, below-scaled, be
 use Rattle.define_short_draws.proofs.Ranks.{IsLine, above_is_first, below_is_not}
 use Rattle.define_short_draws.proofs.Tickets.{left, line_of, remainder_at, remainders, share_parts, sum-tickets}
 
--- ---- one row
+-- ---- the best number of tickets for one row
 
--- With a price of `2 * line - total` a ticket, the row's own number is the best: `whole` if its remainder is at most the line, and one more
--- if it is at least the line. Each side has what the other lacks, so that no number is below 0.
+-- If each ticket has the price `2 * line - total`, no number of tickets has a lower sum of distance and price than the row's own: `whole`
+-- if its remainder is at most the line, and `whole + 1` if it is at least the line. What is subtracted on one side is added on the other,
+-- so that no number is below 0.
 down_best : (total share whole rest line other : ℕ) → share ≡ whole * total + rest → rest < total → rest ≤ line → line ≤ total →
     distance (whole * total) share + (2 * line) * whole + total * other ≤ distance (other * total) share + (2 * line) * other + total * whole
 down_best total share whole rest line other e small low most = by (cases_lt whole other)
@@ -48,7 +49,7 @@ up_best total share whole rest line other e small high most = by (cases_lt whole
         let is : whole ≡ other + n = omega arith in
         rw (e, is) (omega (arith, mul-le-mul_right n most))
 
--- ---- all rows
+-- ---- the sum over all rows
 
 module _ (total tickets : ℕ) (weights : List ℕ) (agrees : total ≡ sum weights) (some : 1 ≤ total) (counts : List ℕ) (size : length counts ≡ length weights) (same : sum counts ≡ tickets) where
   abbrev line : ℕ

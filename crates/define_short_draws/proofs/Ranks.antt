@@ -1,5 +1,5 @@
--- Which rows come first when tickets that are left are given out: those whose remainder is above a line, and of those whose remainder is
--- on the line the earliest.
+-- Which rows come first when tickets that are left are given out: those with a remainder above a line, then those with a remainder on the
+-- line, the earlier ones first.
 use Rattle.std.proofs.Common.{◌≡◌, ℕ, zero, suc, ◌+◌, ◌-◌, ◌<◌, ◌≤◌, min, Bool, true, false, cond, eqb, leb, ltb, List, [], ◌∷◌, drop, get_or, length, take, refl, sym, ap, ap₂, ◌∙◌, arith, inl, inr, ◌⊎◌, ⊎_elim}
 use Rattle.std.specs.Prelude.{count_by}
 use Rattle.std.proofs.lemmas.Bool.{cases_lt, cases_order, eq-eqb, eqb-true, le-leb, le-ltb, leb-true, lt-leb, lt-ltb, ltb-true, ne_eqb}
@@ -9,7 +9,7 @@ use Rattle.laws_basic.proofs.Sums.{one_if}
 use Rattle.define_short_draws.specs.Short.{is_among_first, rows_before}
 use Rattle.define_short_draws.proofs.ByPlace.{below}
 
--- ---- counts
+-- ---- how many numbers are above a line, and how many on it
 
 abbrev pub at_least : ℕ → List ℕ → ℕ
 at_least line xs = count_by (λ x. leb line x) xs
@@ -41,7 +41,7 @@ at_least_one line x = by (cases_order line x)
     by (inr (inl l)) = rw (le-leb line x (omega arith), lt-ltb line x l, ne_eqb x line (λ e. omega arith)) refl
     by (inr (inr l)) = rw (lt-leb line x l, le-ltb line x (omega arith), ne_eqb x line (λ e. omega arith)) refl
 
--- those on the line or above it
+-- the numbers that are at least `line` are those above it and those on it
 pub at_least-split : (line : ℕ) (xs : List ℕ) → at_least line xs ≡ above line xs + on line xs
 at_least-split line [] = refl
 at_least-split line (x ∷ xs) =
@@ -54,7 +54,7 @@ at_least-split line (x ∷ xs) =
       at_least-split line xs,
     )
 
--- ---- the line
+-- ---- there is a line for the tickets that are left
 
 -- at most `left` remainders are above the line, and at least `left` are on it or above
 pub record IsLine (left : ℕ) (remainders : List ℕ) (line : ℕ) : Type 0 where
@@ -78,9 +78,9 @@ find_line left remainders (suc most) within few =
     by (inl less) rest = let found = rest less in (found.0, (omega (arith, found.1.0), found.1.1))
     by (inr enough) rest = (suc most, (omega arith, record { few = few; enough = enough }))
 
--- ---- who comes first
+-- ---- which rows come first
 
--- a row below a number comes after all rows that are at least that number
+-- a row whose remainder is below `line` comes after all rows whose remainder is at least `line`
 pub before_if_below : (remainders : List ℕ) (place line : ℕ) → place < length remainders → get_or remainders place 0 < line → at_least line remainders ≤ rows_before remainders place
 before_if_below remainders place line inside l =
     let own = get_or remainders place 0 in
@@ -88,7 +88,7 @@ before_if_below remainders place line inside l =
     let behind = count_le (λ x. leb line x) (λ x. ltb own x) (drop (place + 1) remainders) (λ x e. lt-ltb own x (let m = leb-true line x e in omega arith)) in
     omega (arith, before, behind, count_split (λ x. leb line x) remainders place inside, ap one_if (lt-leb line own l))
 
--- a row on a line comes after all rows above it, and after the earlier rows on it
+-- a row whose remainder is on the line comes after all rows above the line, and after the earlier rows on it
 pub on_line : (remainders : List ℕ) (place line : ℕ) → place < length remainders → get_or remainders place 0 ≡ line → rows_before remainders place ≡ above line remainders + on line (take place remainders)
 on_line remainders place line inside e =
     let own = get_or remainders place 0 in
@@ -114,7 +114,8 @@ module _ (left : ℕ) (remainders : List ℕ) (line : ℕ) (is : IsLine left rem
   pub below_is_not : own < line → left ≤ rows_before remainders place
   below_is_not l = omega (arith, before_if_below remainders place line inside l, is.enough)
 
-  -- what a row gets of the tickets that are left, by the line
+  -- a row gets one of the tickets that are left exactly if its remainder is above the line, or if it is on the line and one of the first
+  -- `left - above line remainders` rows there
   pub given_by_line : one_if (is_among_first left remainders place)
       ≡ one_if (ltb line own) + (one_if (eqb own line) - (one_if (leb (left - above line remainders) (on line (take place remainders)))))
   given_by_line = by (cases_order line own)
@@ -130,7 +131,7 @@ module _ (left : ℕ) (remainders : List ℕ) (line : ℕ) (is : IsLine left rem
       by (inr (inl l)) = rw (lt-ltb line own l, ne_eqb own line (λ e. omega arith), lt-ltb (rows_before remainders place) left (above_is_first l)) (omega arith)
       by (inr (inr l)) = rw (le-ltb line own (omega arith), ne_eqb own line (λ e. omega arith), le-ltb (rows_before remainders place) left (below_is_not l)) (omega arith)
 
--- the tickets that the first `n` rows get of those that are left
+-- how many of the tickets that are left go to the first `n` rows
 pub given_before : (left : ℕ) (remainders : List ℕ) (line : ℕ) → IsLine left remainders line → (n : ℕ) → n ≤ length remainders →
     below (λ place. one_if (is_among_first left remainders place)) n ≡ above line (take n remainders) + min (left - above line remainders) (on line (take n remainders))
 given_before left remainders line is zero l = omega arith
@@ -154,13 +155,13 @@ given_before left remainders line is (suc n) l =
     tested : (a b : ℕ) → ((b < a) × (one_if (leb a b) ≡ 0)) ⊎ ((a ≤ b) × (one_if (leb a b) ≡ 1))
     tested a b = ⊎_elim (λ (l : b < a). inl (l, ap one_if (lt-leb a b l))) (λ (l : a ≤ b). inr (l, ap one_if (le-leb a b l))) (cases_lt b a)
 
--- all tickets that are left are given
+-- exactly `left` rows are among the first `left`, so all tickets that are left are given out
 pub given_all : (left : ℕ) (remainders : List ℕ) (line : ℕ) → IsLine left remainders line → below (λ place. one_if (is_among_first left remainders place)) (length remainders) ≡ left
 given_all left remainders line is =
     let all = take_all (length remainders) remainders (omega arith) in
     omega (arith, given_before left remainders line is (length remainders) (omega arith), ap (above line) all, ap (on line) all, is.few, is.enough, at_least-split line remainders)
 
--- of two rows, of which one is among the first rows and the other isn't, the one has a greater remainder, or the same and is earlier
+-- if `first` is among the first `left` rows and `second` isn't, `first` has a greater remainder, or the same remainder and an earlier place
 pub first_by_remainder : (left : ℕ) (remainders : List ℕ) (first second : ℕ) → first < length remainders → second < length remainders →
     rows_before remainders first < left → left ≤ rows_before remainders second →
     (get_or remainders second 0 < get_or remainders first 0) ⊎ ((get_or remainders second 0 ≡ get_or remainders first 0) × (first < second))

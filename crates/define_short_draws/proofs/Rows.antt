@@ -36,7 +36,7 @@ sum-kept (row ∷ rows) (count ∷ counts) size = by (eqb count 0) refl (sum-kep
     by true e rest = let none = eqb-true count 0 e in omega (arith, rest, sum-cons count counts)
     by false e rest = omega (arith, rest, sum-cons count counts, sum_by-cons (λ (row : LotteryRow). row.weight) (with_count row count) (rows_with_tickets rows counts))
 
--- the count of a volunteer in the rows that are kept
+-- a row with `count` tickets adds `count` to the counts of its members, even if `count` is 0, so that the row isn't kept
 counted-kept : (row : LotteryRow) (rest : List LotteryRow) (count i : ℕ) →
     counted (cond (eqb count 0) rest (with_count row count ∷ rest)) i ≡ cond (includes row.panel i) count 0 + counted rest i
 counted-kept row rest count i = by (eqb count 0) refl
@@ -49,7 +49,8 @@ counted-kept row rest count i = by (eqb count 0) refl
     by true e = let none = nothing (includes row.panel i) count (eqb-true count 0 e) in omega arith
     by false e = refl
 
--- if each row's tickets are within one of its share, a volunteer's count is within as many as there are panels with the volunteer
+-- if each row's tickets differ from its share by at most one, a volunteer's tickets differ from the sum of the shares of the panels with
+-- this volunteer by at most the number of these panels
 pub counted-moves : (rows : List LotteryRow) (counts : List ℕ) (total tickets i : ℕ) → length counts ≡ length rows →
     ((place : ℕ) → place < length rows → distance (get_or counts place 0 * total) (get_or (map (λ (row : LotteryRow). row.weight) rows) place 0 * tickets) ≤ total) →
     distance (counted (rows_with_tickets rows counts) i * total) (counted rows i * tickets) ≤ length (filter (λ (row : LotteryRow). includes row.panel i) rows) * total
@@ -129,7 +130,8 @@ kept_differ (row ∷ rows) (count ∷ counts) h =
     by true here rest = rest
     by false here rest = rw here rest
 
--- rows with some weight, and weights of at least 1 where there is a row
+-- if the weights sum to at least 1, there is a row. Conversely, if there is a row and each weight is at least 1, the weights sum to at
+-- least 1
 pub rows_from_weight : (rows : List LotteryRow) → 1 ≤ sum_by (λ (row : LotteryRow). row.weight) rows → 0 < length rows
 rows_from_weight [] h = absurd (omega arith)
 rows_from_weight (row ∷ rows) h = omega arith

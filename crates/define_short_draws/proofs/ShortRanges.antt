@@ -12,7 +12,7 @@ use Rattle.define_pools.specs.Pool.{Pool}
 use Rattle.define_short_draws.specs.Short.{shortened, tickets_by_weight}
 use Rattle.define_short_draws.proofs.Rows.{kept_pass, rows_from_weight}
 
--- rows with weights of at least 1 that sum to at most 10^38, each with a group of volunteers, are rows of a bundle
+-- if the weights of rows are at least 1 and sum to at most 10^38, and `is_group` is true of each panel, `is_row` is true of each row
 rows_in_range : (volunteers : ℕ) (rows : List LotteryRow) → list_all (λ (row : LotteryRow). leb 1 row.weight) rows ≡ true →
     list_all (λ (row : LotteryRow). is_group volunteers row.panel) rows ≡ true → sum_by (λ (row : LotteryRow). row.weight) rows ≤ 10 ^ 38 → list_all (is_row volunteers) rows ≡ true
 rows_in_range volunteers [] some groups few = refl

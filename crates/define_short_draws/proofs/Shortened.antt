@@ -1,4 +1,4 @@
--- What the laws on tickets and rows say of a shortened lottery.
+-- The laws on tickets and rows, applied to a shortened lottery.
 use Rattle.std.proofs.Common.{◌≡◌, ℕ, ◌*◌, ◌<◌, ◌≤◌, List, get_or, length, map, sym, ap, ap₂, ◌∙◌, arith}
 use Rattle.std.specs.Prelude.{sum}
 use Rattle.std.proofs.lemmas.Bool.{lt-ltb, ltb-true}

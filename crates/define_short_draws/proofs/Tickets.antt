@@ -1,4 +1,4 @@
--- The tickets of the rows: they sum to the number of tickets, and each row's are near its share.
+-- How many tickets each row gets: together they are all tickets, and each row's number is near its share.
 use Rattle.std.proofs.Common.{◌≡◌, ℕ, zero, suc, ◌+◌, ◌-◌, ◌*◌, ◌/◌, ◌%◌, ◌<◌, ◌≤◌, Bool, true, false, cond, leb, ltb, List, [], ◌∷◌, drop, get_or, length, map, take, refl, sym, ap, ap₂, ◌∙◌, arith, inl, inr, ◌⊎◌}
 use Rattle.std.specs.Prelude.{count_by, sum}
 use Rattle.std.specs.List.{All, sum_by}
@@ -14,7 +14,7 @@ use Rattle.define_short_draws.specs.Shares.{distance_from_share}
 use Rattle.define_short_draws.proofs.ByPlace.{below, below-add, below-whole, below_same, le_unscaled, sum-places}
 use Rattle.define_short_draws.proofs.Ranks.{IsLine, above, at_least, count_le, count_split, find_line, given_all}
 
--- a weight's share is its whole tickets and its remainder
+-- the whole tickets times the total, plus the remainder, are the row's share times the total
 pub share_parts : (total tickets weight : ℕ) → whole_tickets total tickets weight * total + remainder total tickets weight ≡ weight * tickets
 share_parts total tickets weight = div-add-mod' (weight * tickets) total
 
@@ -36,7 +36,7 @@ shares_parts total tickets (weight ∷ weights) =
     joined : (a b t c d w v m : ℕ) → a * t + c ≡ w * m → b * t + d ≡ v * m → (a + b) * t + (c + d) ≡ (w + v) * m
     joined a b t c d w v m e f = omega (arith, e, f)
 
--- each remainder is below the total
+-- each remainder is below the total, so the remainders sum to at most the total times the number of remainders above 0
 remainders_small : (total tickets : ℕ) (weights : List ℕ) → 1 ≤ total → sum (map (remainder total tickets) weights) ≤ above 0 (map (remainder total tickets) weights) * total
 remainders_small total tickets [] some = omega arith
 remainders_small total tickets (weight ∷ weights) some =

@@ -1,4 +1,4 @@
--- What the agreeing total of a lottery says of its weights.
+-- The total of a lottery that satisfies `TotalAgrees` is the sum of the lottery's list of weights.
 use Rattle.std.proofs.Common.{◌≡◌, ◌∙◌, sym}
 use Rattle.std.specs.Prelude.{sum}
 use Rattle.std.proofs.lemmas.List.Sums.{sum-map}

@@ -1,4 +1,4 @@
--- How far numbers of tickets are from the rows' shares. The laws on shortened lotteries cite it. Over Short.
+-- How far numbers of tickets are from the rows' shares. The laws on shortened lotteries use it.
 use Rattle.std.specs.Prelude.{ℕ, ◌+◌, ◌-◌, ◌*◌, List, filter, length, slice_index}
 use Rattle.std.specs.List.{range_with_len, sum_by}
 use Rattle.define_pools.specs.Lists.{includes}
@@ -12,7 +12,7 @@ distance first second = (first - second) + (second - first)
 abbrev pub distance_from_share : ℕ → ℕ → ℕ → ℕ → ℕ
 distance_from_share total tickets weight count = distance (count * total) (weight * tickets)
 
--- the sum of these distances, with the numbers of tickets `counts`
+-- how far the numbers of tickets `counts` are from the rows' shares, added up over the rows, times the total
 abbrev pub distance_from_shares : ℕ → ℕ → List ℕ → List ℕ → ℕ
 distance_from_shares total tickets weights counts =
     sum_by (λ place. distance_from_share total tickets (slice_index weights place) (slice_index counts place)) (range_with_len 0 (length weights))

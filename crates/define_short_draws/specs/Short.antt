@@ -1,5 +1,6 @@
--- A lottery in a round number of tickets. A row's share of `tickets` is its weight over the total, times `tickets`. Each row gets its
--- share rounded down. The tickets that are left go one each to the rows of which most was cut off. `short_tickets` shortens so.
+-- A lottery in a round number of tickets. A row's share of `tickets` is its weight over the total, times `tickets`. Each row gets its share
+-- rounded down. The tickets that are left go to the rows that lost most by rounding, one to each. `short_tickets` shortens lotteries this
+-- way.
 use Rattle.std.specs.Prelude.{ℕ, ◌+◌, ◌-◌, ◌*◌, ◌/◌, ◌%◌, ◌==◌, nat_le, nat_lt, if◌then◌else◌, Bool, List, [], ◌∷◌, length, map, count_by, drop, slice_index, sum, take}
 use Rattle.std.specs.List.{range_with_len}
 use Rattle.define_draws.specs.Tickets.{weights_of}
@@ -24,7 +25,7 @@ rows_before remainders place =
     count_by (λ other. nat_le (slice_index remainders place) other) (take place remainders)
     + count_by (λ other. nat_lt (slice_index remainders place) other) (drop (place + 1) remainders)
 
--- true if the row at `place` is one of the first `left` rows in that order
+-- true if the row at `place` gets one of the `left` tickets: fewer than `left` rows come before it
 abbrev pub is_among_first : ℕ → List ℕ → ℕ → Bool
 is_among_first left remainders place = nat_lt (rows_before remainders place) left
 

@@ -1,4 +1,5 @@
--- A bundle whose lottery is shortened. Its stages are those of the bundle, and don't certify the shortened lottery. Over Short.
+-- A bundle whose lottery is shortened. Its stages are those of the original bundle, and need not certify the shortened lottery. Builds on
+-- Short.
 use Rattle.std.specs.Prelude.{ℕ}
 use Rattle.define_bundles.specs.BundleText.{Bundle}
 use Rattle.define_short_draws.specs.Short.{shortened}

@@ -1,4 +1,4 @@
--- A lottery of four panels, of two volunteers each, on which the definitions are computed.
+-- A lottery of four panels, of two volunteers each, for the worked examples.
 use Rattle.std.specs.Prelude.{[], ◌∷◌}
 use Rattle.define_pools.specs.Lottery.{Lottery}
 use Rattle.define_pools.specs.WorkedExamples.{row}

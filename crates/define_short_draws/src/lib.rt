@@ -1,6 +1,6 @@
-//! A lottery in a round number of tickets, so that a hall can draw with fewer dice: how many tickets each panel gets, and how far its
-//! chance moves. The definitions are in `specs/`. Stands on `define_draws` and `define_bundles`. Above: `short_tickets`, which shortens, and `short_draws`, which
-//! draws.
+//! A lottery in a round number of tickets, so that fewer dice are needed for a draw: how many tickets each panel gets, and how far its
+//! chance moves. The definitions are in `specs/`. Stands on `define_draws` and `define_bundles`. Used by `short_tickets`, which shortens
+//! lotteries, and `short_draws`, which draws from them.
 //!
 //! The functions have no body: their contracts are laws over the definitions, and worked examples. That a shortened lottery is leximin
 //! greatest is not promised: `no_list_is_nearer` says how near it is, and `chances_move_little` how far a volunteer's chance may move.
@@ -24,29 +24,31 @@ pub fn tickets_sum()
         distance_from_share lottery.total tickets (slice_index (weights_of lottery) place) (tickets_at lottery.total tickets (weights_of lottery) place) < lottery.total }
 {}
 
-/// A row that gets one of the tickets that are left has a greater remainder than each row that gets none, or the same and is earlier.
+/// A row that gets one of the tickets that are left has a greater remainder than each row that gets none, or the same remainder and an
+/// earlier place.
 pub fn greatest_remainders_first()
     ensures { (left : ℕ) (remainders : List ℕ) (first second : ℕ) → first < length remainders → second < length remainders →
         IsTrue (is_among_first left remainders first) → IsFalse (is_among_first left remainders second) →
         (slice_index remainders second < slice_index remainders first) ⊎ ((slice_index remainders second ≡ slice_index remainders first) × (first < second)) }
 {}
 
-/// No list of whole numbers with the same sum is nearer to the rows' shares, by the sum of the distances.
+/// Take any list of numbers of at least 0, one for each row, that sum to the number of tickets. It isn't nearer to the rows' shares than
+/// the rows' tickets are, measured by the sum of the distances.
 pub fn no_list_is_nearer()
     ensures { (lottery : Lottery) (tickets : ℕ) (counts : List ℕ) → TotalAgrees lottery → 1 ≤ lottery.total → length counts ≡ length lottery.rows → sum counts ≡ tickets →
         distance_from_shares lottery.total tickets (weights_of lottery) (tickets_by_weight lottery.total tickets (weights_of lottery))
         ≤ distance_from_shares lottery.total tickets (weights_of lottery) counts }
 {}
 
-/// A shortened lottery's weights are at least 1 and sum to its total. If the lottery is one over the quota panels of a pool, so is the
-/// shortened one.
+/// A shortened lottery's weights are at least 1 and sum to its total. If the lottery is over the quota panels of a pool, and there is at
+/// least one ticket, the shortened lottery is over them too.
 pub fn shortened_is_a_lottery()
     ensures agrees { (lottery : Lottery) (tickets : ℕ) → TotalAgrees lottery → 1 ≤ lottery.total → TotalAgrees (shortened lottery tickets) }
     ensures is_lottery { (pool : Pool) (lottery : Lottery) (tickets : ℕ) → IsLottery pool lottery → 1 ≤ tickets → IsLottery pool (shortened lottery tickets) }
 {}
 
-/// A volunteer's chance moves by at most the number of panels with the volunteer over the number of tickets. Here both chances, and the
-/// bound, are times the total and times the number of tickets.
+/// A volunteer's chance moves by at most the number of panels with the volunteer, divided by the number of tickets. In the contract both
+/// chances and this bound are multiplied by the total and by the number of tickets.
 pub fn chances_move_little()
     ensures { (lottery : Lottery) (tickets i : ℕ) → TotalAgrees lottery → 1 ≤ lottery.total →
         distance (count (shortened lottery tickets) i * lottery.total) (count lottery i * tickets) ≤ panels_with lottery i * lottery.total }
@@ -59,8 +61,8 @@ pub fn worked_tickets()
     ensures two { tickets_by_weight 3 2 (1 ∷ 1 ∷ 1 ∷ []) ≡ 1 ∷ 1 ∷ 0 ∷ [] }
 {}
 
-/// Worked examples: a draw from a lottery of weights 2, 1, 1 and 2 in 1000 tickets. The seal that is kept is that of the bundle whose lottery
-/// is shortened, so another seal draws nothing.
+/// Worked examples: a draw from a lottery of weights 2, 1, 1 and 2 in 1000 tickets. With a seal other than the kept one, nothing is drawn.
+/// In one ticket, the lottery has one row.
 pub fn worked_draws()
     ensures ticket { draw (shortened two_by_three 1000) (codes "5ea1") (codes "5EA1") (codes "500") ≡ Ok (record { ticket = 500; used = 3; panel = 1 ∷ 4 ∷ [] }) }
     ensures seal { draw (shortened two_by_three 1000) (codes "5ea1") (codes "0000") (codes "500") ≡ Err Refused.SealDiffers }

@@ -87,7 +87,7 @@ common_total all parts total are e =
       multiple = All-from_recursion (λ part. part.1.den * dial all part.0 ∣ total) parts grown.multiple;
     }
 
--- so a common total is a multiple of each denominator
+-- a common total is a multiple of each denominator
 pub each_den : (all : Classes) (parts : List (List ℕ × Fraction)) (total : ℕ) → IsCommonTotal all parts total → AllByRecursion (λ part. part.1.den ∣ total) parts
 each_den all parts total common =
     each_map (λ part. part.1.den * dial all part.0 ∣ total) (λ part. part.1.den ∣ total) (λ part h. dvd_trans _ (dvd-mul_right part.1.den (dial all part.0)) h)

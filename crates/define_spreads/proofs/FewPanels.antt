@@ -1,4 +1,4 @@
--- A dial has at most as many arcs as there are volunteers.
+-- If there is a volunteer, a dial has at most as many arcs as there are volunteers.
 use Rattle.std.proofs.Common.{◌≡◌, ℕ, ◌+◌, ◌*◌, ◌/◌, ◌≤◌, ◌<◌, true, false, cond, List, [], ◌∷◌, ◌++◌, eqb, map, length, refl, ap, ◌∙◌, arith, subst, length-append}
 use Rattle.std.specs.List.{flat_map, range_with_len, AllByRecursion}
 use Rattle.std.proofs.lemmas.Bool.{eq-eqb}
@@ -54,7 +54,7 @@ few_cuts all counts some = by (partly_taken all.classes counts) (each_partly all
         let again = zero_again (flat_map (marks (dial all counts)) (size ∷ sizes)) there in
         omega (arith, again, length-marks (dial all counts) (size ∷ sizes), few, sum_by-is-total (λ class. length class.members) all.classes)
 
--- a part has a row for each arc: at least one, and at most as many as there are volunteers
+-- if there is a volunteer, a part has at least one row, since it has one for each arc, and at most as many as there are volunteers
 pub few_rows : (all : Classes) (sum : ℕ) (part : List ℕ × Fraction) → 0 < volunteer_count all → (0 < length (rows_of all sum part)) × (length (rows_of all sum part) ≤ volunteer_count all)
 few_rows all sum part some = (
   some_rows all sum part,

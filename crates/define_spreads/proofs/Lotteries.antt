@@ -1,4 +1,5 @@
--- What is spread over classes that part the volunteers is a lottery, in which all members of a class have the same chance.
+-- If each volunteer is in exactly one class, spreading over the classes gives a lottery, in which all members of a class have the same
+-- chance.
 use Rattle.std.proofs.Common.{◌≡◌, ℕ, zero, suc, ◌+◌, ◌*◌, ◌/◌, ◌≤◌, ◌<◌, Bool, true, false, cond, not, leb, ltb, List, [], ◌∷◌, ◌++◌, map, filter, length, get_or, slice_get, slice_index, Some, Result, Ok, Err, refl, sym, ap, ◌∙◌, ⊎_elim, arith, subst, length-append}
 use Rattle.std.specs.Int.{◌∣◌}
 use Rattle.std.specs.List.{flat_map, list_all, range_with_len, AllByRecursion, Contains}
@@ -32,7 +33,7 @@ use Rattle.define_spreads.proofs.Dials.{Cut, cuts_are}
 use Rattle.define_spreads.proofs.Panels.{CanGive, Within, arcs_length, chance, compositions_within, panel_composes, panels_apart}
 use Rattle.define_spreads.proofs.Parts.{each_composition, some_parts, sum_is_total}
 
--- ---- sums and lists
+-- ---- sums over mapped and joined lists
 
 total-map : {X Y : Type 0} (g : Y → ℕ) (f : X → Y) (xs : List X) → total g (map f xs) ≡ total (λ x. g (f x)) xs
 total-map g f [] = refl
@@ -109,7 +110,7 @@ all_weighed all sum parts are common =
     (each_both (λ part. 0 < part.1.num) (λ part. (0 < part.1.den) × (part.1.den * dial all part.0 ∣ sum)) parts (recursion_from_All (λ part. 0 < part.1.num) parts are.positive)
     (each_both (λ part. 0 < part.1.den) (λ part. part.1.den * dial all part.0 ∣ sum) parts (recursion_from_All (λ part. 0 < part.1.den) parts are.over) (recursion_from_All (λ part. part.1.den * dial all part.0 ∣ sum) parts common.multiple)))
 
--- ---- rows
+-- ---- the lottery rows of the parts
 
 module _ (all : Classes) (sum : ℕ) where
   -- the lottery row of an arc
@@ -250,7 +251,7 @@ module _ (all : Classes) (sum : ℕ) where
 
 -- ---- the lottery that is spread
 
--- the lottery that is spread has a common total, and the rows for it
+-- the lottery that is spread has a common total of the parts as its total, and the rows of the parts for this total
 pub record IsSpread (all : Classes) (parts : List (List ℕ × Fraction)) (lottery : Lottery) : Type 0 where
   pub common : IsCommonTotal all parts lottery.total
   pub is : lottery ≡ (let made : Lottery = record { total = lottery.total; rows = flat_map (rows_of all lottery.total) parts } in made)
@@ -281,7 +282,7 @@ limits_can_give all keeps =
     each_both (λ class. class.least ≤ class.most) (λ class. class.most ≤ length class.members) all.classes
     keeps.searchable.in_order (recursion_from_All (λ class. class.most ≤ length class.members) all.classes keeps.most)
 
--- ---- over a pool's classes
+-- ---- parts over a pool's classes make a lottery of the pool
 
 most_fits : (s : Standing) (size : ℕ) → most_taken s size ≤ size
 most_fits Open size = omega arith
@@ -348,7 +349,7 @@ module _ (pool : Pool) (alike : ℕ → ℕ → Bool) (makes : MakesClasses pool
           let cons = ap length (flat_map-cons (rows_of of_pool sum) part parts) in
           omega (arith, cons, length-append (rows_of of_pool sum part) (flat_map (rows_of of_pool sum) parts), some_rows of_pool sum part)
 
-  -- what is spread over a pool's classes is a lottery over the pool's quota panels
+  -- spreading over a pool's classes gives a lottery over the pool's quota panels
   pub pool_lottery : (parts : List (List ℕ × Fraction)) (lottery : Lottery) → AreParts of_pool parts → spread of_pool parts ≡ Ok lottery → IsLottery pool lottery
   pool_lottery parts lottery are e =
       let found = is_spread of_pool parts lottery are e in

@@ -70,7 +70,7 @@ told_by f (class ∷ classes) (c ∷ counts) e h =
     let here : f class ≡ c = h 0 class refl in
     let rest = told_by f classes counts (omega arith) (λ t k at. h (suc t) k at) in rw (here, rest) refl
 
--- ---- whom the classes give
+-- ---- who is given at a place of the dial
 
 window_holds : (j c : ℕ) (members : List ℕ) (i : ℕ) → includes members i ≡ false → includes (turned j c members) i ≡ false
 window_holds j c members i h = includes-none (turned j c members) i (omega (arith, times-turned-le j c members i, times-none members i h))
@@ -208,7 +208,7 @@ module _ (all : Classes) (parting : PartVolunteers all) (counts : List ℕ) (wit
         each_window : (P : ℕ → Type 0) (j c : ℕ) (xs : List ℕ) → AllByRecursion P xs → AllByRecursion P (turned j c xs)
         each_window P j c xs h = each_take P c (drop j xs ++ take j xs) (each_append P (drop j xs) (take j xs) (each_drop P j xs h) (each_take P j xs h))
 
-  -- so the panel at each place of the dial has the composition `counts`
+  -- the panel at each place of the dial has the composition `counts`
   pub panel_composes : (at : ℕ) → at < len → composition_of all (panel_at all counts at) ≡ counts
   panel_composes at below = told_by (λ class. count_by (includes class.members) (panel_at all counts at)) all.classes counts (same_length all.classes counts within) (λ t class is_at. takes t class is_at at below)
 
@@ -277,7 +277,8 @@ module _ (all : Classes) (parting : PartVolunteers all) (counts : List ℕ) (wit
       zero_cut : includes (cuts all counts) 0 ≡ true
       zero_cut = let begins = cuts_begin all counts in ap (λ xs. includes xs 0) begins.1
 
-  -- the arcs whose panels have member i of class t have lengths whose sum, times the class's size, is its count times the dial's length
+  -- take the sum of the lengths of the arcs whose panels have member i of class t: this sum times the class's size is the class's count
+  -- times the dial's length
   pub chance : (t : ℕ) (class : Class) → slice_get all.classes t ≡ Some class → (i : ℕ) → includes class.members i ≡ true →
       total (λ a. a.1 * one_if (includes (panel_at all counts a.0) i)) (arcs all counts) * length class.members ≡ get_or counts t 0 * len
   chance t class is_at i h = ⊎_elim partly whole (cases_Bool (is_partly_taken class (get_or counts t 0)))

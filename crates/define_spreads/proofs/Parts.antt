@@ -1,4 +1,4 @@
--- What holds of the parts of a spread.
+-- Properties of the parts that are spread.
 use Rattle.std.proofs.Common.{◌≡◌, ℕ, ◌*◌, ◌/◌, ◌<◌, List, [], ◌∷◌, length, sum_by, arith}
 use Rattle.std.specs.Int.{◌∣◌}
 use Rattle.std.specs.List.{AllByRecursion, Contains}
@@ -10,7 +10,7 @@ use Rattle.define_searches.specs.Compositions.{compositions}
 use Rattle.define_spreads.specs.Spreading.{AreParts, IsCommonTotal}
 use Rattle.define_spreads.proofs.CommonTotals.{each_den}
 
--- there is at least one part, since the fractions of no part don't sum to one
+-- there is at least one part, since the fractions of the parts sum to one
 pub some_parts : (all : Classes) (parts : List (List ℕ × Fraction)) → AreParts all parts → 0 < length parts
 some_parts all [] are = let sum : ℕ = 0 in let none : sum ≡ 1 = are.one 1 (λ k d h. absurd (omega arith)) in absurd (omega arith)
 some_parts all (part ∷ parts) are = omega arith

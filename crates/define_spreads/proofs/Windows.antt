@@ -196,7 +196,8 @@ yes p k l = ap one_if (lt-ltb p k l)
 no : (p k : ℕ) → k ≤ p → one_if (ltb p k) ≡ 0
 no p k l = ap one_if (le-ltb p k l)
 
--- two windows of c members, some and not all, that begin at different places are different
+-- if no number is in the list twice, and c is above 0 and below its length, two windows of c members that begin at different places are
+-- different
 pub windows_apart : (xs : List ℕ) (a j c : ℕ) → ((i : ℕ) → times xs i ≤ 1) → a < j → j < length xs → 0 < c → c < length xs →
     ((i : ℕ) → times (turned a c xs) i ≡ times (turned j c xs) i) → ⊥
 windows_apart xs a j c once less inside some few same = ⊎_elim turns stays (cases_lt (length xs + a) (j + c))

@@ -1,5 +1,5 @@
--- Compositions with fractions, spread over panels so that all members of a class have the same chance. Over Compositions of
--- `define_searches`. `alike` spreads them exactly so.
+-- Compositions with fractions, spread over panels so that all members of a class have the same chance. Builds on Compositions of
+-- `define_searches`. `alike` spreads them exactly this way.
 use Rattle.std.specs.Prelude.{◌≡◌, ℕ, ◌+◌, ◌-◌, ◌*◌, ◌/◌, ◌^◌, ◌<◌, ◌≤◌, ◌==◌, nat_lt, nat_le, if◌then◌else◌, Bool, false, ◌&&◌, ◌||◌, IsTrue, List, [], ◌∷◌, ◌++◌, drop, filter, fold, length, map, slice_get, slice_index, sum_by, take, Contains, Some, Result, Ok, Err}
 use Rattle.std.specs.Int.{◌∣◌}
 use Rattle.std.specs.List.{All, AllByRecursion, flat_map, range_with_len}
@@ -64,8 +64,8 @@ is_given length_of_dial at (class ∷ classes) (count ∷ counts) i =
 abbrev pub panel_at : Classes → List ℕ → ℕ → List ℕ
 panel_at all counts at = filter (is_given (dial all counts) at all.classes counts) (range_with_len 0 (volunteer_count all))
 
--- the panels of a composition with its fraction, along the dial. The weight of an arc is the composition's fraction of the total, times the
--- arc's length over the dial's length
+-- the lottery rows of a composition with its fraction: one for each arc, along the dial. The weight of an arc is the composition's fraction
+-- of the total, times the arc's length over the dial's length
 abbrev pub rows_of : Classes → ℕ → List ℕ × Fraction → List LotteryRow
 rows_of all total (counts, fraction) =
     map (λ (at, arc). record { panel = panel_at all counts at; weight = arc * fraction.num * total / (fraction.den * dial all counts) }) (arcs all counts)
@@ -74,7 +74,8 @@ rows_of all total (counts, fraction) =
 abbrev pub greatest_total : ℕ
 greatest_total = 10 ^ 38
 
--- the part that makes the total pass 10 ^ 38: its place in the list, the total before it, and the denominator of its fraction
+-- why there is no total: the part that makes the total pass 10 ^ 38, given by its place in the list, the total before it, and the
+-- denominator of its fraction
 pub record TotalPass : Type 0 where
   pub place : ℕ
   pub total : ℕ
@@ -89,12 +90,13 @@ total_from all place total ((counts, fraction) ∷ parts) =
     then total_from all (place + 1) (lcm_of total (fraction.den * dial all counts)) parts
     else Err (record { place = place; total = total; den = fraction.den })
 
--- the lottery of all parts' rows for this total; the `TotalPass` if there is no total
+-- the lottery of this total with the rows of all parts, or the `TotalPass` if there is no total
 abbrev pub lottery_of : Classes → List (List ℕ × Fraction) → Result ℕ TotalPass → Result Lottery TotalPass
 lottery_of all parts (Ok total) = Ok (record { total = total; rows = flat_map (rows_of all total) parts })
 lottery_of all parts (Err pass) = Err pass
 
--- compositions with their fractions, spread over panels: in the order of the compositions, and for each along its dial
+-- the lottery that spreads compositions with their fractions over panels. Its rows are in the order of the compositions, and for each
+-- composition in the order of its dial's arcs
 unfoldable pub spread : Classes → List (List ℕ × Fraction) → Result Lottery TotalPass
 spread all parts = lottery_of all parts (total_from all 0 1 parts)
 
@@ -104,7 +106,7 @@ pub record AreParts (all : Classes) (parts : List (List ℕ × Fraction)) : Type
   pub different : IsTrue (all_different (map (λ part. part.0) parts))
   pub positive : All (λ part. 0 < part.1.num) parts
   pub over : All (λ part. 0 < part.1.den) parts
-  -- over each common denominator the numerators sum to it: the fractions sum to one
+  -- the fractions sum to one: over each common denominator, their numerators sum to this denominator
   pub one : (common : ℕ) → All (λ part. part.1.den ∣ common) parts → sum_by (λ part. part.1.num * (common / part.1.den)) parts ≡ common
 
 -- different compositions of the classes, each with a share of at least 1; the shares sum to `whole`, which is above 0
@@ -125,11 +127,13 @@ pub record IsCommonTotal (all : Classes) (parts : List (List ℕ × Fraction)) (
   pub within : total ≤ greatest_total
   pub multiple : All (λ part. part.1.den * dial all part.0 ∣ total) parts
 
--- the number of members expected of class t, times the total: the sum of each composition's count times its fraction of the total
+-- how many members of class t are expected on a panel, times the total: the sum of each composition's count of the class times its fraction
+-- of the total
 abbrev pub expected : ℕ → List (List ℕ × Fraction) → ℕ → ℕ
 expected total parts t = sum_by (λ part. slice_index part.0 t * (part.1.num * (total / part.1.den))) parts
 
--- all members of a class have the same chance: each one's count times the class's size is the number expected of the class, times the total
+-- all members of a class have the same chance: each member's count times the class's size is the expected number of members, times the
+-- total
 abbrev pub HasEvenChances : Classes → List (List ℕ × Fraction) → Lottery → Type 0
 HasEvenChances all parts lottery = (t i : ℕ) (class : Class) → slice_get all.classes t ≡ Some class → IsTrue (includes class.members i) →
     count lottery i * length class.members ≡ expected lottery.total parts t

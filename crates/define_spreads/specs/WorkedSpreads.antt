@@ -1,4 +1,4 @@
--- Small classes on which spreading computes, for the worked examples here and in `laws_worked`.
+-- Small classes for the worked examples of spreading, here and in `laws_worked`.
 use Rattle.std.specs.Prelude.{ℕ, List, [], ◌∷◌, codes, length, None}
 use Rattle.frac128.specs.Fractions.{Fraction}
 use Rattle.define_pools.specs.Pool.{Pool}

@@ -1,6 +1,6 @@
-//! Spreading: compositions with fractions become panels with weights, so that all members of a class have one chance. The definitions
-//! are in `specs/`. Stands on `define_searches` and the least common multiples of `frac128`. Above: `alike`, which spreads;
-//! `define_runs`, whose run ends with spreading; the laws on runs.
+//! Spreading: compositions with fractions become panels with weights, so that all members of a class have the same chance. The definitions
+//! are in `specs/`. Stands on `define_searches` and the least common multiples of `frac128`. Used by `alike`, which spreads; by
+//! `define_runs`, whose run ends with spreading; and by the laws on runs.
 //!
 //! The functions have no body: their contracts are laws over the definitions, and worked examples. The promises that matter most are
 //! `spread_is_lottery` and `spread_has_even_chances`.
@@ -34,8 +34,8 @@ pub fn spread_is_lottery()
         lottery.total ≤ greatest_total }
 {}
 
-/// All members of a class have the same chance: each member's count times the class's size is the number expected of the class, times the
-/// total. This holds for any classes that have each volunteer in exactly one, and so for the classes of a pool.
+/// All members of a class have the same chance: each member's count times the class's size is the expected number of members of the class
+/// on a panel, times the total. This holds for any classes with each volunteer in exactly one of them, and so for the classes of a pool.
 pub fn spread_has_even_chances()
     ensures classes { (all : Classes) (parts : List (List ℕ × Fraction)) (lottery : Lottery) → KeepsLimits all → PartVolunteers all →
         AreParts all parts → spread all parts ≡ Ok lottery → HasEvenChances all parts lottery }

@@ -76,7 +76,7 @@ filters_swap p q (x ∷ xs) =
       ])
     ]) refl
 
--- of lists that begin with `d`, those that begin with `c ∷ front`: if `c` is `d`, those whose rest begins with `front`, else none
+-- the lists `d ∷ counts` that begin with `c ∷ front`: if `c` is `d`, those whose `counts` begin with `front`, else none
 with_first : (c d : ℕ) (front : List ℕ) (xs : List (List ℕ)) → filter (begins_with (c ∷ front)) (map (λ counts. d ∷ counts) xs) ≡ cond (eqb c d) (map (λ counts. d ∷ counts) (filter (begins_with front) xs)) []
 with_first c d front [] = by (eqb c d)
   where
@@ -172,7 +172,8 @@ from_keeps all closed row front floor searchable entries few =
       | false ↦ λ dead. sym (keep_none (weight_in row.a) floor None (sought all closed front later) (none_better all closed row floor (take (length front) all.classes) later front split order entries dead))
     ]) refl
 
--- the search below a list of counts keeps the first of greatest weight above the floor, even if the list is no front
+-- of the lists that `sought` has for `front`, the search below `front` keeps the first of greatest weight above the floor. This holds of
+-- any counts `front`, even if they are no front
 pub finds_greatest : (all : Classes) (closed : List Row) (row : Row) (front : List ℕ) (floor : ℤ) → IsSearchable all → HaveEntries all (row ∷ closed) → length front ≤ length all.classes →
     (search_from all closed row front floor).kept ≡ first_greatest (weight_in row.a) floor (sought all closed front (later_than front all.classes))
 finds_greatest all closed row front floor searchable entries few =
@@ -185,7 +186,7 @@ finds_best all closed row front floor searchable entries is =
     finds_greatest all closed row front floor searchable entries is.few
     ∙ ap (λ xs. first_greatest (weight_in row.a) floor (filter (attains closed) xs)) (sym (below_goes_on all front is))
 
--- ---- what is found
+-- ---- what holds of the composition that is found
 
 -- if P holds of each list, it holds of the first of greatest weight above the floor, which weighs more than the floor
 pub greatest_is : (P : List ℕ → Type 0) (weight : List ℕ → ℤ) (floor : ℤ) (xs : List (List ℕ)) (counts : List ℕ) → AllByRecursion P xs → first_greatest weight floor xs ≡ Some counts →

@@ -1,4 +1,5 @@
--- Going through the compositions below the pieces' fronts keeps the same one as going through all. Each of these fronts is an `IsFront`.
+-- Going through the compositions below the fronts of the pieces keeps the same composition as going through all compositions. Each of these
+-- fronts is an `IsFront`.
 use Rattle.std.proofs.Common.{◌≡◌, ℕ, zero, suc, ◌+◌, ◌-◌, ◌≤◌, Bool, true, false, cond, List, [], ◌∷◌, ◌++◌, map, length, filter, take, drop, fold, ℤ, Some, refl, sym, ap, ◌∙◌, arith, subst, length-append, append_assoc}
 use Rattle.std.specs.Prelude.{int_lt, nat_le, not}
 use Rattle.std.specs.List.{flat_map, AllByRecursion, position_or_len, range_with_len}
@@ -97,7 +98,7 @@ module _ (all : Classes) (closed : List Row) (row : Row) (later : List Class) wh
       (counts_of class) kept h
       ∙ ap (keeping kept) (sought_by_child all closed front class (firsts ++ later))
 
--- ---- what pieces are
+-- ---- the length of the fronts of pieces
 
 -- if P holds of each piece below each child, it holds of each piece below the live children
 each_child : (P : List ℕ → Type 0) (live : List ℕ → Bool) (below : List ℕ → Pieces) (children : List (List ℕ)) → AllByRecursion (λ child. AllByRecursion P (below child).fronts) children →

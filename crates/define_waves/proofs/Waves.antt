@@ -20,7 +20,7 @@ use Rattle.define_waves.specs.Waves.{best_in_waves, keep_heavier, piece_depth, p
 use Rattle.define_waves.proofs.Below.{finds_greatest, greatest_is}
 use Rattle.define_waves.proofs.Pieces.{IsAtLeast, floor_rises, not_above, pieces_keep, piece_lengths, depth_within}
 
--- ---- taking what a piece kept
+-- ---- keeping what a piece found
 
 itself : (z : ℤ) → IsAtLeast z z
 itself z = by (int_lt z z) refl
@@ -37,8 +37,8 @@ keep_found weight now (Some counts) = keep weight now counts
 greatest_above : (weight : List ℕ → ℤ) (floor : ℤ) (xs : List (List ℕ)) (counts : List ℕ) → first_greatest weight floor xs ≡ Some counts → int_lt floor (weight counts) ≡ true
 greatest_above weight floor xs counts e = (greatest_is (λ x. Unit {0}) weight floor xs counts (each_everywhere (λ x. Unit {0}) (λ x. tt) xs) e).1
 
--- if `floor` is at least `base`, keeping the first list of greatest weight above `base`, if it is above `floor`, keeps the same as going
--- through all of `xs` from `floor` on
+-- if `floor` is at least `base`, going through all of `xs` from `floor` on keeps the same as looking at the first list of greatest weight
+-- above `base` alone, and keeping it if it weighs more than `floor`
 found_keeps : (weight : List ℕ → ℤ) (base floor : ℤ) (kept : Option (List ℕ)) (xs : List (List ℕ)) → IsAtLeast floor base →
     keep_found weight (floor, kept) (first_greatest weight base xs) ≡ fold (keep weight) (floor, kept) xs
 found_keeps weight base floor kept [] h = refl
@@ -94,8 +94,8 @@ module _ (all : Classes) (closed : List Row) (row : Row) (searchable : IsSearcha
             | false ↦ refl
           ]
 
-  -- if the floor of `now` is at least `base`, the outcomes of pieces that are searched with the floor `base` keep the same as going through
-  -- all compositions below their fronts that attain the closed rows
+  -- if the floor of `now` is at least `base`, adding the outcomes of pieces that are searched with the floor `base` keeps the same
+  -- composition as going through all compositions below their fronts that attain the closed rows
   pieces_taken : (base : ℤ) (fronts : List (List ℕ)) (now : Pricing) → AllByRecursion IsShort fronts → IsAtLeast now.floor base →
       told (fold (take_piece row) now (map (λ front. search_from all closed row front base) fronts)) ≡ keeping (told now) (flat_map attaining fronts)
   pieces_taken base [] now short h = refl
@@ -118,7 +118,7 @@ module _ (all : Classes) (closed : List Row) (row : Row) (searchable : IsSearcha
       ∙ sym (fold-append (keep (weight_in row.a)) (told now) (flat_map attaining fronts) (flat_map attaining later))
       ∙ ap (keeping (told now)) (sym (flat_map-append attaining fronts later))
 
-  -- ---- all pieces
+  -- ---- the compositions below all pieces
 
   -- if `later` are the classes after each front, the compositions below the fronts are their completions over `later`
   same_below : (later : List Class) (fronts : List (List ℕ)) → AllByRecursion (λ front. later_than front all.classes ≡ later) fronts → flat_map attaining fronts ≡ flat_map (λ front. sought all closed front later) fronts
@@ -151,7 +151,7 @@ module _ (all : Classes) (closed : List Row) (row : Row) (searchable : IsSearcha
       ]) refl
       ∙ ap (keeping (row.b, None)) every
 
--- ---- the waves are all pieces
+-- ---- the waves have all pieces, in order
 
 chunks : {X : Type 0} (n : ℕ) (xs : List X) (first count : ℕ) → flat_map (λ part. part) (map (λ number. take n (drop (n * number) xs)) (range_with_len first count)) ≡ take (n * count) (drop (n * first) xs)
 chunks n xs first zero = let none : n * 0 ≡ 0 = omega arith in rw none refl

@@ -1,5 +1,5 @@
--- Fronts, the compositions that begin with a front, the best of them, and the search below a front with a floor of its own. Over Visits of
--- `define_searches`. `panel_search` searches so.
+-- Fronts, the compositions that begin with a front, the best of them, and the search below a front with a floor of its own. Builds on
+-- Visits of `define_searches`. `panel_search` searches this way.
 use Rattle.std.specs.Prelude.{ℕ, ◌==◌, ◌≤◌, ◌<◌, if◌then◌else◌, Bool, IsTrue, List, filter, map, length, slice_index, Contains, ℤ, int_lt, Option, None}
 use Rattle.std.specs.List.{starts_with}
 use Rattle.define_rows.specs.Row.{Row}
@@ -22,7 +22,8 @@ begins_with front counts = starts_with (λ c d. c == d) counts front
 abbrev pub below : Classes → List ℕ → List (List ℕ)
 below all front = filter (begins_with front) (compositions all)
 
--- the best composition below a front: of those that attain the closed rows, the first of greatest weight in the row above a floor
+-- the best composition below a front: among those that attain the closed rows and weigh more in the row than a floor, the first of greatest
+-- weight
 abbrev pub best_below : Classes → List Row → Row → List ℕ → ℤ → Option (List ℕ)
 best_below all closed row front floor = first_greatest (weight_in row.a) floor (filter (attains closed) (below all front))
 

@@ -1,6 +1,6 @@
--- The search for the best composition in pieces, which run in waves. A piece is the search below one front. The pieces of a wave have one
--- floor, so each can run without the others, and the number of workers changes neither the result nor the visits. Over Below.
--- `pricing_pool` searches so.
+-- The search for the best composition in pieces, which run in waves. A piece is the search below one front. All pieces of a wave begin with
+-- the same floor, so each can run without the others, and the number of workers changes neither the result nor the visits. Builds on Below.
+-- `pricing_pool` searches this way.
 use Rattle.std.specs.Prelude.{ℕ, ◌+◌, ◌-◌, ◌*◌, ◌/◌, nat_le, if◌then◌else◌, List, [], ◌∷◌, ◌++◌, drop, filter, fold, length, map, take, int_lt, Option, Some, None}
 use Rattle.std.specs.List.{position_or_len, range_with_len}
 use Rattle.define_rows.specs.Row.{Row}
@@ -23,13 +23,13 @@ pub record Pieces : Type 0 where
   pub visits : ℕ
   pub fronts : List (List ℕ)
 
--- several parts as one: the sum of their visits, and their fronts, one part after the other
+-- several parts joined: the sum of their visits, and the fronts of all parts in order
 abbrev pub together : List Pieces → Pieces
 together [] = record { visits = 0; fronts = [] }
 together (part ∷ later) = record { visits = part.visits + (together later).visits; fronts = part.fronts ++ (together later).fronts }
 
--- the pieces below a live front, given the classes that the fronts of pieces have beyond it. If there are none, this front is a piece's;
--- else entering it is one visit
+-- the pieces below a live front. The list has the classes for which the fronts of pieces have counts, but this front has none yet. If it
+-- is empty, this front is that of a piece. Else this front is entered, which is one visit, and its live children lead to the pieces
 abbrev pub pieces_below : Classes → List Row → Row → List Class → List ℕ → Pieces
 pieces_below all closed row [] front = record { visits = 0; fronts = front ∷ [] }
 pieces_below all closed row (class ∷ later) front =

@@ -1,5 +1,5 @@
 //! The search for the best composition in pieces, which run in waves. The definitions are in `specs/`. Stands on `define_searches` and the
-//! rows of `define_rows`. Above: `panel_search`, which cuts a search into pieces and searches one; `pricing_pool`, which runs waves on
+//! rows of `define_rows`. Used by `panel_search`, which cuts a search into pieces and searches one; `pricing_pool`, which runs waves on
 //! threads; and `define_runs`, whose pricing counts the visits of this search.
 //!
 //! The functions have no body. They are the promises: laws over the definitions, and worked examples.
@@ -23,8 +23,9 @@ pub fn below_goes_on()
         below all front ≡ filter (is_composition all) (map (λ counts. front ++ counts) (all_counts (later_than front all.classes))) }
 {}
 
-/// The search below a front finds the best composition below it: of those that attain the closed rows, the first of greatest weight
-/// above the floor, and nothing exactly if none weighs more than the floor. The best composition below a front begins with it.
+/// The search below a front finds the best composition below it: among those that attain the closed rows and weigh more than the floor, the
+/// first of greatest weight. It finds nothing exactly if no composition below the front attains the closed rows and weighs more than the
+/// floor. The best composition below a front begins with this front.
 pub fn search_from_finds_best()
     ensures best { (all : Classes) (closed : List Row) (priced : Row) (front : List ℕ) (floor : ℤ) → IsSearchable all → HaveEntries all (priced ∷ closed) → IsFront all front →
         (search_from all closed priced front floor).kept ≡ best_below all closed priced front floor }
@@ -34,8 +35,8 @@ pub fn search_from_finds_best()
         best_below all closed priced front floor ≡ None ↔ AllByRecursion (λ counts. IsTrue (attains closed counts) → IsFalse (int_lt floor (weight_in priced.a counts))) (below all front) }
 {}
 
-/// The search in waves finds the price: of the compositions that attain the closed rows, the first of greatest weight above the row's
-/// right side, and nothing if there is none.
+/// The search in waves finds the price: among the compositions that attain the closed rows and weigh more than the row's right side, the
+/// first of greatest weight; and nothing if no composition does both.
 pub fn waves_find_price()
     ensures { (all : Classes) (closed : List Row) (priced : Row) → IsSearchable all → HaveEntries all (priced ∷ closed) →
         (best_in_waves all closed priced).kept ≡ price all closed priced }

@@ -47,7 +47,7 @@ fn two_links(alloc: Global) -> Result<MemDoor, Fail>
     Ok(MemDoor::new(alloc, links, &[1, 4])?)
 }
 
-/// Returns what was written to the links, each with a slash behind it.
+/// Returns what was written to the links, each followed by a slash.
 fn written_to(alloc: Global, links: &[MemLink]) -> Result<Vec<u8>, AllocError> {
     let mut written = Vec::new(alloc);
     for link in links {
@@ -57,7 +57,8 @@ fn written_to(alloc: Global, links: &[MemLink]) -> Result<Vec<u8>, AllocError> {
     Ok(written)
 }
 
-/// Tests that links come and go in their order, that a call which fails gives none, and that a put past the room of a link fails.
+/// Tests that links come and go in their order, that a call which fails gives no link, and that a put of more bytes than the link has room
+/// for fails.
 #[test]
 fn links_in_memory_come_and_go(rt: HostRuntime) -> Result<(), Fail> {
     let mut door = two_links(rt.alloc())?;
@@ -72,8 +73,8 @@ fn links_in_memory_come_and_go(rt: HostRuntime) -> Result<(), Fail> {
     Ok(())
 }
 
-/// Tests that a port is a door: that it gives the connection that a client makes, that what the client writes can be read and what is put
-/// comes to the client, though it has sent more than was read, and that the connection ends when it is given back.
+/// Tests that a port is a door. The door gives the connection that a client makes. What the client writes can be read, and what is put
+/// arrives at the client, even if the client has sent more than was read. The connection ends when it is given back.
 #[test]
 fn ports_are_doors(rt: HostRuntime) -> Result<(), Fail> {
     let mut door = TcpDoor::new(&rt);

@@ -1,5 +1,5 @@
-//! Faulty texts, for `texts`. A row has four fields, parted by `|`: the line and the kind of the first fault, or zeros for none; the number
-//! of a line in a sound text; and what replaces that line and all after it.
+//! Faulty texts, for `texts`. A row has four fields with `|` between them: the line and the kind of the first fault, or zeros for none; the
+//! number of a line in a sound text; and what replaces this line and all lines after it.
 
 /// Rows for `FOUR`, the pool of two women and two men.
 pub(crate) const FOUR_FAULTS: &str = "\
@@ -84,7 +84,7 @@ pub(crate) const FOUR_FAULTS: &str = "\
 4|5|3|category a/value x 1 0/end/
 4|5|3|category a/value x -0 1/end/";
 
-/// Rows for `HOUSED`, the same pool in a text of version 2, from its first household line on.
+/// Rows for `HOUSED`, a pool's text of version 2. Each row replaces the lines from the first household line on.
 pub(crate) const HOUSED_FAULTS: &str = "\
 10|1|10|end/
 10|1|10|gone a/end/

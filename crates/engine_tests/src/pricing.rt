@@ -1,4 +1,5 @@
-//! Pricings of small pools by several workers. The visits are those of worked waves, which the definitions compute.
+//! Pricings of small pools by several workers. The visits are those of `worked_waves` of `define_waves`, which are computed from the
+//! definitions.
 
 use crate::small_classes::{APART, classes_of, counts_of, is_small};
 use outside::{NoWatch, Watch};
@@ -7,10 +8,10 @@ use pricing_pool::best_by;
 use std::sync::atomic::{AtomicBool, Ordering};
 use std::test::Fail;
 
-/// How often a held piece looks whether piece 2 has started.
+/// The most times that a held piece looks whether piece 2 has started.
 const TURNS: u64 = 1_000_000_000;
 
-/// Holds pieces 0 and 1 until piece 2 has started, for `TURNS` looks at most. `seen` is true if piece 2 did start.
+/// Holds pieces 0 and 1 until piece 2 has started, but for at most `TURNS` looks. `seen` is true if a held piece saw that piece 2 started.
 #[derive(Drop)]
 struct Holding {
     started: AtomicBool,

@@ -4,7 +4,8 @@
 pub(crate) const FOUR_BUNDLE: &str =
     "bundle 1/pool 1/size 2/category gender/value female 1 1/value male 1 1/volunteer a female/volunteer b female/volunteer c male/volunteer d male/end/total 2/panel 1 0 2/panel 1 1 3/stage 1 1 1 0 0/stage 0 -1 -1 1 1/done/";
 
-/// A proof for the same four. The first cap is shown by the bound of women, and the second by the bound of men less the first stage.
+/// A proof of that bundle's lottery. The constraint on women shows the first stage's cap. The constraint on men, less the constraint of the
+/// first stage, shows the second stage's cap.
 pub(crate) const FOUR_PROOF: &str =
     "proof 1/bundle 1/pool 1/size 2/category gender/value female 1 1/value male 1 1/volunteer a female/volunteer b female/volunteer c male/volunteer d male/end/total 2/panel 1 0 2/panel 1 1 3/stage 1 1 1 0 0/stage 0 -1 -1 1 1/done/tree 1/bound 1 1 1/tree 2/bound 1 2 1 3 -1/close/";
 

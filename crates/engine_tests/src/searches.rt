@@ -73,7 +73,7 @@ const GIVEN: &[Given<'static>] = &[
         found: Some(&[3]),
         asked: &[],
     },
-    // a woman and a man of one household
+    // a woman and a man are chosen of two and two; one woman and one man are of one household
     Given {
         pool: b"pool\t2\nsize\t2\ncategory\tgender\nvalue\tfemale\t1\t1\nvalue\tmale\t1\t1\nvolunteer\ta\tfemale\nvolunteer\tb\tfemale\nvolunteer\tc\tmale\nvolunteer\td\tmale\nhousehold\ta\th\nhousehold\tc\th\nend\n",
         visits: 5,

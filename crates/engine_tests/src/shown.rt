@@ -1,5 +1,5 @@
 //! Texts shown with marks: a blank for TAB, a slash for LF, an underscore for a blank, and a caret for a byte that is no UTF-8; rows of
-//! faulty texts, with fields parted by `|`; and texts with some of their lines replaced. `texts`, `pools` and `verifying` use this.
+//! faulty texts, with `|` between the fields; and texts with some of their lines replaced. `texts`, `pools` and `verifying` use this.
 
 use std::alloc::{AllocError, Global};
 

@@ -62,7 +62,8 @@ fn readers_of_std_are_sources(rt: HostRuntime) -> Result<(), Fail> {
     Ok(())
 }
 
-/// Tests that a failed write is a fault and is not made again, that what came before it is written, and that an empty piece makes no call.
+/// Tests that a failed write is a fault and is not made again, that the bytes before the fault are written, and that an empty piece makes
+/// no call.
 #[test]
 fn writers_of_std_are_sinks(rt: HostRuntime) {
     let mut sink = StdSink::new(Interrupted {

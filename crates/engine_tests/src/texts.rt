@@ -24,11 +24,11 @@ enum Form {
 const FOUR: &str =
     "pool 1/size 2/category gender/value female 1 1/value male 1 1/volunteer a female/volunteer b female/volunteer c male/volunteer d male/end/";
 
-/// The same pool, but a and c share a household, a is gone and d is seated. The household's name has a letter of two bytes and a blank.
+/// The pool `FOUR`, but a and c share a household, a is gone and d is seated. The household's name has a letter of two bytes and a blank.
 const HOUSED: &str =
     "pool 2/size 2/category gender/value female 1 1/value male 1 1/volunteer a female/volunteer b female/volunteer c male/volunteer d male/household a é_/household c é_/gone a/seated d/end/";
 
-/// A bundle of the same four, of whom a and c share a household.
+/// A bundle of the pool `FOUR`, but a and c share a household.
 const HOUSED_BUNDLE: &str =
     "bundle 2/pool 2/size 2/category gender/value female 1 1/value male 1 1/volunteer a female/volunteer b female/volunteer c male/volunteer d male/household a h/household c h/end/total 2/panel 1 0 3/panel 1 1 2/stage 1 1 1 0 0/stage 0 0 -1 1 0/stage 0 -1 1 -1 1/done/";
 
@@ -89,7 +89,7 @@ const TEXTS: &[(Form, &str, usize, &[u8])] = &[
     ),
 ];
 
-/// Reads a text. Returns the line and the kind of the fault, or zeros if there is none.
+/// Reads a text. Returns the line and the kind of the fault, zeros if there is none, or (0, 255) if memory runs out.
 fn fault_of(alloc: Global, form: Form, bytes: &[u8]) -> (usize, u8) {
     match form {
         Form::Pool => match read_pool(alloc, bytes) {

@@ -55,7 +55,7 @@ find-right p (y ∷ xs) ys e = by (p y) e (λ f. find-right p xs ys f)
     by false f rest = rest f
 
 module _ (table : Table) (v : Var) (sides : (i : ℕ) → i < length table.rows → pos 0 ≤ℤ (row_at table i).b) where
-  -- the state after the first `n` rows: None if none of them may be left, else the best of those that may
+  -- the state after the first `n` rows: None if `may_leave` holds of none, else the best of those of which it holds
   abbrev IsState : ℕ → Option ℕ → Type 0
   IsState n None = (k : ℕ) → k < n → may_leave table v k ≡ false
   IsState n (Some b) = IsBest table v n b

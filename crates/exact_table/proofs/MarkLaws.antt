@@ -8,7 +8,8 @@ use Rattle.std.proofs.lemmas.List.FromFn.{map-range_with_len_more}
 use Rattle.define_rows.specs.Steps.{settled_by}
 use Rattle.exact_table.specs.Marks.{never, unsettled_before, marks_of, settled_of, AreMarks, settled_marks}
 
--- a mark becomes `stage` if it is `never` and `b`, whether the class's entry is positive, is true; else it stays
+-- how closing stage `stage` changes a mark: if the mark is `never` and the class's entry is positive, which `b` says, it becomes `stage`;
+-- else it stays
 mark_is : (stage at : ℕ) (b : Bool) →
     ((cond (eqb at never && b) stage at ≡ stage) × (at ≡ never) × (b ≡ true)) ⊎ ((cond (eqb at never && b) stage at ≡ at) × ((at ≢ never) ⊎ (b ≡ false)))
 mark_is stage at true = by (cases_eq at never)

@@ -1,5 +1,5 @@
 -- The marks of classes. A settled class's mark is the number of the stage at whose close it was settled; an unsettled class's is `never`.
--- For `marks` and `frame`.
+-- Used by the modules `marks` and `width`, and by Parts.
 use Rattle.std.specs.Prelude.{◌≢◌, ℕ, ◌-◌, ◌<◌, ◌^◌, nat_le, nat_lt, ◌==◌, ◌&&◌, if◌then◌else◌, Bool, List, [], ◌∷◌, map, ℤ, pos, int_lt}
 use Rattle.std.specs.List.{All, range_with_len}
 

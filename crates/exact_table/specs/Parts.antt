@@ -1,4 +1,5 @@
--- The parts of the table besides its rows, and what holds of them. Over Table and InOrder of `define_rows`. For `frame` and `table`.
+-- The parts of the table besides its rows, and the conditions that they meet. Builds on Marks, and on Table and InOrder of `define_rows`.
+-- Used by the modules `frame`, `choosing`, `pivoting`, `rows` and `table`.
 use Rattle.std.specs.Prelude.{◌≡◌, ◌≢◌, ℕ, ◌+◌, ◌-◌, nat_lt, ◌<◌, ◌≤◌, ◌^◌, ◌≤ℤ◌, ◌<ℤ◌, ℤ, pos, unsigned_abs, Bool, true, if◌then◌else◌, Option, Some, None, List, [], length, take, slice_index, slice_index_or}
 use Rattle.std.specs.List.{All}
 use Rattle.define_rows.specs.declared.Var.{Var}
@@ -32,7 +33,7 @@ frame_of sizes settled_at stages columns closed in_stage bits pivots = record {
   pivots = pivots;
 }
 
--- what holds of the parts: a mark for each class, room for a closed row for each class, and numbers within their limits
+-- the conditions on the parts: a mark for each class, room for a closed row for each class, and numbers within their limits
 pub record IsFrame (sizes settled_at : List ℕ) (stages : ℕ) (columns : List (List ℕ)) (closed : List ℕ) (in_stage : Bool) (bits : ℕ) : Type 0 where
   pub some_each : All (λ size. 1 ≤ size) sizes
   pub marks_each : length settled_at ≡ length sizes
@@ -50,7 +51,7 @@ pub record IsFrame (sizes settled_at : List ℕ) (stages : ℕ) (columns : List 
 abbrev pub with_rows : Table → List Row → List Var → Table
 with_rows frame rows basic = record frame { rows = rows; basic = basic }
 
--- what a table's rows need so that their coefficients fit 128 bits
+-- conditions on a table's rows under which their coefficients fit 128 bits
 pub record AreRows (table : Table) : Type 0 where
   pub entry_count : All (λ row. length row.a ≡ length table.sizes) table.rows
   pub small : All (λ row. reach table.sizes row < 2 ^ 127) table.rows
@@ -76,7 +77,8 @@ IsNew table counts = (c : ℕ) → c < length table.columns → slice_index_or t
 abbrev pub AreDifferent : List Var → Type 0
 AreDifferent basic = (i j : ℕ) (d : Var) → i < length basic → j < length basic → slice_index_or basic i d ≡ slice_index_or basic j d → i ≡ j
 
--- what holds of the table: it is in order, and `room` has as many rows of the same length, into which a pivot writes
+-- the conditions on a table: it is in order, and `room`, the second list of rows, into which a pivot writes, has as many rows of the same
+-- length
 pub record IsTable (frame : Table) (rows room : List Row) (basic : List Var) : Type 0 where
   pub order : IsInOrder (with_rows frame rows basic)
   pub room_count : length room ≡ length rows

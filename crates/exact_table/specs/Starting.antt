@@ -1,4 +1,5 @@
--- What making the first table returns, and whether the operations of its rows' reaches stay within the width. For `starting` and `table`.
+-- What making the first table returns, and whether the operations of its rows' reaches stay within the width. Used by the modules
+-- `starting` and `table`.
 use Rattle.std.specs.Prelude.{◌≡◌, Result, Ok, Err, List, ℤ}
 use Rattle.define_rows.specs.declared.Pass.{Pass}
 use Rattle.define_rows.specs.Table.{Table}

@@ -154,7 +154,7 @@ fn first_to_enter(frame: &Frame, rows: &[Row], at: usize) -> Option<Var>
     }
 }
 
-// A row that may be left.
+// A row whose basic variable may leave.
 #[derive(Clone, Copy)]
 struct Leaver {
     row: usize,
@@ -164,7 +164,8 @@ struct Leaver {
     basic: Var,
 }
 
-// True if row `one` is left rather than `other`: its ratio of right side to coefficient is less, or equal with an earlier basic variable.
+// True if the basic variable of row `one` leaves rather than that of `other`: its row's ratio of right side to coefficient is less, or the
+// ratios are equal and it is the earlier variable.
 fn goes_before(one: Leaver, other: Leaver) -> bool
     requires side { pos 0 ≤ℤ one.side }
     requires coefficient { pos 0 <ℤ one.coefficient }
@@ -179,7 +180,7 @@ fn goes_before(one: Leaver, other: Leaver) -> bool
     }
 }
 
-// Returns row `row` with what the choice needs of it, if the variable's coefficient in it is positive.
+// Returns what the choice needs to know of row `row`, or None if the variable's coefficient in this row isn't positive.
 fn leaver_at(
     frame: &Frame,
     rows: &[Row],
@@ -209,7 +210,7 @@ fn leaver_at(
     }
 }
 
-// Returns the better of row `row`, if it may be left, and `best`, the best of the rows before it.
+// Returns the better of row `row`, if its basic variable may leave, and `best`, the best of the rows before it.
 fn next_best(
     frame: &Frame,
     rows: &[Row],
@@ -242,7 +243,7 @@ fn next_best(
     }
 }
 
-// Returns the row that is left when the variable enters, if one may be left.
+// Returns the row whose basic variable leaves when the variable enters, if one may leave.
 fn row_to_leave(frame: &Frame, rows: &[Row], basic: &[Var], variable: Var) -> Option<usize>
     requires known { IsKnown frame.now variable }
     requires rows { AreRows (with_rows frame.now rows.now []) }
@@ -260,7 +261,7 @@ fn row_to_leave(frame: &Frame, rows: &[Row], basic: &[Var], variable: Var) -> Op
     }
 }
 
-// Returns the variable that enters: the stage's variable if it isn't basic, else the first in order that may enter.
+// Returns the variable that enters: the stage's variable if it isn't basic, else the first in order that may enter, or None if none may.
 fn entering(frame: &Frame, rows: &[Row], basic: &[Var]) -> Option<Var>
     requires rows { AreRows (with_rows frame.now rows.now []) }
     requires closed { All (λ i. i < length rows.now) frame.now.closed }
@@ -275,7 +276,7 @@ fn entering(frame: &Frame, rows: &[Row], basic: &[Var]) -> Option<Var>
     }
 }
 
-// Returns Bland's choice: the row that is left and the variable that enters, or None if no pivot is chosen.
+// Returns Bland's choice: the row whose basic variable leaves, and the variable that enters; or None if no pivot is chosen.
 pub(crate) fn choose(frame: &Frame, rows: &[Row], basic: &[Var]) -> Option<(usize, Var)>
     requires rows { AreRows (with_rows frame.now rows.now []) }
     requires closed { All (λ i. i < length rows.now) frame.now.closed }

@@ -1,6 +1,6 @@
 //! The exact simplex table of the leximin program, in whole numbers under a width: rows `(b; a_1 .. a_m)` whose greatest common divisor is
 //! 1, Bland's rule, and a pivot that is made whole or stops at the first operation that passes the width. Stands on `frac128`, and on
-//! `define_rows`, which defines the table that the value of a `Table` is. Above: `leximin_run`.
+//! `define_rows`, in whose terms the contracts see a `Table`. Used by `leximin_run`.
 //!
 //! Promises: the calls of `Table`, each exactly the definition's step. All other modules are helpers over numbers and slices.
 #![tactic(auto)]
@@ -22,7 +22,7 @@ use thiserror::Error;
 /// Why a table was not made.
 #[derive(Debug, Drop, Error)]
 pub enum TableStop {
-    /// An operation of the rows' reaches passes the width; this is the first.
+    /// The first operation of the rows' reaches that passes the width.
     #[error("row {} passes the width", .0.row)]
     Pass(Pass),
     /// No memory was left.

@@ -1,5 +1,5 @@
-//! Compares each bundle in `data/` with what `lottery` prints for the pool whose text the bundle holds. A program for the gate. Stands on
-//! `command_shell`, the shell, and on `command_pools`, which has the command. No crate stands on it, and it has no promises.
+//! Compares each bundle in `data/` with what `lottery` prints for the pool that the bundle contains. The gate runs this program. Stands on
+//! `command_shell`, the shell, and on `command_pools`, which has the command. No crate uses this one, and it has no promises.
 #![tactic(auto)]
 
 use command_pools::{Lottery, call_lottery};
@@ -10,7 +10,7 @@ use std::alloc::Global;
 use std::thread::Threads;
 use std::{fs, io};
 
-/// The names of the bundles. Each has the pool of its name in `examples/`.
+/// The names of the bundles. The pool in each is the pool of the same name in `examples/`.
 const NAMES: &[&str] = &["districts", "dropout", "family", "small"];
 
 /// The most bytes that `out` holds, and that `errs` holds.
@@ -28,7 +28,7 @@ fn main(rt: HostRuntime) -> io::Result<()> {
 }
 
 /// Returns the text of a bundle's pool without its last byte: what is between the first line and the line that begins with `total`. Returns
-/// an empty text if there are no such lines.
+/// an empty text if one of these lines is missing.
 fn pool_of(bundle: &str) -> &str {
     bundle
         .split_once('\n')

@@ -1,4 +1,4 @@
--- Common divisors and common multiples of whole numbers of any size. Stands on nothing. `define_rows` and `define_spreads` cite it.
+-- Common divisors and common multiples of whole numbers of any size. Uses no other file. `define_rows` and `define_spreads` use it.
 use Rattle.std.specs.Prelude.{ℕ, zero, suc, ◌*◌, ◌/◌, ◌%◌, max, ◌==◌, ◌&&◌, if◌then◌else◌, Bool, List}
 use Rattle.std.specs.Int.{IsGcd, ◌∣◌}
 use Rattle.std.specs.List.{fold}

@@ -1,6 +1,6 @@
-//! Exact fractions in 128 bits: greatest common divisors, least common multiples, lowest terms and comparison. No call takes memory. Stands
-//! on nothing except std. Used by the exact table (`exact_table`), spreading (`alike`), summaries (`office_reports`), and the run that
-//! makes proofs; `define_rows` and `define_spreads` cite the definitions in `specs/`.
+//! Exact fractions in 128 bits: greatest common divisors, least common multiples, lowest terms and comparison. No call allocates memory.
+//! Stands on nothing except std. Used by the exact table (`exact_table`), spreading (`alike`), summaries (`office_reports`), and the run
+//! that makes proofs; `define_rows` and `define_spreads` use the definitions in `specs/`.
 //!
 //! Promises: `gcd`, `lcm`, `compare`, `lowest` and `Frac`, each by its meaning over whole numbers of any size. The functions without `pub`
 //! are helpers.
@@ -68,7 +68,7 @@ fn common_multiple(x: u128, y: u128, limit: u128) -> Option<u128>
 }
 
 /// Compares the fraction `an / ad` with `bn / bd`, exactly. `an` and `bn` are at least 0, `ad` and `bd` at least 1. No product is formed,
-/// so no such numbers are too large.
+/// so the result is right for all numbers in these ranges, however large.
 pub fn compare(an: i128, ad: i128, bn: i128, bd: i128) -> Ordering
     requires an { pos 0 ≤ℤ an }
     requires ad { pos 0 <ℤ ad }
@@ -85,8 +85,9 @@ pub fn compare(an: i128, ad: i128, bn: i128, bd: i128) -> Ordering
     )
 }
 
-// Compares `an / ad` with `bn / bd` by Euclid's algorithm on both. If the quotients differ, they decide. Else the fractions of divisor over
-// remainder decide, compared the other way round. Two turns at least halve each divisor, so divisors below 2^127 take at most 255 turns.
+// Compares `an / ad` with `bn / bd` by Euclid's algorithm on both. If the quotients differ, they decide. Else the result is that of
+// comparing the fractions of divisor over remainder, the other way round. Two turns at least halve each divisor, so divisors below 2^127
+// take at most 255 turns.
 fn compare_quotients(mut an: u128, mut ad: u128, mut bn: u128, mut bd: u128) -> Ordering
     requires ad { 0 < ad }
     requires bd { 0 < bd }

@@ -124,7 +124,7 @@ range_each P first zero k h l m = absurd (omega arith)
 range_each P first (suc count) k h l m =
     ⊎_elim (λ (e : k ≡ first). subst P (sym e) h.0) (λ (e : k ≢ first). range_each P (first + 1) count k h.1 (omega arith) (omega arith)) (cases_eq k first)
 
--- ---- lists with their numbers
+-- ---- lists whose elements are numbered
 
 pub list_all-enumerated : {X : Type 0} (p : ℕ × X → Bool) (first : ℕ) (xs : List X) (d : X) → ((k : ℕ) → k < length xs → p (first + k, get_or xs k d) ≡ true) → list_all p (enumerate_from first xs) ≡ true
 list_all-enumerated p first [] d f = refl

@@ -1,4 +1,4 @@
--- Lists that are mapped or filtered, and lists with their numbers.
+-- Lists that are mapped or filtered, and lists whose elements are numbered.
 use Rattle.std.proofs.Common.{◌≡◌, ℕ, zero, suc, ◌+◌, ◌<◌, Bool, true, false, cond, List, [], ◌∷◌, ◌++◌, map, filter, length, get_or, slice_get, Some, refl, sym, ap, ap₂, ◌∙◌, arith}
 use Rattle.std.specs.List.{AllByRecursion, enumerate_from, range_with_len}
 use Rattle.std.specs.Prelude.{count_by}

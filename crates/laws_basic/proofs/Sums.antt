@@ -59,7 +59,7 @@ total-filter f p (x ∷ xs) =
 abbrev pub one_if : Bool → ℕ
 one_if b = cond b 1 0
 
--- the number of elements that pass a test is the sum of 1 for each that passes and 0 for each other one
+-- the number of elements that pass a test is the sum over all elements of 1 if the element passes, else 0
 pub length-filter-total : {X : Type 0} (p : X → Bool) (xs : List X) → length (filter p xs) ≡ total (λ x. one_if (p x)) xs
 length-filter-total p [] = refl
 length-filter-total p (x ∷ xs) =

@@ -1,4 +1,4 @@
--- Tests, and what follows from their results.
+-- Laws of Boolean tests: of `not a || b`, and of a comparison if one is added on both sides.
 use Rattle.std.proofs.Common.{◌≡◌, ℕ, suc, ◌+◌, Bool, true, false, not, ◌||◌, ltb, refl, arith}
 use Rattle.std.proofs.lemmas.Bool.{false≢true}
 use Rattle.std.proofs.lemmas.Bool.Decides.{nat_tests}

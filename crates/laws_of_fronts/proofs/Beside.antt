@@ -44,7 +44,8 @@ get_pushed (z ∷ zs) x y (suc i) e = elim (get_pushed zs x y i e) [
   | inr h ↦ inr (omega (arith, h.0), h.1)
 ]
 
--- If `ys` has elements for the first `done` of `xs`, and gets one for the next, it has elements for the first `done + 1`.
+-- If `FirstHave` holds of the first `done` elements, and P holds of the next element `x` of `xs` and `y`, it holds of the first `done + 1`
+-- once `y` is appended to `ys`.
 pub first_more : {X Y : Type 0} {P : X → Y → Type 0} (xs : List X) (done : ℕ) (ys : List Y) (x : X) (y : Y) → FirstHave P xs done ys → slice_get xs done ≡ Some x → P x y → FirstHave P xs (done + 1) (ys ++ y ∷ [])
 first_more {P = P} xs done ys x y to here has = record {
   long = omega (arith, to.long, length-append ys (y ∷ []));

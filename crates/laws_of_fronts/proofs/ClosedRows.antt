@@ -11,14 +11,16 @@ use Rattle.laws_of_fronts.specs.Weights.{Weighs, WeighEach}
 use Rattle.laws_of_fronts.proofs.Beside.{get_set_other, get_set_same, same_at}
 use Rattle.laws_of_fronts.proofs.WeightLaws.{weighs_back, weighs_front}
 
--- The first `done` rows have the child's weights, and the child attains them. The other rows have the front's weights.
+-- The first `done` rows have the child's weights, and the child's optimistic weight in each is at least the row's right side. The other
+-- rows have the front's weights.
 pub record WeighedTo {W : Type 0} (read : W → List ℤ) (all : Classes) (rows : List Row) (front : List ℕ) (count done : ℕ) (weighings : List W) : Type 0 where
   pub same : length weighings ≡ length rows
   pub child : (i : ℕ) (row : Row) (weighing : W) → i < done → slice_get rows i ≡ Some row → slice_get weighings i ≡ Some weighing → Weighs all row (front ++ count ∷ []) (read weighing)
   pub attained : (i : ℕ) (row : Row) → i < done → slice_get rows i ≡ Some row → int_le row.b (optimistic all row (front ++ count ∷ [])) ≡ true
   pub rest : (i : ℕ) (row : Row) (weighing : W) → done ≤ i → slice_get rows i ≡ Some row → slice_get weighings i ≡ Some weighing → Weighs all row front (read weighing)
 
--- If the next row gets the child's weights, and the child attains it, then `done + 1` rows have them.
+-- If the next row gets the child's weights, and the child's optimistic weight in it is at least its right side, `WeighedTo` holds with
+-- `done + 1`.
 pub weighed_next : {W : Type 0} {read : W → List ℤ} (all : Classes) (rows : List Row) (front : List ℕ) (count done : ℕ) (weighings : List W) (row : Row) (weighing : W) → WeighedTo read all rows front count done weighings → slice_get rows done ≡ Some row →
     Weighs all row (front ++ count ∷ []) (read weighing) → int_le row.b (optimistic all row (front ++ count ∷ [])) ≡ true → WeighedTo read all rows front count (done + 1) (set weighings done weighing)
 weighed_next {W} {read} all rows front count done weighings row weighing to at weighs attains = record {
@@ -58,7 +60,7 @@ still_weighed {W} {read} all rows front count done weighings to = record {
       ]) refl;
 }
 
--- If row `done` gets the child's weights, whether or not the child attains it, each row still has the front's weights.
+-- If row `done` gets the child's weights, whatever the child's optimistic weight in it is, each row still has the front's weights.
 pub weighed_at : {W : Type 0} {read : W → List ℤ} (all : Classes) (rows : List Row) (front : List ℕ) (count done : ℕ) (weighings : List W) (row : Row) (weighing : W) → WeighEach read all rows front weighings → slice_get rows done ≡ Some row →
     Weighs all row (front ++ count ∷ []) (read weighing) → WeighEach read all rows front (set weighings done weighing)
 weighed_at {W} {read} all rows front count done weighings row weighing each at weighs = record {

@@ -1,4 +1,4 @@
--- A front as the first counts of a longer list, a child of it there, and how much the next class can give.
+-- A front as the first counts of a longer list, a child of the front in the same list, and how many members the next class can give.
 use Rattle.std.proofs.Common.{◌≡◌, ℕ, zero, suc, ◌+◌, ◌≤◌, ◌<◌, true, false, ltb, List, [], ◌∷◌, ◌++◌, length, take, drop, set, map, get_or, Some, refl, sym, ap, ◌∙◌, arith, subst, length-append}
 use Rattle.std.specs.Prelude.{slice_get, slice_index}
 use Rattle.std.proofs.Math.Seq.{take-length}
@@ -64,7 +64,7 @@ child_tracks all depth count items counts tally e f le tracks =
     subst (λ n. Tracks all (take depth counts ++ count ∷ []) (drop (n + 1) all.classes) tally) size
     (subst (λ xs. Tracks all (take depth xs ++ count ∷ []) (drop (length (take depth xs) + 1) all.classes) tally) e tracks)
 
--- ---- the next class
+-- ---- the next class, and how many members it can give
 
 pub place_is : (all : Classes) (depth : ℕ) (class : Class) → Stands all depth class → slice_get all.classes depth ≡ Some class
 place_is all depth class stands = slice_get-get_or all.classes depth class stands.below ∙ ap Some (sym stands.is)

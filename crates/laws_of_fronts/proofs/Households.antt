@@ -1,4 +1,4 @@
--- Whether at most one member is taken of each household.
+-- Laws on the rule that at most one member is taken of each household.
 use Rattle.std.proofs.Common.{◌≡◌, ℕ, ◌+◌, ◌≤◌, Bool, true, false, cond, eqb, leb, List, [], ◌∷◌, ◌++◌, length, Option, Some, None, refl, sym, ap, ◌∙◌, arith, subst}
 use Rattle.std.specs.Prelude.{slice_index}
 use Rattle.std.proofs.lemmas.Bool.{eqb-true, eq-eqb, false≢true, false_from_ne_true}
@@ -51,7 +51,7 @@ module _ (all : Classes) (front : List ℕ) (class : Class) (count : ℕ) (rest 
   abbrev of : ℕ → Class → Bool
   of h class = is_of_household h class.household
 
-  -- the child takes `count` more members of household `h` than the front if the class is of household `h`, and else as many
+  -- the child takes `count` more members of household `h` than the front if the class is of household `h`, else as many as the front
   more_of : (h : ℕ) → taken_of (of h) all.classes (front ++ count ∷ []) ≡ taken_of (of h) all.classes front + cond (is_of_household h class.household) count 0
   more_of h = taken_more all front class count stands (of h)
 

@@ -111,7 +111,7 @@ pub decided : (b : Bool) (A B : Type 0) (s : Bool) → (b ≡ true → A) → (b
 decided true A B s f g h k = sym (h (f refl))
 decided false A B s f g h k = sym (k (g refl))
 
--- ---- a front
+-- ---- whether size and values are within reach of a front
 
 front_reach : (all : Classes) (front : List ℕ) (tally : FrontTally) → Tracks all front (drop (length front) all.classes) tally → (c v : ℕ) (bound : Bounds) → c < length all.bounds → v < 50 →
     value_reachable all front c (v, bound) ≡ reaches bound tally.held tally.later 0 c v

@@ -1,4 +1,4 @@
--- Classes that code makes of the right size, bounds and list are the classes of the pool.
+-- If code makes classes with the size, the bounds and the list of classes of a pool, they are the classes of the pool.
 use Rattle.std.proofs.Common.{◌≡◌, ℕ, Bool, List, map, length, sym, ap, ◌∙◌, subst}
 use Rattle.define_pools.specs.Pool.{Pool, IsPool}
 use Rattle.define_searches.specs.declared.Bounds.{Bounds}

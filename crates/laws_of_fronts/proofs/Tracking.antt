@@ -1,4 +1,4 @@
--- A tally stays right for its front when a class begins or ends and when members of it are taken or given back.
+-- A tally stays right for its front when the search comes to a class or leaves it, and when members of the class are taken or given back.
 use Rattle.std.proofs.Common.{◌≡◌, ℕ, ◌+◌, ◌*◌, ◌≤◌, ◌<◌, Bool, true, false, cond, ◌&&◌, List, [], ◌∷◌, ◌++◌, length, sum_by, take, drop, get_or, replicate, refl, sym, ap, ◌∙◌, arith, subst}
 use Rattle.std.specs.Prelude.{slice_index, slice_index_or}
 use Rattle.std.specs.List.{AllByRecursion}
@@ -16,7 +16,7 @@ use Rattle.laws_of_fronts.specs.Tallies.{cell, HaveCells, CanGive, AreAtMost, Ha
 use Rattle.laws_of_fronts.specs.Front.{FrontTally, Gives, Tracks, Stands}
 use Rattle.laws_of_fronts.specs.Homes.{HasMoreAt}
 
--- ---- classes
+-- ---- a class: its place, its limits and its cells
 
 pub comes_next : (all : Classes) (i : ℕ) (class : Class) → Stands all i class → drop i all.classes ≡ class ∷ drop (i + 1) all.classes
 comes_next all i class stands = drop_more all.classes i class stands.below ∙ ap (λ (c : Class). c ∷ drop (i + 1) all.classes) (sym stands.is)
@@ -44,7 +44,7 @@ cells_of_class all class cells limits places size = record {
 pub bounds_of_class : (all : Classes) (class : Class) → HasPlaces all.bounds class → HaveBounds all.bounds class.values
 bounds_of_class all class places = record { one_each = places.one_each; within = λ c below. places.within c (omega (arith, places.one_each)) }
 
--- ---- sums
+-- ---- sums over the classes that pass a test
 
 pub most_more : (p : Class → Bool) (class : Class) (rest : List Class) → most_given p (class ∷ rest) ≡ cond (p class) class.most 0 + most_given p rest
 most_more p class rest =
@@ -86,8 +86,8 @@ few_taken all front p limits live =
 pub split_at : (all : Classes) (front : List ℕ) → length front ≤ length all.classes → Split all (take (length front) all.classes) (drop (length front) all.classes) front
 split_at all front few = record { whole = sym (take-append-drop (length front) all.classes); fits = sym (length-take-le (length front) all.classes few) }
 
--- If a front takes `count` of the next class, it takes `count` more members of classes that satisfy `p` if the next class does, and else no
--- more.
+-- If `count` members of the next class are added to a front, it takes `count` more members of classes that satisfy `p` if the next class
+-- satisfies `p`, else no more.
 pub taken_more : (all : Classes) (front : List ℕ) (class : Class) (count : ℕ) → Stands all (length front) class → (p : Class → Bool) →
     taken_of p all.classes (front ++ count ∷ []) ≡ taken_of p all.classes front + cond (p class) count 0
 taken_more all front class count stands p =
@@ -99,7 +99,8 @@ taken_more all front class count stands p =
 
 -- ---- steps of a tally
 
--- If a class begins, its most is subtracted from what the later classes give, and the tally is right for the classes after it.
+-- If the search comes to a class, its `most` is subtracted from what the later classes can give. The tally is then right for the front with
+-- only the classes after this one still to come.
 pub begun : (all : Classes) (front : List ℕ) (class : Class) (rest : List Class) (before after : FrontTally) → HasPlaces all.bounds class → Tracks all front (class ∷ rest) before →
     after.taken ≡ before.taken → after.held ≡ before.held → after.later_taken + class.most ≡ before.later_taken → HasMore class.values class.most after.later before.later →
     after.homes ≡ before.homes → Tracks all front rest after
@@ -114,7 +115,8 @@ begun all front class rest before after places tracks e f g more homes = record 
   later = λ c v a b. omega (arith, more.cells c v (omega (arith, places.one_each)) b, tracks.later c v a b, most_more (has_value c v) class rest);
 }
 
--- If a class ends, its most is added to what the later classes give, and the tally is right with the class to come.
+-- If the search leaves a class, its `most` is added to what the later classes can give. The tally is then right for the front with this
+-- class still to come.
 pub ended : (all : Classes) (front : List ℕ) (class : Class) (rest : List Class) (before after : FrontTally) → HasPlaces all.bounds class → Tracks all front rest before →
     after.taken ≡ before.taken → after.held ≡ before.held → after.later_taken ≡ before.later_taken + class.most → HasMore class.values class.most before.later after.later →
     after.homes ≡ before.homes → Tracks all front (class ∷ rest) after
@@ -159,7 +161,7 @@ given_back all front class count rest before after places stands tracks e f g mo
   later = λ c v a b. ap (λ cells. slice_index cells (cell c v)) f ∙ tracks.later c v a b;
 }
 
--- ---- what the tallies of values need
+-- ---- what the calls on the tallies require
 
 pub most_small : (all : Classes) (i : ℕ) (p : Class → Bool) → KeepsLimits all → most_given p (drop i all.classes) ≤ 400
 most_small all i p limits =
@@ -185,7 +187,7 @@ zero_cells n categories cells e room = λ c v a b.
     let is : slice_index cells (cell c v) ≡ 0 = ap (λ cells. slice_index cells (cell c v)) e ∙ get_or-replicate n (cell c v) 0 0 below in
     omega arith
 
--- A tally in which nothing is taken and all classes come later is right for the empty front.
+-- A tally in which no member is taken and all classes are still to come is right for the empty front.
 pub starts : (all : Classes) (cells : List ℕ) (tally : FrontTally) → tally.taken ≡ 0 → AreAtMost 0 (length all.bounds) tally.held → length tally.held ≡ 50 * length all.bounds →
     tally.later ≡ cells → Gives all all.classes tally.later_taken cells → (n : ℕ) → n ≡ volunteer_count all → tally.homes ≡ replicate n 0 → Tracks all [] all.classes tally
 starts all cells tally e none room f gives n count homes = record {
@@ -211,7 +213,7 @@ few_held all front rest n tally limits e live tracks = small_held all front rest
 pub own_value : (class : Class) (c : ℕ) → has_value c (slice_index class.values c) class ≡ true
 own_value class c = eq-eqb (slice_index class.values c) (slice_index class.values c) refl
 
--- If a class is still to come, its most is counted in the cells of its values, so it can be subtracted.
+-- If a class is still to come, its `most` is counted in the cells of its values, so it can be subtracted.
 pub can_leave : (all : Classes) (front : List ℕ) (class : Class) (rest : List Class) (tally : FrontTally) → KeepsLimits all → HasPlaces all.bounds class → Tracks all front (class ∷ rest) tally → CanGive class.values tally.later class.most
 can_leave all front class rest tally limits places tracks c below =
     let v = slice_index class.values c in

@@ -22,7 +22,7 @@ use Rattle.laws_of_fronts.specs.Front.{Stands}
 use Rattle.laws_of_fronts.specs.Weights.{cell_of, HoldsSums, IsGreater, HasUnit, AreGreatest, AreNarrow, at, units_from}
 use Rattle.laws_of_fronts.proofs.Tracking.{comes_next, most_more, most_small}
 
--- ---- sums
+-- ---- the sum of a list with one more number
 
 fold_from : (s : ℤ) (xs : List ℤ) → fold (λ total x. total +ℤ x) s xs ≡ s +ℤ sum_of xs
 fold_from s [] = omega (arith, ints)
@@ -227,7 +227,7 @@ units_count (class ∷ classes) (x ∷ entries) =
 pub units_few : (all : Classes) (entries : List ℤ) (place : ℕ) → KeepsLimits all → length (units_from all entries place) ≤ 400
 units_few all entries place limits = omega (arith, units_count (drop place all.classes) (drop place entries), most_small all place (λ class. true) limits)
 
--- ---- the table
+-- ---- the table of greatest sums
 
 pub greatest_same : (all : Classes) (entries : List ℤ) (p q : ℕ) (before after : List ℤ) → p ≡ q → after ≡ before → AreGreatest (units_from all entries p) before → AreGreatest (units_from all entries q) after
 greatest_same all entries p q before after e f greatest =

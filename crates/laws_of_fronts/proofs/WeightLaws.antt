@@ -101,8 +101,8 @@ optimistic_child all row front count lack narrow below f =
 pub weight_fits : (x : ℤ) (count : ℕ) (a : ℤ) → unsigned_abs (x +ℤ pos count *ℤ a) ≤ unsigned_abs x + count * unsigned_abs a
 weight_fits x count a = abs_sum_le x (pos count *ℤ a) (unsigned_abs x) (count * unsigned_abs a) (omega arith) (omega (arith, unsigned_abs-mul (pos count) a))
 
--- `made` is a child's weight and `greatest` the greatest sum of the units that it lacks, so that both sum to its optimistic weight, within
--- 128 bits.
+-- `made` is a child's weight, and `greatest` the greatest sum of as many units as the child lacks members. Together they are the child's
+-- optimistic weight, which fits 128 bits.
 pub record IsChild (all : Classes) (row : Row) (front : List ℕ) (count : ℕ) (made greatest : ℤ) : Type 0 where
   pub weight : made ≡ weight_in row.a front +ℤ pos count *ℤ at row.a (length front)
   pub narrow : unsigned_abs (made +ℤ greatest) < 2 ^ 127
@@ -225,7 +225,7 @@ element_at [] i l = absurd (omega arith)
 element_at (x ∷ xs) zero l = (x, refl)
 element_at (x ∷ xs) (suc i) l = element_at xs i (omega arith)
 
--- If a front takes `count` of the next class, it takes `count` members more.
+-- If `count` members of the next class are added to a front, it takes `count` more members.
 pub taken_next : (all : Classes) (front : List ℕ) (count : ℕ) → length front < length all.classes → taken_by all (front ++ count ∷ []) ≡ taken_by all front + count
 taken_next all front count below =
     let class = element_at all.classes (length front) below in

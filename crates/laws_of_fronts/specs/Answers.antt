@@ -1,5 +1,5 @@
--- The answer of a search that doesn't run out of memory. Over Visits. Both searches have answers of their own, with want of memory, over
--- it.
+-- The answer of a search that doesn't run out of memory. Builds on Visits of `define_searches`. `panel_search` and `check_search` use it to
+-- define their own answers, which may also be that memory ran out.
 use Rattle.std.specs.Prelude.{◌≡◌, ◌≤◌, ◌<◌, ℕ, List, Option, Result, Ok, Err}
 use Rattle.define_searches.specs.Visits.{Search}
 

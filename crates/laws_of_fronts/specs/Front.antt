@@ -1,4 +1,4 @@
--- What a search counts at the front that it has entered. Over Tallies and Homes.
+-- What a search counts at the front that it has entered. Builds on Tallies, and on Fronts of `define_searches`.
 use Rattle.std.specs.Prelude.{◌≡◌, ℕ, ◌*◌, ◌≤◌, ◌<◌, true, List, length, slice_index, slice_get, get_or, Some}
 use Rattle.define_searches.specs.Classes.{Class, Classes, volunteer_count}
 use Rattle.define_searches.specs.Compositions.{taken_of, has_value, is_of_household}

@@ -1,4 +1,4 @@
--- Counters for households: how many members are taken of each. Both searches keep them.
+-- Counters for households: how many members are taken of each. `panel_search`, `check_search` and `quota_loosen` keep them.
 use Rattle.std.specs.Prelude.{◌≡◌, ℕ, ◌+◌, ◌≤◌, ◌<◌, nat_le, if◌then◌else◌, Bool, true, List, length, slice_index, Option, Some, None}
 use Rattle.define_searches.specs.Compositions.{is_of_household}
 

@@ -1,4 +1,5 @@
--- Counters for values: 50 cells for each category, one for each of its values. Both searches keep them.
+-- Counters for values: 50 cells for each category, so that each of its values, of which there are at most 50, has one. `panel_search`,
+-- `check_search` and `quota_loosen` keep them.
 use Rattle.std.specs.Prelude.{◌≡◌, ℕ, ◌+◌, ◌*◌, ◌≤◌, ◌<◌, ◌==◌, nat_le, if◌then◌else◌, Bool, false, IsTrue, ◌&&◌, List, [], length, slice_index, slice_index_or, slice_get, Some}
 use Rattle.define_searches.specs.declared.Bounds.{Bounds}
 

@@ -1,4 +1,5 @@
--- The greatest sums of units in a row, and what fronts weigh in it. Over Fronts. Both searches keep them as tables.
+-- The greatest sums of units in a row, and the weights of fronts in it. Builds on Fronts of `define_searches`. `panel_search` and
+-- `check_search` keep both as tables.
 use Rattle.std.specs.Prelude.{◌≡◌, ℕ, ◌+◌, ◌*◌, ◌^◌, ◌≤◌, ◌<◌, List, length, drop, take, ℤ, pos, ◌+ℤ◌, unsigned_abs, slice_index_or, slice_get, Some}
 use Rattle.std.specs.Int.{int_max}
 use Rattle.laws_of_fronts.specs.Beside.{EachHas}
@@ -44,29 +45,30 @@ units_from all entries place = units (drop place all.classes) (drop place entrie
 abbrev pub cell_of : Classes → ℕ → ℕ → ℕ
 cell_of all later count = later * (all.size + 1) + count
 
--- the table has `lines` lines, the greatest sums for the last 0, 1, 2 and more classes, each for 0 units up to the size
+-- the table has `lines` lines. Line `later` has the greatest sums of the units of the last `later` classes: those of 0, 1, 2 and more
+-- units, up to the size
 pub record HoldsSums (all : Classes) (entries : List ℤ) (lines : ℕ) (table : List ℤ) : Type 0 where
   pub room : length table ≡ lines * (all.size + 1)
   pub each : (later place count : ℕ) → later < lines → later + place ≡ length all.classes → count ≤ all.size →
       at table (cell_of all later count) ≡ greatest_sum count (drop place all.classes) (drop place entries)
 
--- the table has all the greatest sums in a row
+-- the table has all greatest sums over the row's entries: a line for each number of last classes, from 0 to all classes
 abbrev pub IsSummed : Classes → Row → List ℤ → Type 0
 IsSummed all row sums = HoldsSums all row.a (length all.classes + 1) sums
 
--- each row has an element of `sums`, in order, whose table (by `read`) has all the greatest sums in that row
+-- `sums` has an element for each row, in order; `read` of the element is the table of all the greatest sums in that row
 abbrev pub SumEach : {S : Type 0} → (S → List ℤ) → Classes → List Row → List S → Type 0
 SumEach read all rows sums = EachHas (λ row here. IsSummed all row (read here)) rows sums
 
--- `weights` has, by length, the weight in a row of the front and of each front that it begins with
+-- at each place `depth` up to the length of the front, `weights` has the weight in a row of the first `depth` counts of the front
 pub record Weighs (all : Classes) (row : Row) (front : List ℕ) (weights : List ℤ) : Type 0 where
   pub room : length weights ≡ length all.classes + 1
   pub each : (depth : ℕ) → depth ≤ length front → at weights depth ≡ weight_in row.a (take depth front)
 
--- each row has an element of `weights`, in order, whose list (by `read`) has the weights in that row, as `Weighs` says
+-- `weights` has an element for each row, in order; `read` of the element is the list of weights in that row, as `Weighs` says
 abbrev pub WeighEach : {W : Type 0} → (W → List ℤ) → Classes → List Row → List ℕ → List W → Type 0
 WeighEach read all rows front weights = EachHas (λ row here. Weighs all row front (read here)) rows weights
 
--- the entries of each of the rows are narrow
+-- `AreNarrow` holds of the entries of each of the rows
 abbrev pub EachNarrow : Classes → List Row → Type 0
 EachNarrow all rows = (i : ℕ) (row : Row) → slice_get rows i ≡ Some row → AreNarrow all row.a

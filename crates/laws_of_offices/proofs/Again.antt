@@ -20,7 +20,7 @@ use Rattle.laws_of_offices.proofs.Repeats.{draw_again, drop_again, next_again, s
 use Rattle.laws_of_offices.proofs.RowsAgain.{register_again, withdraw_again}
 use Rattle.laws_of_offices.proofs.Steps.{comes_keeps, proof_settles, solve_settles, through_keeps}
 
--- ---- at once: charter and rules
+-- ---- a charter or rules given again at once
 
 same_bytes : (xs : List ℕ) → bytes_eq xs xs ≡ true
 same_bytes xs = (bytes_eq-Decides xs xs).1 refl
@@ -39,7 +39,7 @@ pub same_rules_itself : (rules : List Category) → same_rules rules rules ≡ t
 same_rules_itself [] = refl
 same_rules_itself (category ∷ rules) = rw (same_bytes category.name, same_values_itself category.values, same_rules_itself rules) refl
 
--- a reply to a charter makes no change if the charter is kept already, else `change`
+-- a reply to a charter comes with no change if the tables have this charter already, else with `change`
 pub set_or_same : (kept enrolling : Bool) (change : Change) (same set : Reply) (late : Refusal) (answer : Option Change) (reply : Reply) →
     cond kept (Replies None same) (cond enrolling (Replies (Some change) set) (Refuses late)) ≡ Replies answer reply → (kept ≡ true → answer ≡ None) × (kept ≡ false → answer ≡ Some change)
 set_or_same true enrolling change same set late answer reply h = (λ _. cc, λ e. absurd (false≢true (sym e)))
@@ -61,7 +61,7 @@ charter_again tables charter change reply (AtOnce h) =
     let kept = charter_kept tables charter change reply (is_charter_kept tables.charter charter) refl (cc) in rw kept refl
 charter_again tables charter change reply (ByRun number limits pool ending same needs ends is) = absurd (cc)
 
--- a reply to rules makes no change if they are kept already, else `change`
+-- a reply to rules comes with no change if the tables have these rules already, else with `change`
 pub rules_set_or_same : (kept enrolling fit : Bool) (change : Change) (same set : Reply) (late other : Refusal) (answer : Option Change) (reply : Reply) →
     cond kept (Replies None same) (cond (not enrolling) (Refuses late) (cond fit (Replies (Some change) set) (Refuses other))) ≡ Replies answer reply → (kept ≡ true → answer ≡ None) × (kept ≡ false → answer ≡ Some change)
 rules_set_or_same true enrolling fit change same set late other answer reply h = (λ _. cc, λ e. absurd (false≢true (sym e)))
@@ -84,7 +84,7 @@ rules_again tables rules change reply (AtOnce h) =
     let kept = rules_kept tables rules change reply (are_rules_kept tables.rules rules) refl (cc) in rw kept refl
 rules_again tables rules change reply (ByRun number limits pool ending same needs ends is) = absurd (cc)
 
--- ---- at any later time
+-- ---- any other command given again at any later time
 
 pub show_changes_nothing : (tables : Tables) (found : Option Round) (change : Change) (reply : Reply) → show_in tables found ≡ Replies (Some change) reply → ⊥
 show_changes_nothing tables None change reply h = cc

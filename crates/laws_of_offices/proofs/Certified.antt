@@ -120,7 +120,7 @@ stays_solves (Refuses refusal) stays = refl
 stays_solves (Stops ending) stays = refl
 stays_solves (Unproved refusal) stays = refl
 
--- true of each command except `Keep`. A proof alone may bring a bundle without a run
+-- true of each command except `Keep`: only a proof that is kept may bring a bundle into the tables without a run
 abbrev BringsNone : Command → Type 0
 BringsNone (SetCharter charter) = Unit {0}
 BringsNone (SetRules rules) = Unit {0}

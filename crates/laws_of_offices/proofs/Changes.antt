@@ -25,7 +25,7 @@ KeepsRound-in old new same (Drawn bundle digits dropped) kept =
     let k = kept.0 in
     (record { charter = same.charter k.charter; rules = same.rules k.rules; is_bundle = k.is_bundle; total_agrees = k.total_agrees; same_ids = k.same_ids ∙ same.ids }, kept.1)
 
--- ---- while rows are enrolled
+-- ---- the rounds while rows are enrolled
 
 pub enrolling_rounds : (rounds : List Round) → is_enrolling rounds ≡ true → rounds ≡ Open ∷ []
 enrolling_rounds [] h = absurd (false≢true h)
@@ -43,7 +43,7 @@ one_open tables (suc place) round h = absurd (cc)
 pub open_rounds : (tables : Tables) → is_enrolling tables.rounds ≡ true → (place : ℕ) (round : Round) → round_at tables.rounds place ≡ Some round → KeepsRound tables round
 open_rounds tables enrolling place round h = one_open tables place round (subst (λ rounds. round_at rounds place ≡ Some round) (enrolling_rounds tables.rounds enrolling) h)
 
--- ---- another list of rounds
+-- ---- tables with another list of rounds
 
 pub with_rounds : (tables : Tables) (rounds : List Round) → IsTables tables → closed_but_last rounds ≡ true →
     ((place : ℕ) (round : Round) → round_at rounds place ≡ Some round → KeepsRound tables round) → IsTables (record tables { rounds = rounds })
@@ -59,7 +59,8 @@ with_rounds tables rounds keeps closed each = record {
   rounds = λ place round at. KeepsRound-in tables (record tables { rounds = rounds }) (record { charter = λ h. h; rules = λ h. h; ids = refl }) round (each place round at);
 }
 
--- if a change keeps dropouts, and `KeepsRound` holds of the changed round, the facts hold of the tables with this round changed
+-- if the facts hold of tables, a change of a round keeps dropouts, and `KeepsRound` holds of the changed round, then the facts hold of the
+-- tables with this round changed
 module _ (tables : Tables) (keeps : IsTables tables) (change : Round → Round) (drops : (round : Round) → has_drop round ≡ true → has_drop (change round) ≡ true) where
   changed_place : (place : ℕ) → ((old : Round) → round_at tables.rounds place ≡ Some old → KeepsRound tables (change old)) →
       IsTables (record tables { rounds = changed_at change tables.rounds place })

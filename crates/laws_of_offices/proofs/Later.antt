@@ -1,4 +1,4 @@
--- What later tables keep of earlier ones, after any commands.
+-- What later tables still have of earlier ones, whatever commands come between.
 use Rattle.std.proofs.Common.{◌≡◌, ℕ, zero, suc, true, List, [], ◌∷◌, ◌++◌, Some, None, refl, sym, ap, ◌∙◌, subst}
 use Rattle.std.proofs.lemmas.List.{append_assoc, append-nil}
 use Rattle.define_bundles.specs.BundleText.{Bundle}
@@ -6,7 +6,7 @@ use Rattle.define_offices.specs.Tables.{Entry, Round, Open, Solved, Sealed, Draw
 use Rattle.define_offices.specs.Commands.{Command, Change, CharterSet, RulesSet, Added, SolvedWith, SealTold, DrawnWith, DroppedOut, Begun, Withdrawn, Outcome, Replies, Refuses, Stops, Unproved}
 use Rattle.define_offices.specs.Steps.{LeadThrough, apply, drawn_by, dropped_out, seal_told, solved_with, tables_after, withdrawn_at}
 
--- ---- rounds
+-- ---- rounds in later tables
 
 -- `Grows round later`: later tables may have `later` in the place of `round`
 pub data Grows : Round → Round → Type 0 where
@@ -90,7 +90,7 @@ pushed_grow (first ∷ rounds) last zero round at = record { next = round; there
 pushed_grow (first ∷ rounds) last (suc place) round at =
     let later = pushed_grow rounds last place round at in record { next = later.next; there = later.there; grows = later.grows }
 
--- ---- rows
+-- ---- rows in later tables
 
 -- the later row `other` is the row `one`, except that its volunteer may have withdrawn since
 pub record IsSameRow (one other : Entry) : Type 0 where
@@ -130,7 +130,7 @@ withdrawn_stay [] place = tt
 withdrawn_stay (entry ∷ register) zero = (record { id = refl; hash = refl; values = refl; household = refl; withdrawn = λ h. refl }, rows_stay register)
 withdrawn_stay (entry ∷ register) (suc place) = (same_row entry, withdrawn_stay register place)
 
--- ---- tables
+-- ---- later tables as a whole
 
 pub record Extends (old new : Tables) : Type 0 where
   pub rounds : RoundsGrow old.rounds new.rounds

@@ -1,4 +1,4 @@
--- If a reply comes with a change, the tables differ after it.
+-- If a command's reply comes with a change, this change alters the tables.
 use Rattle.std.proofs.Common.{◌≡◌, ◌≢◌, ℕ, zero, suc, ◌+◌, Bool, true, false, cond, eqb, not, ◌&&◌, List, [], ◌∷◌, ◌++◌, length, Option, Some, None, Result, Ok, Err, refl, sym, ap, ◌∙◌, arith, subst, length-append}
 use Rattle.std.specs.List.{list_all}
 use Rattle.std.specs.Str.{bytes_eq}
@@ -26,7 +26,7 @@ use Rattle.laws_of_offices.proofs.Steps.{Answers, Leaves, Settles, proof_settles
 longer : {A : Type 0} (xs : List A) (x : A) (more : List A) → xs ++ x ∷ more ≡ xs → ⊥
 longer xs x more same = let n = length-append xs (x ∷ more) in let e = ap length same in omega arith
 
--- ---- rounds
+-- ---- if a round changes, the list of rounds changes
 
 -- if `change` alters the round with `number`, it alters the list of rounds
 round_changes : (change : Round → Round) (rounds : List Round) (number : ℕ) (round : Round) → named_round rounds number ≡ Some round → (change round ≡ round → ⊥) → changed_named change rounds number ≡ rounds → ⊥
@@ -35,7 +35,7 @@ round_changes change rounds number round at differs same =
     let back : named_round (changed_named change rounds number) number ≡ Some round = ap (λ rs. named_round rs number) same ∙ at in
     differs (let e : Some (change round) ≡ Some round = sym there ∙ back in cc)
 
--- ---- each command
+-- ---- each command's change alters the tables
 
 module _ (tables : Tables) (change : Change) (reply : Reply) where
   charter_changes : (charter : Charter) (kept : Bool) → is_charter_kept tables.charter charter ≡ kept → decide_charter tables charter ≡ Replies (Some change) reply → apply tables change ≡ tables → ⊥

@@ -82,7 +82,7 @@ module _ (tables : Tables) (keeps : IsTables tables) where
       let rest = same_known kept rules parts.1 names in
       (rw (values, rest.0) refl, ap suc rest.1)
 
-  -- categories with the same names of values fit the same rows
+  -- lists with the same names of categories and values, in the same order, fit the same rows
   fits_as : (kept rules : List Category) → same_shape kept rules ≡ true → (register : List Entry) → list_all (λ (e : Entry). fits_rules kept e.values) register ≡ true →
       list_all (λ (e : Entry). fits_rules rules e.values) register ≡ true
   fits_as kept rules shape [] h = refl

@@ -1,4 +1,4 @@
--- If a command made a change, it changes nothing when it is given again after any other commands.
+-- If a command other than a charter or rules made a change, it changes nothing when it is given again after any other commands.
 use Rattle.std.proofs.Common.{◌≡◌, ℕ, zero, suc, ◌+◌, ◌<◌, Bool, true, false, cond, eqb, not, List, [], ◌∷◌, ◌++◌, length, Option, Some, None, Result, Ok, Err, refl, sym, ap, ◌∙◌, arith, subst}
 use Rattle.std.specs.Str.{bytes_eq}
 use Rattle.std.proofs.lemmas.Bool.{eqb-true}
@@ -47,12 +47,12 @@ pub named_there : (change : Round → Round) (rounds : List Round) (number : ℕ
 named_there change rounds zero round at = absurd (cc)
 named_there change rounds (suc place) round at = changed_there change rounds place round at
 
--- in later tables, the round that was changed has grown from the changed round
+-- if `change` was made of the round with `number`, the round with this number in later tables has grown from the changed round
 goes_on : (change : Round → Round) (rounds new : List Round) (number : ℕ) (round : Round) → named_round rounds number ≡ Some round → RoundsGrow (changed_named change rounds number) new → GoesOn new number (change round)
 goes_on change rounds new number round at grow = named_goes_on (changed_named change rounds number) new grow number (change round) (named_there change rounds number round at)
 
 module _ (before later : Tables) where
-  -- ---- seal
+  -- ---- a seal again
 
   sealed_tells : {bundle : Bundle} {next : Round} → Grows (Sealed bundle) next → (number : ℕ) → seal_in later number (Some next) ≡ tells (seal_line bundle)
   sealed_tells (StaysSealed bundle) number = refl
@@ -70,7 +70,7 @@ module _ (before later : Tables) where
   seal_again number change reply (Some (Sealed bundle)) at h grow = absurd (cc)
   seal_again number change reply (Some (Drawn bundle digits dropped)) at h grow = absurd (cc)
 
-  -- ---- solve
+  -- ---- a solve or a proof again
 
   solved_tells : {bundle : Bundle} {next : Round} → Grows (Solved bundle) next → (number : ℕ) → solve_in later number (Some next) ≡ IsDecided (tells (solved_line number bundle))
   solved_tells (StaysSolved bundle) number = refl
@@ -105,7 +105,7 @@ module _ (before later : Tables) where
   settled_again number change reply (Leaves stays) grow = absurd stays
   settled_again number change reply (Answers pool found open_round right same) grow = answered_again number pool found change reply open_round.open_now same grow
 
-  -- ---- draw
+  -- ---- a draw again
 
   record IsDrawnSo (bundle : Bundle) (given digits : List ℕ) (drawn : draws.Drawn) : Type 0 where
     sealed : is_seal (bundle_seal bundle) given ≡ true
@@ -151,7 +151,7 @@ module _ (before later : Tables) where
   draw_again number given digits change reply (Some (Drawn bundle kept dropped)) at h grow =
       absurd (same_draw_changes_nothing bundle kept given digits change reply (not (is_seal (bundle_seal bundle) given)) (bytes_eq kept digits) _ _ _ h)
 
-  -- ---- drop
+  -- ---- a drop again
 
   includes_more : (dropped more : List (List ℕ)) (id : List ℕ) → includes_list ((dropped ++ id ∷ []) ++ more) id ≡ true
   includes_more dropped more id =
@@ -189,7 +189,7 @@ module _ (before later : Tables) where
       let on = goes_on (dropped_out id) before.rounds later.rounds number (Drawn bundle digits dropped) at (subst (λ c. RoundsGrow (apply before c).rounds later.rounds) (sym so.same) grow) in
       rw on.there (dropped_tells on.grows dropped number id refl so.member ∙ ap (λ r. Replies None r) so.told)
 
-  -- ---- the next round
+  -- ---- a next round again
 
   end_there : (rounds : List Round) (last : Round) → round_at (rounds ++ last ∷ []) (length rounds) ≡ Some last
   end_there [] last = refl

@@ -1,4 +1,4 @@
--- Each step and each list of commands leaves tables of which the facts hold. A command has one outcome.
+-- The facts hold of the tables that each step and each list of commands leaves. A command has one outcome.
 use Rattle.std.proofs.Common.{◌≡◌, ℕ, zero, suc, Bool, true, false, cond, List, [], ◌∷◌, ◌++◌, Option, Some, None, is_some, Result, Ok, Err, refl, sym, ap, ◌∙◌, subst}
 use Rattle.std.specs.List.{AllByRecursion}
 use Rattle.std.proofs.lemmas.Bool.{false≢true}
@@ -181,7 +181,7 @@ module _ (tables : Tables) (keeps : IsTables tables) where
   proof_settles number proof outcome fits (AtOnce h) = decided_settles number _ outcome (keep_settles number proof fits (named_round tables.rounds number) refl) h
   proof_settles number proof outcome fits (ByRun n l pool ending same needs ends comes) = absurd (cc)
 
-  -- ---- the tables after it
+  -- ---- the tables after a solve or a proof
 
   keep_drops_solving : (bundle : Bundle) (round : Round) → has_drop round ≡ true → has_drop (solved_with bundle round) ≡ true
   keep_drops_solving bundle Open h = absurd (false≢true h)
@@ -212,7 +212,7 @@ module _ (tables : Tables) (keeps : IsTables tables) where
   settled_keeps number outcome (Leaves stays) = subst IsTables (sym (stays_after tables outcome stays)) keeps
   settled_keeps number outcome (Answers pool found is right same) = subst (λ o. IsTables (tables_after tables o)) (sym same) (answered_keeps number pool found is right)
 
-  -- ---- each command
+  -- ---- the tables after each command
 
   decided : (told outcome : Outcome) → IsTables (tables_after tables told) → IsDecided told ≡ IsDecided outcome → IsTables (tables_after tables outcome)
   decided told outcome kept h = let e : told ≡ outcome = cc in subst (λ o. IsTables (tables_after tables o)) e kept
@@ -271,9 +271,9 @@ through_more first (one ∷ later) command before after (next, (leads, rest)) la
 pub folds_grow : (commands : List Command) (command : Command) (before after : Tables) → Folds commands before → Leads before command after → Folds (commands ++ command ∷ []) after
 folds_grow commands command before after folds leads = through_more first_tables commands command before after folds leads
 
--- ---- an outcome
+-- ---- each command has an outcome
 
--- an open round's solve has the outcome of its run's end
+-- a solve has an outcome: if it needs the run over a pool, the ending of this run decides the outcome
 solve_over : (tables : Tables) (number : ℕ) (limits : Limits) → IsTables tables → AreLimits limits → (found : Asked) → asked tables (Solve number limits) ≡ found →
     (outcome : Outcome) × Comes tables (Solve number limits) outcome
 solve_over tables number limits keeps ranges (IsDecided outcome) h = (outcome, AtOnce h)
@@ -295,7 +295,7 @@ some_outcome tables (NextRound after) keeps is = (_, AtOnce refl)
 some_outcome tables (Show number) keeps is = (_, AtOnce refl)
 some_outcome tables (Withdraw key) keeps is = (_, AtOnce refl)
 
--- ---- one outcome
+-- ---- no command has two outcomes
 
 one_pool : (one other : Pool) → NeedsRun one ≡ NeedsRun other → one ≡ other
 one_pool one other h = cc

@@ -1,6 +1,6 @@
-//! Laws over the office of `define_offices`: what every step keeps, what holds of the tables that a list of commands leaves, and what a
-//! command given again does. Stands on `define_offices`. The `office_*` crates stand on it: `office_core`, `office_pools`, `office_steps`
-//! and `office_tables`. The functions have no body: their contracts are the laws, and each is a promise.
+//! Laws over the office of `define_offices`: what every step keeps, what is true of all tables that a list of commands leaves, and what a
+//! command does when it is given again. Stands on `define_offices` and `laws_of_runs`. Used by `office_core`, `office_desk`, `office_pools`
+//! and `office_steps`. The functions have no body: their contracts are the laws, and each is a promise.
 #![tactic(auto)]
 
 ghost use Rattle.define_offices.specs.Laws.{ChangesChange, CommandsHaveOutcomes, FoldsAreGreatest, FoldsAreTables, FoldsGrow, PoolsArePools, StepsAreFunctions, StepsKeepCertified, StepsKeepTables};
@@ -11,46 +11,50 @@ pub fn pools_are_pools()
     ensures { PoolsArePools }
 {}
 
-/// Over tables that keep their facts, a command has an outcome, and only one.
+/// If the facts of `IsTables` hold of tables, each command within its limits has exactly one outcome over them.
 pub fn steps_are_functions()
     ensures some { CommandsHaveOutcomes }
     ensures one { StepsAreFunctions }
 {}
 
-/// If the facts of `IsTables` hold of tables, they hold of the tables after a step.
+/// If the facts of `IsTables` hold of tables, they hold of the tables after a command that is within its limits.
 pub fn steps_keep_tables()
     ensures { StepsKeepTables }
 {}
 
-/// A step keeps each bundle certified.
+/// If the facts of `IsTables` hold of tables and all their bundles are certified, all bundles are certified after a command that is within
+/// its limits.
 pub fn steps_keep_certified()
     ensures { StepsKeepCertified }
 {}
 
-/// The facts of `IsTables` hold of all tables that a list of commands leaves.
+/// The facts of `IsTables` hold of all tables that a list of commands leaves if each command is within its limits.
 pub fn folds_are_tables()
     ensures { FoldsAreTables }
 {}
 
-/// In all tables that a list of commands leaves, each bundle's lottery is leximin greatest over its pool.
+/// In all tables that a list of commands leaves, each bundle's lottery is leximin greatest over its pool, if each command is within its
+/// limits.
 pub fn folds_are_greatest()
     ensures { FoldsAreGreatest }
 {}
 
 /// A charter or rules given again at once change nothing. Any other command that made a change changes nothing when it is given again
-/// later, and has the same reply, except that an import counts all its rows as repeated.
+/// later, and has the same reply as before, except that an import counts all its rows as repeated.
 pub fn repeats_change_nothing()
     ensures charter { CharterAgain }
     ensures rules { RulesAgain }
     ensures others { RepeatsChangeNothing }
 {}
 
-/// If a list of commands leaves tables, and one more command leads from these to others, then the list with that command leaves the others.
+/// If a list of commands leaves some tables, the list with one more command at its end leaves the tables to which this command leads from
+/// there.
 pub fn folds_grow()
     ensures { FoldsGrow }
 {}
 
-/// If a reply comes with a change, the tables differ after it.
+/// If the reply to a command within its limits comes with a change, this change alters the tables, provided that the facts of `IsTables`
+/// hold of them.
 pub fn changes_change()
     ensures { ChangesChange }
 {}

@@ -1,4 +1,4 @@
--- The stages of a table's closed rows. Their caps hold, as pricing found nothing above them.
+-- The stages of a table's closed rows. Their caps hold, since pricing found no composition that weighs more.
 use Rattle.std.proofs.Common.{◌≡◌, ℕ, zero, suc, ◌+◌, ◌<◌, ◌≤◌, Bool, true, false, ◌&&◌, List, [], ◌∷◌, map, length, take, refl, sym, ap, ap₂, ◌∙◌, arith}
 use Rattle.std.specs.Prelude.{int_le, slice_index}
 use Rattle.std.specs.List.{range_with_len}
@@ -72,7 +72,7 @@ price_same all table k row =
     ap (first_greatest (weight_in row.a) row.b)
     (filter_agree (attains (rows_before table k)) (attains (map (closed_row table) (range_with_len 0 k))) (attained_same table k) (compositions all))
 
--- ---- the caps
+-- ---- the stages' caps hold
 
 module _ (pool : Pool) (alike : ℕ → ℕ → Bool) (makes : MakesClasses pool alike) (limits : RunLimits) (table : Table) (keeps : KeepsRun (classes_by alike pool) limits table) where
   abbrev all : Classes

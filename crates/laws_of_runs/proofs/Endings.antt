@@ -1,4 +1,4 @@
--- The step with which a run ends, and what it shows of the ending.
+-- The step with which a run ends, and what this step shows about the ending.
 use Rattle.std.proofs.Common.{◌≡◌, ℕ, zero, suc, ◌≤◌, Bool, true, false, length, None, Some, refl, sym, ap, inl, inr, ◌⊎◌}
 use Rattle.define_rows.specs.InOrder.{settled_count}
 use Rattle.define_rows.specs.Table.{Table}

@@ -59,7 +59,7 @@ module _ (all : Classes) (limits : RunLimits) (last : Table) (answer : Answer) w
       by (inl now) = absurd (of_opening (opening_tells all limits (Found last answer) now))
       by (inr at) = of_step at.last at.reached (step_tells all limits at.last (Found last answer) at.step_is)
 
--- ---- over the classes of a pool
+-- ---- a run over the classes of a pool
 
 module _ (pool : Pool) (alike : ℕ → ℕ → Bool) (makes : MakesClasses pool alike) (limits : RunLimits) (last : Table) (answer : Answer) (is_pool : IsPool pool) (ranges : AreRunLimits limits)
     (ends : Ends (classes_by alike pool) limits (Found last answer)) where

@@ -131,7 +131,7 @@ module _ (pool : Pool) (alike : ℕ → ℕ → Bool) (makes : MakesClasses pool
           turned_too : (sum size level : ℕ) → sum * (size * level) ≡ size * (sum * level)
           turned_too sum size level = omega arith
 
--- ---- the levels of the stages that come
+-- ---- the levels of the later stages
 
 abbrev pub closed_at : Classes → Table → (ℕ → ℕ) → ℕ → Closed
 closed_at all table level k = record { stage = stage_at all table k; level = level k }

@@ -50,7 +50,7 @@ module _ (pool : Pool) (alike : ℕ → ℕ → Bool) (makes : MakesClasses pool
       nothing : (n : ℕ) → n + 0 ≡ n
       nothing n = omega arith
 
-  -- ---- one stage
+  -- ---- whom one stage settles
 
   pub positive_at : (k i : ℕ) → i < count → pos 0 <ℤ closed_entry table k (class_at i) → is_positive (stage_at (classes_by alike pool) table k) i ≡ true
   positive_at k i l above = ap (int_lt (pos 0)) (weight_is_entry pool alike makes (closed_row table k) i l) ∙ is_above (closed_entry table k (class_at i)) above
@@ -58,7 +58,7 @@ module _ (pool : Pool) (alike : ℕ → ℕ → Bool) (makes : MakesClasses pool
   not_positive_at : (k i : ℕ) → i < count → closed_entry table k (class_at i) ≤ℤ pos 0 → is_positive (stage_at (classes_by alike pool) table k) i ≡ false
   not_positive_at k i l low = ap (int_lt (pos 0)) (weight_is_entry pool alike makes (closed_row table k) i l) ∙ not_above (closed_entry table k (class_at i)) low
 
-  -- ---- the stages before
+  -- ---- whom the earlier stages settle
 
   settled_by_one : (k j i : ℕ) → i < count → j < k → pos 0 <ℤ closed_entry table j (class_at i) → settled_before k i ≡ true
   settled_by_one zero j i l m above = absurd (omega arith)
@@ -102,7 +102,7 @@ module _ (pool : Pool) (alike : ℕ → ℕ → Bool) (makes : MakesClasses pool
       by (inl m) = m
       by (inr m) = absurd (false≢true (sym (get_or_past (get_or table.stages k []) t false (omega (arith, marks))) ∙ u))
 
-  -- ---- at the end
+  -- ---- at the end everybody is settled
 
   pub all_settled : length table.sizes ≤ settled_count table → list_all (is_settled (earlier (classes_by alike pool) table (length table.closed))) (everybody pool) ≡ true
   all_settled settled =

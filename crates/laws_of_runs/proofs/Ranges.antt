@@ -29,7 +29,7 @@ use Rattle.laws_of_runs.proofs.ClosedStages.{closed_row, closed_rows_are, entry_
 use Rattle.laws_of_runs.proofs.FoundEnds.{found, keeps, lottery, within}
 use Rattle.laws_of_runs.proofs.StageRows.{entries_back, from_places, one_weight_each, weighs_alike}
 
--- ---- rows
+-- ---- the lottery's rows
 
 -- if the weights sum to at most `sum`, each weight is at most `sum`
 each_within : (rows : List LotteryRow) (sum : ℕ) → total (λ row. row.weight) rows ≤ sum → AllByRecursion (λ row. row.weight ≤ sum) rows
@@ -67,7 +67,7 @@ some_total pool lottery is = by lottery.rows is.some is.total_agrees.weights (is
     by [] some weights sum = absurd (false≢true some)
     by (row ∷ rows) some weights sum = let one = leb-true 1 row.weight (and_parts (leb 1 row.weight) (list_all (λ row. leb 1 row.weight) rows) weights).0 in omega arith
 
--- ---- stages
+-- ---- the stages
 
 -- if there is a volunteer and the stages hold, there is at least one stage
 some_stage_holds : (pool : Pool) (lottery : Lottery) (stages : List Stage) → 0 < length pool.volunteers → StagesHold pool lottery [] stages → ltb 0 (length stages) ≡ true

@@ -1,4 +1,4 @@
--- A stage holds if the facts below hold of each volunteer, each quota panel and each row of the lottery.
+-- A stage holds if the facts of `StageFacts` hold: facts of each volunteer, each quota panel and each row of the lottery.
 use Rattle.std.proofs.Common.{◌≡◌, ℕ, zero, suc, ◌+◌, ◌≤◌, ◌<◌, Bool, true, false, cond, not, eqb, leb, List, ◌∷◌, length, filter, pos, subst, arith, ⊎_elim}
 use Rattle.std.specs.Prelude.{int_le}
 use Rattle.std.specs.Ordering.{int_eq}
@@ -28,8 +28,8 @@ some_left p q i first (suc many) l m e f =
     rw (e', f') (omega arith))
     (cases_lt first i)
 
--- conditions from which it follows that a stage holds: T is the count of each volunteer whom the stage settles, and nobody who is unsettled
--- has a smaller count; the others are those of `StageStands`
+-- conditions under which a stage holds: each volunteer whom the stage settles has the count T, nobody who is unsettled has a smaller count,
+-- and the conditions of `StageStands` hold
 pub record StageFacts (pool : Pool) (lottery : Lottery) (earlier : List Stage) (stage : Stage) (T : ℕ) : Type 0 where
   pub one_each : length stage.weights ≡ length pool.volunteers
   pub none_negative : (i : ℕ) → i < length pool.volunteers → is_settled earlier i ≡ false → int_le (pos 0) (weight_of stage i) ≡ true

@@ -1,4 +1,4 @@
--- What each ending of a run shows about the pool, for any test of who is alike that makes classes. Over Run and Levels.
+-- What each ending of a run shows about the pool, for any test of who is alike that makes classes. Builds on Run of `define_runs`.
 use Rattle.std.specs.Prelude.{◌≡◌, ℕ, ◌≤◌, Bool, []}
 use Rattle.define_bundles.specs.Ranges.{IsInRanges}
 use Rattle.define_pools.specs.Certificate.{Answer, Certifies}
@@ -30,7 +30,7 @@ abbrev OfFound : (Pool → Answer → Type 0) → Type 0
 OfFound P = (pool : Pool) (alike : ℕ → ℕ → Bool) → MakesClasses pool alike → (limits : RunLimits) (last : Table) (answer : Answer) → IsPool pool → AreRunLimits limits →
     Ends (classes_by alike pool) limits (Found last answer) → P pool answer
 
--- the lottery that a run finds is one over the pool's quota panels
+-- the lottery that a run finds is a lottery over the pool's quota panels
 abbrev pub FoundIsLottery : Type 0
 FoundIsLottery = OfFound (λ pool answer. IsLottery pool answer.lottery)
 
@@ -42,7 +42,7 @@ FoundIsWithin = OfFound (λ pool answer. answer.lottery.total ≤ greatest_total
 abbrev pub FoundIsCertified : Type 0
 FoundIsCertified = OfFound (λ pool answer. Certifies pool answer.lottery answer.stages)
 
--- so no lottery over the pool is above the one that a run finds
+-- no lottery over the pool is above the one that a run finds
 abbrev pub FoundIsGreatest : Type 0
 FoundIsGreatest = OfFound (λ pool answer. LeximinGreatest pool answer.lottery)
 

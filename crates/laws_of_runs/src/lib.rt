@@ -1,6 +1,6 @@
-//! Laws of the run: what its endings show about the pool. Stands on definitions alone: `define_runs` and those below it, and the ranges
-//! of a bundle (`define_bundles`). Used by `leximin_run`, whose promises rest on these laws, by the commands `lottery` and `make`, and by
-//! the laws of the office.
+//! Laws of the run: what its endings show about the pool. Stands on `define_runs` and the definitions below it, on the ranges of a bundle
+//! (`define_bundles`), and on `laws_basic`. Used by `leximin_run`, whose promises rest on these laws, by the commands `lottery` and `make`,
+//! and by the laws of the office.
 //!
 //! The functions have no body. Their contracts are the laws, and the promises of this crate.
 #![tactic(auto)]

@@ -20,7 +20,7 @@ lines_of_four version =
 abbrev pub four_text : List ℕ
 four_text = lines_of_four 1 ++ codes "end\n"
 
--- the text of the same four volunteers with a and c in one household
+-- the text of two women and two men, of whom a and c share a household
 abbrev pub housed_text : List ℕ
 housed_text = lines_of_four 2 ++ codes "household\ta\th\n" ++ codes "household\tc\th\n" ++ codes "end\n"
 

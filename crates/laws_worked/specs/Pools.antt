@@ -9,7 +9,7 @@ use Rattle.define_pools.specs.WorkedExamples.{person, bounded, category, row, st
 abbrev pub drawn : ℕ → List LotteryRow → Lottery
 drawn total rows = record { total = total; rows = rows }
 
--- a lottery of one panel of the four volunteers
+-- a lottery over `four` with one panel
 abbrev pub four_single : Lottery
 four_single = drawn 1 (row (0 ∷ 2 ∷ []) 1 ∷ [])
 
@@ -33,7 +33,7 @@ barred_stages =
 abbrev pub barred_single : Lottery
 barred_single = drawn 1 (row (1 ∷ []) 1 ∷ [])
 
--- two women are asked for, and only one is there
+-- a pool that asks for two women but has only one
 abbrev pub short : Pool
 short = record {
   size = 2;
@@ -104,7 +104,7 @@ apart = record {
 abbrev pub apart_lottery : Lottery
 apart_lottery = drawn 2 (row (0 ∷ 3 ∷ []) 1 ∷ row (1 ∷ 2 ∷ []) 1 ∷ [])
 
--- the panel of a and b weighs more than the second cap, and less than the first
+-- two stages over `apart`: the panel of a and b weighs less than the first cap, and more than the second
 abbrev pub apart_stages : List Stage
 apart_stages =
     stage (pos 2) (pos 0 ∷ pos 1 ∷ pos 1 ∷ pos 2 ∷ []) ∷

@@ -1,6 +1,6 @@
-//! Worked examples on which the definitions compute: small pools, lotteries, certificates, texts and spread lotteries, right ones and wrong
-//! ones. Stands on the definitions of pools, texts, bundles and spreading. No crate stands on this one, so with a new example no other
-//! proof has to be run again.
+//! Worked examples that are computed from the definitions: small pools, lotteries, certificates, texts and spread lotteries, right ones and
+//! wrong ones. Stands on the definitions of pools, texts, bundles and spreading. No crate uses this one, so a new example makes no other
+//! proof run again.
 //!
 //! The functions have no body: their contracts are the examples.
 #![tactic(auto)]

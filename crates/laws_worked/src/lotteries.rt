@@ -5,7 +5,8 @@ ghost use Rattle.define_pools.specs.Lottery.{IsLottery, LeximinGreatest, counts,
 ghost use Rattle.define_pools.specs.WorkedExamples.{four, four_lottery, after_dropout, row};
 ghost use Rattle.laws_worked.specs.Pools.{barred, barred_lottery, barred_single, drawn, four_single, three_and_two, three_and_two_lottery, uneven_lottery};
 
-/// A lottery of one of the four's panels gives the least chance 0, and one of two panels gives 1/2.
+/// For two women and two men, a lottery of one panel has the least chance 0, and a lottery of two panels has the least chance 1/2, which
+/// decides.
 pub fn decided_at_the_lowest()
     ensures lottery { IsLottery four four_single }
     ensures counts { counts four four_single ≡ 1 ∷ 0 ∷ 1 ∷ 0 ∷ [] }
@@ -33,7 +34,8 @@ pub fn decided_at_the_fourth()
     ensures not_greatest { ¬ LeximinGreatest three_and_two uneven_lottery }
 {}
 
-/// Lists that are no lottery, for their weights: no panel at all, a panel twice, a weight of 0, and totals that aren't the sum.
+/// Lists that are no lottery because of their rows or their total: no row at all, a panel twice, a weight of 0, and totals that aren't the
+/// sum of the weights.
 pub fn weights_that_refuse()
     ensures empty { ¬ IsLottery four (drawn 0 []) }
     ensures repeated { ¬ IsLottery four (drawn 2 (row (0 ∷ 2 ∷ []) 1 ∷ row (0 ∷ 2 ∷ []) 1 ∷ [])) }
@@ -42,8 +44,8 @@ pub fn weights_that_refuse()
     ensures total_too_high { ¬ IsLottery four (drawn 3 (row (0 ∷ 2 ∷ []) 1 ∷ row (1 ∷ 3 ∷ []) 1 ∷ [])) }
 {}
 
-/// Lists that are no lottery, for a panel: of two women, of one member, with one member twice, with members out of order, with a number
-/// that no volunteer has, with the volunteer who is gone, and without the one who is seated.
+/// Lists that are no lottery because of a panel: one of two women, of one member, with one member twice, with members out of order, with a
+/// number that no volunteer has, with the volunteer who is gone, and without the volunteer who is seated.
 pub fn panels_that_refuse()
     ensures two_women { ¬ IsLottery four (drawn 1 (row (0 ∷ 1 ∷ []) 1 ∷ [])) }
     ensures too_few { ¬ IsLottery four (drawn 1 (row (0 ∷ []) 1 ∷ [])) }

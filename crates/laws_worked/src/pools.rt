@@ -16,7 +16,7 @@ pub fn four_volunteers()
     ensures certified { Certifies four four_lottery four_stages }
 {}
 
-/// A woman of the four is gone and a man keeps the seat: one panel is left.
+/// Two women and two men after a dropout: a woman is gone and a man keeps the seat, so one panel is left.
 pub fn four_after_dropout()
     ensures pool { IsPool after_dropout }
     ensures panels { panels after_dropout ≡ (1 ∷ 2 ∷ []) ∷ [] }
@@ -25,7 +25,8 @@ pub fn four_after_dropout()
     ensures certified { Certifies after_dropout dropout_lottery dropout_stages }
 {}
 
-/// One woman and one man of the four are of one household: no panel has both.
+/// Two women and two men, of whom one woman and one man are of one household: no panel has both. And two seats for a couple of one
+/// household: there is no panel.
 pub fn four_with_a_family()
     ensures pool { IsPool family }
     ensures panels { panels family ≡ (0 ∷ 3 ∷ []) ∷ (1 ∷ 2 ∷ []) ∷ (1 ∷ 3 ∷ []) ∷ [] }
@@ -53,7 +54,8 @@ pub fn pair_of_volunteers()
     ensures certified { Certifies pair pair_lottery pair_stages }
 {}
 
-/// One woman, who is on each panel, and three men with 1/3 each. The last stage has weights below 0 for men who are settled, and the cap 2.
+/// One woman, who is on each panel, and three men, each with the chance 1/3. The last stage has weights below 0 for men who are settled,
+/// and the cap 2.
 pub fn woman_and_three_men()
     ensures pool { IsPool one_woman }
     ensures panels { panels one_woman ≡ (0 ∷ 1 ∷ []) ∷ (0 ∷ 2 ∷ []) ∷ (0 ∷ 3 ∷ []) ∷ [] }
@@ -62,7 +64,7 @@ pub fn woman_and_three_men()
     ensures certified { Certifies one_woman one_woman_lottery one_woman_stages }
 {}
 
-/// Three volunteers for one seat, who have 1/3 each, and two for another, who have 1/2 each.
+/// Two seats: one for three volunteers, who have the chance 1/3 each, and one for two others, who have 1/2 each.
 pub fn three_and_two_volunteers()
     ensures pool { IsPool three_and_two }
     ensures panels { panels three_and_two ≡ (0 ∷ 3 ∷ []) ∷ (0 ∷ 4 ∷ []) ∷ (1 ∷ 3 ∷ []) ∷ (1 ∷ 4 ∷ []) ∷ (2 ∷ 3 ∷ []) ∷ (2 ∷ 4 ∷ []) ∷ [] }
@@ -71,8 +73,8 @@ pub fn three_and_two_volunteers()
     ensures certified { Certifies three_and_two three_and_two_lottery three_and_two_stages }
 {}
 
-/// A stage speaks only of the panels that attain the earlier caps: here the panel of a and b weighs less than the first cap, and more than
-/// the second.
+/// The cap of a stage bounds only the panels that attain the earlier caps: here the panel of a and b weighs less than the first cap, and
+/// more than the second.
 pub fn panels_below_an_earlier_cap()
     ensures pool { IsPool apart }
     ensures panels { panels apart ≡ (0 ∷ 1 ∷ []) ∷ (0 ∷ 2 ∷ []) ∷ (0 ∷ 3 ∷ []) ∷ (1 ∷ 2 ∷ []) ∷ [] }
@@ -83,7 +85,8 @@ pub fn panels_below_an_earlier_cap()
     ensures certified { Certifies apart apart_lottery apart_stages }
 {}
 
-/// Pools with no quota panel: too few volunteers of a value; two bounds that no one volunteer can meet; nobody at all.
+/// Pools with no quota panel: one with too few volunteers of a value; one with one seat and two values that are needed, which no single
+/// volunteer has; one with no volunteer.
 pub fn pools_without_panel()
     ensures short { IsPool short }
     ensures short_panels { panels short ≡ [] }

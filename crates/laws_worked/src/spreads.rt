@@ -7,9 +7,9 @@ ghost use Rattle.define_searches.specs.Classes.{classes_of};
 ghost use Rattle.define_spreads.specs.Spreading.{spread};
 ghost use Rattle.define_spreads.specs.WorkedSpreads.{one_of_three, pair_and_one, over};
 
-/// One seat for three volunteers of different values: the first has a share of 1/10^38, the second all that is left, and the total is
-/// 10^38. With 10^38 + 1 as the denominator, the total passes 10^38 at the first part. If the first volunteer is one of two alike, the dial
-/// has two places, and the total passes 10^38 with the denominator 10^38 too.
+/// One seat for three volunteers of different values: the composition with the first has the fraction 1/10^38, the one with the second has
+/// the rest, and the total is 10^38. With 10^38 + 1 as the denominator, the total passes 10^38 at the first part. If the first volunteer is
+/// one of two alike, the dial has two places, and the total passes 10^38 with the denominator 10^38 too.
 pub fn widest_spreads()
     ensures greatest { spread (classes_of one_of_three) ((1 ∷ 0 ∷ 0 ∷ [], over 1 (10 ^ 38)) ∷ (0 ∷ 1 ∷ 0 ∷ [], over (10 ^ 38 - 1) (10 ^ 38)) ∷ []) ≡
         Ok (record { total = 10 ^ 38; rows = row (0 ∷ []) 1 ∷ row (1 ∷ []) (10 ^ 38 - 1) ∷ [] }) }

@@ -18,7 +18,7 @@ pub fn spelled_texts()
     ensures bundle_is_read { read_bundle printed_text ≡ Ok (record { pool = four; answer = printed_answer }) }
 {}
 
-/// The text of the same four volunteers with a and c in one household, and a bundle of them, byte for byte.
+/// The text of two women and two men, of whom a and c share a household, and a bundle of them, byte for byte.
 pub fn housed_texts()
     ensures pool { spelling housed ≡ housed_text }
     ensures pool_is_read { read housed_text ≡ Ok housed }
@@ -44,8 +44,8 @@ pub fn faulty_texts()
     ensures missing_end { read head ≡ Err (record { line = 3; kind = 12 }) }
 {}
 
-/// Faults of households. In version 1: a household line. In version 2: no household line before the end, or before a standing line; two out
-/// of order; one without a name; one after a standing line.
+/// Faults of household lines. In version 1: there is one. In version 2: there is none before the end, or before a standing line; two are
+/// out of order; one has no name; one follows a standing line.
 pub fn faulty_households()
     ensures first_version { read (lines_of_four 1 ++ codes "household\ta\th\nhousehold\tc\th\nend\n") ≡ Err (record { line = 10; kind = 1 }) }
     ensures none_before_end { read (lines_of_four 2 ++ codes "end\n") ≡ Err (record { line = 10; kind = 1 }) }
@@ -57,7 +57,7 @@ pub fn faulty_households()
 
 /// Faults of a bundle's text: another version; a pool of another version; a fault in the pool; a total of 0. In place of the first panel:
 /// the end, a panel with a member that the pool doesn't have, a stage. After a panel: a faulty stage. After a stage: a faulty stage, a
-/// panel. Lines that run out within the pool, after the total, and at once. Bytes after the last line.
+/// panel. Texts that end within the pool, after the total, and before the first line. Bytes after the last line.
 pub fn faulty_bundles()
     ensures version { read_bundle (codes "bundle\t3\n") ≡ Err (record { line = 1; kind = 13 }) }
     ensures other_version { read_bundle (codes "bundle\t2\npool\t1\n") ≡ Err (record { line = 2; kind = 1 }) }
@@ -75,7 +75,8 @@ pub fn faulty_bundles()
     ensures behind_done { read_bundle (printed_text ++ 48 ∷ []) ≡ Err (record { line = 18; kind = 17 }) }
 {}
 
-/// The fault is the first faulty line's, with the line's lowest kind. After the end nothing is allowed.
+/// The fault of a text is that of its first faulty line, and of the lowest kind that applies to this line. No bytes are allowed after the
+/// end line.
 pub fn first_faults()
     ensures first_line { read (codes "pool\t1\nsize\t0\ncategory\t\n") ≡ Err (record { line = 2; kind = 2 }) }
     ensures lowest_kind { read (head_with_value ++ codes "value\tx\t2\t1\n") ≡ Err (record { line = 5; kind = 4 }) }
@@ -84,8 +85,8 @@ pub fn first_faults()
     ensures behind_a_standing { read (head_with_value ++ codes "volunteer\ta\tx\ngone\ta\nvolunteer\tb\tx\n") ≡ Err (record { line = 7; kind = 1 }) }
 {}
 
-/// Answers for the four volunteers that are in no bundle: totals of 0 and above 10^38; no panel, a weight of 0, a panel of nobody, a member
-/// twice, a number that no volunteer has; no stage, too few weights, and a reach of 2^127.
+/// Answers that no bundle of the pool `four` can have: with a total of 0 or above 10^38; with no panel, a weight of 0, a panel of
+/// nobody, a member twice, or a number that no volunteer has; with no stage, too few weights, or a reach of 2^127.
 pub fn ranges_that_refuse()
     ensures no_total { ¬ IsInRanges four (answer_of 0 (row (0 ∷ 2 ∷ []) 1 ∷ []) (stage (pos 1) (pos 1 ∷ pos 1 ∷ pos 0 ∷ pos 0 ∷ []) ∷ [])) }
     ensures great_total { ¬ IsInRanges four (answer_of (10 ^ 38 + 1) (row (0 ∷ 2 ∷ []) 1 ∷ []) (stage (pos 1) (pos 1 ∷ pos 1 ∷ pos 0 ∷ pos 0 ∷ []) ∷ [])) }

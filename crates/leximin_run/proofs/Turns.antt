@@ -84,7 +84,7 @@ enter_due all limits table shut some =
 
 -- ---- the table after a step
 
--- If a step goes on, the table after it satisfies what holds of each table of the run.
+-- If the run goes on after a step, `Stands` holds of the table after it.
 pub stands_on : (all : Classes) (limits : RunLimits) (table : Table) (closed : List Row) → Stands all limits table closed → (after : Table) → step all limits table ≡ GoOn after →
     (rows : List Row) → rows ≡ closed_rows after → Stands all limits after rows
 stands_on all limits table closed stands after e rows are =
@@ -92,7 +92,7 @@ stands_on all limits table closed stands after e rows are =
 
 -- ---- pricing
 
--- what holds before a pricing: the stage is open, no pivot is chosen, and `row` is the table's open row
+-- the conditions before a pricing: the stage is open, no pivot is chosen, and `row` is the table's open row
 pub record IsAsked (all : Classes) (limits : RunLimits) (table : Table) (closed : List Row) (row : Row) : Type 0 where
   pub stands : Stands all limits table closed
   pub open_now : table.in_stage ≡ true

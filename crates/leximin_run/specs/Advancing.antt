@@ -1,4 +1,4 @@
--- One step of a run, as the code makes it. Over Run and Keeps of `define_runs`. For `running`.
+-- One step of a run, as the code makes it. Builds on Run and Keeps of `define_runs`. Used by the modules `running` and `solving`.
 use Rattle.std.specs.Prelude.{◌≡◌, ◌≤◌, Bool, true, false, List, length, Some, Result, Ok, Err}
 use Rattle.define_rows.specs.InOrder.{settled_count}
 use Rattle.define_rows.specs.Row.{Row}
@@ -11,7 +11,8 @@ use Rattle.panel_search.specs.declared.searching.SearchStop.TheVariants.{Spent, 
 use Rattle.leximin_run.specs.declared.running.Refusal.{Refusal}
 use Rattle.leximin_run.specs.declared.running.Refusal.TheVariants.{Wide, NoPivot, NoVisit, NoMemory}
 
--- the next step is refused for this reason, and the table is unchanged; running out of memory is allowed at any time
+-- the next step is refused for this reason, and the table is unchanged. Running out of memory is allowed at any time; then nothing is
+-- said of the table
 abbrev pub Refuses : Classes → RunLimits → Table → Refusal → Table → Type 0
 Refuses all limits before (Wide pass) after = (step all limits before ≡ Ended (TooWide (Some before) pass)) × (after ≡ before)
 Refuses all limits before NoPivot after = (step all limits before ≡ Ended (PivotsSpent before)) × (after ≡ before)
@@ -28,13 +29,14 @@ abbrev pub Makes : Classes → RunLimits → Table → Result (Unit {0}) Refusal
 Makes all limits before (Ok made) after = step all limits before ≡ GoOn after
 Makes all limits before (Err refusal) after = Refuses all limits before refusal after
 
--- true if the next step was made, false if all classes are settled, so that there is none; or the step was refused
+-- true if the next step was made; false if no step is left, as no stage is open and all classes are settled; or the step was refused
 abbrev pub Advances : Classes → RunLimits → Table → Result Bool Refusal → Table → Type 0
 Advances all limits before (Ok true) after = step all limits before ≡ GoOn after
 Advances all limits before (Ok false) after = (before.in_stage ≡ false) × (length before.sizes ≤ settled_count before) × (after ≡ before)
 Advances all limits before (Err refusal) after = Refuses all limits before refusal after
 
--- what holds between two steps: the classes and limits are in their ranges, `KeepsRun` holds of `table`, and `closed` are its closed rows
+-- the conditions between two steps: the classes and limits are in their ranges, `KeepsRun` holds of `table`, and `closed` are its closed
+-- rows
 pub record Stands (all : Classes) (limits : RunLimits) (table : Table) (closed : List Row) : Type 0 where
   pub limited : KeepsLimits all
   pub ranges : AreRunLimits limits

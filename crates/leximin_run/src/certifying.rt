@@ -45,7 +45,7 @@ fn weights(alloc: Global, numbers: &[usize], row: &Row) -> Result<Vec<i128>, All
         .collect(alloc)
 }
 
-// Returns the entry of class number `class`, or 0 if there is no such class.
+// Returns the entry of class number `class`, or 0 if there is no class of this number.
 fn entry_of(row: &Row, class: usize) -> i128
     ensures { result ≡ entry row.now class }
 {

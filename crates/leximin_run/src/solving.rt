@@ -24,8 +24,9 @@ use std::alloc::{AllocError, Global};
 use std::thread::Threads;
 
 /// Runs over a pool under limits. Returns the lottery with its certificate, or that the pool has no quota panel. If a lottery is found, it
-/// is leximin greatest, and its stages certify it. Fails with the first step that is refused, and the table before that step, if there was
-/// one. From 1 to 64 workers price, and the watch is told when a piece of work starts; the answer depends on neither.
+/// is leximin greatest, and its stages certify it. Fails with the reason why the run stops, and the table at which it stops, if there is
+/// one; or with `OutOfMemory`, at any time. From 1 to 64 workers price, and the watch is told when a piece of work starts; the answer
+/// depends on neither.
 pub fn solve<R: Threads + Sync, W: Watch + Sync>(
     rt: &R,
     alloc: Global,

@@ -5,12 +5,12 @@ use exact_table::{Pass, Table};
 use pool_model::Answer;
 use std::alloc::AllocError;
 
-/// Where a run was when a step was refused.
+/// Where a run was when it stopped.
 #[derive(Drop)]
 pub enum At {
     /// There was no table yet.
     Opening,
-    /// The table before the refused step.
+    /// The table at which it stopped.
     Table(Table),
 }
 
@@ -32,7 +32,7 @@ pub enum SolvedSized {
     NoPanel,
 }
 
-/// Why a run found nothing.
+/// Why a run stopped without an answer.
 #[derive(Drop)]
 pub enum Stop {
     /// An operation passes the width.

@@ -1,11 +1,11 @@
--- Lists of quotas, element by element of a numbered list.
+-- A list that joins one list of quotas for each element, as it grows element by element.
 use Rattle.std.proofs.Common.{◌≡◌, ℕ, ◌+◌, ◌≤◌, ◌<◌, List, [], ◌∷◌, ◌++◌, length, get_or, take, ap, ◌∙◌, arith}
 use Rattle.std.specs.List.{enumerate_from, flat_map}
 use Rattle.std.proofs.lemmas.Grind.{flat_map-append}
 use Rattle.std.proofs.lemmas.List.{append-nil, take_all, take_more}
 use Rattle.laws_basic.proofs.Lists.{get_or-enumerate_from, length-enumerate_from}
 
--- one more element adds its list
+-- taking one more element appends the list that `f` returns for it
 pub one_more_list : {X Y : Type 0} (f : ℕ × X → List Y) (xs : List X) (k : ℕ) (d : X) → k < length xs →
     flat_map f (take (k + 1) (enumerate_from 0 xs)) ≡ flat_map f (take k (enumerate_from 0 xs)) ++ f (k, get_or xs k d)
 one_more_list f xs k d l =
@@ -18,6 +18,6 @@ one_more_list f xs k d l =
     ∙ (ap (λ more. flat_map f before ++ more) (append-nil (f next))
     ∙ ap (λ p. flat_map f before ++ f p) (get_or-enumerate_from 0 xs k (0, d) d l ∙ ap (λ n. (n, get_or xs k d)) here)))
 
--- after the last element the list is that of all
+-- if all elements are taken, their lists joined are the whole list
 pub all_listed : {X Y : Type 0} (f : ℕ × X → List Y) (xs : List X) (k : ℕ) → length xs ≤ k → flat_map f (take k (enumerate_from 0 xs)) ≡ flat_map f (enumerate_from 0 xs)
 all_listed f xs k l = let many = length-enumerate_from 0 xs in ap (flat_map f) (take_all k (enumerate_from 0 xs) (omega (arith, many, l)))

@@ -4,7 +4,7 @@ use Rattle.define_loosenings.specs.Loosenings.{IsLeast, Loosening, loosening_for
 use Rattle.define_loosenings.specs.Teams.{is_team}
 use Rattle.define_pools.specs.Pool.{Pool}
 
--- the loosening is that for a team, and least
+-- the loosening is `loosening_for` a team, and it is least
 pub record IsLeastForTeam (pool : Pool) (loosening : Loosening) : Type 0 where
   pub team : IsTrue (is_team pool loosening.panel)
   pub is_for : loosening ≡ loosening_for pool loosening.panel

@@ -21,9 +21,9 @@ use quota_conflicts::{reported, standings};
 use quota_loosen::Loosened;
 use std::alloc::{AllocError, Global};
 
-/// Returns a least loosening of a pool's quotas, within a budget: bounds move as little as will do in all, so that there is a quota panel.
-/// None means that the pool has no team: its size, standings and households alone can't be met. Stops if a limit is spent, an operation
-/// passes 2^62, the search is lost, or memory runs out.
+/// Returns a least loosening of a pool's quotas, within a budget: bounds are moved so that there is a quota panel, by as little as possible
+/// in all. None means that the pool has no team: its size, standings and households alone can't be met. Stops if a limit is spent, an
+/// operation passes 2^62, memory runs out, or the search is lost, which means that what it found doesn't pass this crate's check.
 pub fn loosen_by_proof(
     alloc: Global,
     pool: &Pool,
@@ -55,8 +55,8 @@ fn answered(alloc: Global, pool: &Pool, budget: &mut Budget) -> Result<Option<Lo
     }
 }
 
-/// Returns what each team costs at least by leaves alone: each leaf shows more than the one before, until a point of the relaxation costs
-/// no more. None means that there is no team.
+/// Returns a number that each team costs at least, shown by leaves alone. Leaves are made as long as no point of the relaxation misses the
+/// bounds by at most the number shown so far. Stops as lost if a leaf shows no greater number. None means that there is no team.
 fn cost_shown(
     alloc: Global,
     pool: &Pool,
@@ -89,7 +89,7 @@ fn cost_shown(
     }
 }
 
-/// Returns the loosening for a cheapest team, where each team costs at least `least`.
+/// Returns the loosening for a cheapest team. Each team must be known to cost at least `least`.
 fn cheapest(
     alloc: Global,
     pool: &Pool,
@@ -116,7 +116,7 @@ fn cheapest(
     Ok(loosened)
 }
 
-/// Returns the loosening for a team that costs `cost`, where each team costs at least so much.
+/// Returns the loosening for a team that costs `cost`. Each team must be known to cost at least `cost`.
 fn least_loosening(
     alloc: Global,
     pool: &Pool,
@@ -132,7 +132,7 @@ fn least_loosening(
     Loosened::for_team(alloc, pool, team, cost)
 }
 
-/// Looks for a team that misses by at most `least` in all, then by at most one more, and so on.
+/// Looks for a team that misses the bounds by at most `least` in all, then by at most `least + 1`, and so on.
 fn team_from(
     alloc: Global,
     least: usize,
@@ -152,7 +152,8 @@ fn team_from(
     }
 }
 
-/// True if it is known that each team costs at least `cost`, where each costs at least `least`: a tree shows it if `cost` is more.
+/// True if each team is shown to cost at least `cost`. It is known that each costs at least `least`; if `cost` is greater, a tree must show
+/// it.
 fn is_least(
     alloc: Global,
     pool: &Pool,

@@ -1,4 +1,4 @@
-//! What the weights of a leaf show that each team costs at least. `covers` and `searches` use `least_cost`.
+//! A number that each team costs at least, as the weights of a leaf show. `answers` and `covers` use `least_cost`.
 
 ghost use Rattle.std.specs.Bool.{OnTrue};
 ghost use Rattle.std.specs.Prelude.{◌≡◌, ◌≤◌, ◌<◌, ◌+◌, ◌-◌, ◌*◌, ◌++◌, length, IfOk, IfSome, IsTrue, None, Some, nat_le};
@@ -10,10 +10,10 @@ use crate::quotas::weighted_values;
 use define_conflicts::{Counted, WeightedQuota};
 use define_cost_bounds::asking_more_costs;
 use pool_model::{Pool, Standing};
-use quota_conflicts::{asked, given, greatest_weight};
+use quota_conflicts::{asked, given, greatest_weight, times_below};
 use std::alloc::{AllocError, Global};
 
-/// Weights of quotas.
+/// The weights that a leaf gives to quotas.
 #[derive(Debug, Drop)]
 pub(crate) struct Leaf {
     /// Two weights for each value, in the pool's order: for its least and its greatest number.
@@ -22,7 +22,7 @@ pub(crate) struct Leaf {
     pub(crate) met: Vec<WeightedQuota>,
 }
 
-/// What a leaf shows that each team costs at least; None means that it shows that there is no team.
+/// Returns a number that each team costs at least, as the leaf shows. None means that the leaf shows that there is no team.
 pub(crate) fn least_cost(
     alloc: Global,
     pool: &Pool,
@@ -57,7 +57,7 @@ fn are_met(met: &[WeightedQuota]) -> bool
     met.iter().all(|it| is_met_by_teams(it.quota.counted))
 }
 
-/// True if each team meets a quota that counts these.
+/// True if each team meets all quotas that count these volunteers: those of the size and of a household, but not those of a value.
 fn is_met_by_teams(counted: Counted) -> bool
     ensures { result ≡ is_always_met counted }
 {
@@ -94,7 +94,8 @@ fn is_more_asked(pool: &Pool, weighted: &[WeightedQuota], standings: &[Standing]
     }
 }
 
-/// Returns how many times `greatest` is asked for beyond what can be given, if more is asked for than can be given and both sums fit.
+/// Returns a number of times with `given + greatest * times < asked`, or None if no more is asked for than can be given, or a sum doesn't
+/// fit.
 fn times_beyond(
     pool: &Pool,
     weighted: &[WeightedQuota],
@@ -112,13 +113,4 @@ fn times_beyond(
     } else {
         None
     }
-}
-
-/// Returns how many times `greatest` is less than `more`.
-fn times_below(more: usize, greatest: usize) -> usize
-    requires some { 1 ≤ more }
-    requires greatest { 1 ≤ greatest }
-    ensures { greatest * result < more }
-{
-    (more - 1) / greatest
 }

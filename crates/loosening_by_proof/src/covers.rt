@@ -1,5 +1,5 @@
-//! Whether a tree of splits shows that each team costs at least a number: each split is on a volunteer, with both parts below it, and each
-//! leaf has weights that show it. `answers` uses `covers`.
+//! Whether a tree of splits shows that each team costs at least a number: each split is on a volunteer and is followed by both its parts,
+//! and each leaf has weights that show this. `answers` uses `covers`.
 
 ghost use Rattle.std.specs.Bool.{OnTrue};
 ghost use Rattle.std.specs.Prelude.{ℕ, ◌≡◌, ◌<◌, ◌≤◌, length, IfOk, IfSome, Some};
@@ -72,7 +72,7 @@ fn end_of_tree(
     }
 }
 
-/// True if by a leaf's weights each team that keeps the standings costs at least `least`.
+/// True if the leaf's weights show that each team that keeps the standings costs at least `least`.
 fn leaf_costs(
     alloc: Global,
     pool: &Pool,
@@ -87,7 +87,8 @@ fn leaf_costs(
     Ok(is_reached(shown, least))
 }
 
-/// True if each cost that is at least `shown` is at least `least`.
+/// True if a leaf shows that each team costs at least `least`, given what it shows: that each costs at least `shown`, or, if that is None,
+/// that there is no team.
 fn is_reached(shown: Option<usize>, least: usize) -> bool
     ensures { OnTrue result ((cost : ℕ) → IsAtLeast shown cost → least ≤ cost) }
 {

@@ -1,4 +1,5 @@
-//! Makes a leaf of the multipliers by which a table refutes that few misses will do. No promise: `bounds` decides.
+//! Makes a leaf of the multipliers with which a table refutes that a team misses the bounds by at most a number. This module promises
+//! nothing: `bounds` computes what a leaf shows.
 
 use crate::bounds::Leaf;
 use define_conflicts::{Counted, Quota, Side, WeightedQuota};
@@ -6,7 +7,7 @@ use proof_limits::Narrow;
 use proof_program::Program;
 use std::alloc::{AllocError, Global};
 
-/// A pool has at most 20 categories with 50 values, each with two quotas.
+/// The most quotas of values that a pool has: it has at most 20 categories of 50 values, and each value has two quotas.
 const MOST_VALUE_QUOTAS: usize = 2000;
 
 /// Returns the leaf of the multipliers of a program's rows. `counted` has whom each constraint counts, by its number.
@@ -56,7 +57,7 @@ fn place_of(number: usize, side: Side) -> Option<usize> {
     }
 }
 
-/// Returns the side of the bound that a multiplier is of.
+/// Returns which bound of its constraint a multiplier is for: the lower one if it is below 0, else the upper one.
 fn side_of(multiplier: Narrow) -> Side {
     if multiplier.get() < 0 {
         Side::AtLeast

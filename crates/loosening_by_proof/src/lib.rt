@@ -1,11 +1,11 @@
 //! A least loosening of a pool's quotas, by integer programs. Stands on the engine of `prove` (`proof_branching`, `proof_program`,
-//! `proof_stages`, `proof_table`, `proof_limits`), which searches, on `quota_conflicts` for what quotas ask for and what can be given, on
-//! `quota_loosen` for the loosening of a team, and on the definitions and laws of `define_cost_bounds`. The command `loosen-by-proof`
-//! stands on it.
+//! `proof_stages`, `proof_table`, `proof_limits`), which searches; on `quota_conflicts`, for what quotas ask for and what can be given; on
+//! `quota_loosen`, for the loosening of a team; and on the definitions and laws of `define_cost_bounds`. Used by the command
+//! `loosen-by-proof`.
 //!
-//! Promises: what `loosen_by_proof` returns is checked by this crate itself, by adding and comparing whole numbers (`bounds`, `covers`,
-//! `teams`). So a loosening is least, and there is no team if it says so, whatever the search did. Which of several least loosenings is
-//! found is no promise.
+//! Promises: this crate itself checks what `loosen_by_proof` returns, by adding and comparing whole numbers (`bounds`, `covers`, `teams`).
+//! So a loosening that it returns is least, and if it returns that there is no team, there is none, whatever the search did. If there are
+//! several least loosenings, no promise says which one is returned.
 #![tactic(auto)]
 
 mod answers;
@@ -18,4 +18,3 @@ mod searches;
 mod teams;
 
 pub use answers::loosen_by_proof;
-pub use teams::{is_team, team_cost};

@@ -1,5 +1,6 @@
-//! The table of a pool's program in which a value's number may miss its bounds: two columns for each value, by how many members it is
-//! wanting and by how many it is too great, and a last row, by how many it is in all. Promises: the sizes.
+//! The table of a pool's program in which the number of a value's members may miss its bounds. Each value has two columns more: by how many
+//! members it is below its lower bound, and by how many it is above its upper bound. A last row has the sum of all these. Promises: the
+//! sizes.
 
 ghost use Rattle.std.specs.Prelude.{◌≡◌, length, IfOk, OnOk};
 ghost use Rattle.loosening_by_proof.specs.Searches.{AreSizes};
@@ -14,7 +15,7 @@ use std::alloc::{AllocError, Global};
 /// passes 999.
 const MOST_MISSES: u32 = 1000000;
 
-/// The part of the goal of a column of misses: a run begins with none.
+/// The part of a column of misses in the goal. It is below 0, so that a run begins with no misses.
 const FEW_MISSES: i64 = -2;
 
 /// Adds the columns of misses and the row of their sum to a program's table, and their spans to those of the program.
@@ -60,7 +61,7 @@ fn add_column(
     Ok(())
 }
 
-/// Returns a list of zeros, but for `entry` at `place`.
+/// Returns a list with `entry` at `place` and zeros elsewhere.
 fn unit(alloc: Global, count: usize, place: usize, entry: Narrow) -> Result<Vec<Narrow>, AllocError>
     ensures { IfOk result (λ entries. length entries.items ≡ count) }
 {
@@ -86,7 +87,7 @@ fn sum_of_misses(
     Ok(sum)
 }
 
-/// Returns the parts of the goal: 0 for the first `volunteers` columns.
+/// Returns the parts of the goal: 0 for the first `volunteers` columns, and `FEW_MISSES` for the others.
 fn parts(alloc: Global, columns: usize, volunteers: usize) -> Result<Vec<i64>, AllocError> {
     let mut parts = Vec::new(alloc);
     for column in 0..columns {

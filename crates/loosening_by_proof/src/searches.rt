@@ -1,5 +1,5 @@
-//! Searches for a team that misses the bounds of values by few people in all; or leaves and trees that show that there is none. Stands on
-//! the engine of `prove`. Promises: the budget that is spent, and the stops.
+//! Searches for a team that misses the bounds of values by few people in all, or for leaves and trees that show that there is none. Stands
+//! on the engine of `prove`. Promises: the budget that is spent, and the stops.
 
 ghost use Rattle.std.specs.Prelude.{◌≡◌, ◌<◌, length, IfOk, IfSome, OnOk, pos, ◌≤ℤ◌};
 ghost use Rattle.proof_limits.specs.Budgets.{SpendsOn};
@@ -82,7 +82,7 @@ impl Search {
         }
     }
 
-    /// Returns a leaf by which no point misses by at most `most` in all, or None if there is such a point.
+    /// Returns a leaf that shows that no point misses the bounds by at most `most` in all, or None if some point does.
     pub(crate) fn leaf_beyond(
         &mut self,
         alloc: Global,
@@ -101,14 +101,14 @@ impl Search {
         Ok(Some(leaf))
     }
 
-    /// Returns the leaf by which the last run found no point.
+    /// Returns the leaf that shows why the last run found no point.
     fn leaf(&self, alloc: Global) -> Result<Leaf, ProveStop> {
         let multipliers = self.table.refutation(alloc)?;
         let leaf = leaf_of(alloc, &self.program, &self.counted, &multipliers)?;
         Ok(leaf)
     }
 
-    /// Looks for a team that misses by at most `most` in all.
+    /// Looks for a team that misses the bounds by at most `most` in all. Returns None if the search finds none.
     pub(crate) fn team_within(
         &mut self,
         alloc: Global,
@@ -137,8 +137,8 @@ impl Search {
         }
     }
 
-    /// Returns the nodes of a tree by which no team misses by at most `most` in all. Stops as lost if there is one. The columns must be
-    /// single volunteers.
+    /// Returns the nodes of a tree that shows that no team misses the bounds by at most `most` in all. Stops as lost if some team does. The
+    /// columns must be single volunteers.
     pub(crate) fn tree(
         &mut self,
         alloc: Global,
@@ -192,7 +192,8 @@ impl Search {
         }
     }
 
-    /// Returns the column of volunteers whose value at the last run's point is farthest from a whole number. Stops as lost if all are whole.
+    /// Returns the column of volunteers whose value at the last run's point is farthest from a whole number. Stops as lost if all are
+    /// whole.
     fn most_broken(&self, alloc: Global) -> Result<usize, ProveStop>
         requires { IsSearch self.now }
         ensures { IfOk result (λ column. column < length self.now.columns.items) }

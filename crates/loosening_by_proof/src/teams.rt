@@ -2,16 +2,16 @@
 
 ghost use Rattle.std.specs.Prelude.{◌≡◌, IsTrue, nat_lt, count_by, length, sum_by, IfSome};
 ghost use Rattle.std.specs.List.{list_all, enumerate_from};
-ghost use Rattle.define_pools.specs.Lists.{includes};
-ghost use Rattle.define_pools.specs.Pool.{allows, keeps_households, keeps_standings, members_with, share_household as share};
+ghost use Rattle.define_pools.specs.Pool.{keeps_households, members_with, share_household as share};
 ghost use Rattle.define_loosenings.specs.Teams.{is_team as is_team_of, missed_by as missed_by_number, team_cost as team_cost_of};
 
-use pool_model::{BoundedValue, Category, Panel, Pool, Standing, Volunteer, share_household};
+use pool_model::{BoundedValue, Category, Panel, Pool, Volunteer, share_household};
+use quota_conflicts::{are_below, keep_standings};
 use quota_loosen::number_with;
 
 /// True if the panel is a team of the pool: it has the pool's size, its members are volunteers, it has everyone who is seated and no one
 /// who is gone, and no two members share a household.
-pub fn is_team(pool: &Pool, panel: &Panel) -> bool
+pub(crate) fn is_team(pool: &Pool, panel: &Panel) -> bool
     ensures { result ≡ is_team_of pool.now panel.now }
 {
     let members = panel.members();
@@ -19,37 +19,6 @@ pub fn is_team(pool: &Pool, panel: &Panel) -> bool
         && are_below(members, pool.volunteers().len())
         && keep_standings(pool.volunteers(), members)
         && keep_households(pool.volunteers(), members)
-}
-
-fn are_below(members: &[usize], count: usize) -> bool
-    ensures { result ≡ list_all (λ i. nat_lt i count) members.now }
-{
-    members.iter().all(|i| *i < count)
-}
-
-fn keep_standings(volunteers: &[Volunteer], members: &[usize]) -> bool
-    ensures { result ≡ keeps_standings volunteers.now members.now }
-{
-    volunteers.iter().enumerate().all(|(i, volunteer)| permits(
-        volunteer.standing(),
-        is_member(members, i),
-    ))
-}
-
-fn is_member(members: &[usize], i: usize) -> bool
-    ensures { result ≡ includes members.now i }
-{
-    members.iter().any(|member| *member == i)
-}
-
-fn permits(standing: Standing, is_in: bool) -> bool
-    ensures { result ≡ allows standing is_in }
-{
-    match standing {
-        Standing::Open => true,
-        Standing::Seated => is_in,
-        Standing::Gone => !is_in,
-    }
 }
 
 fn keep_households(volunteers: &[Volunteer], members: &[usize]) -> bool
@@ -71,14 +40,14 @@ fn number_of_household(volunteers: &[Volunteer], members: &[usize], i: usize) ->
 }
 
 /// Returns what a team costs, or None if that doesn't fit.
-pub fn team_cost(pool: &Pool, team: &Panel) -> Option<usize>
+pub(crate) fn team_cost(pool: &Pool, team: &Panel) -> Option<usize>
     requires { IsTrue (is_team_of pool.now team.now) }
     ensures { IfSome result (λ cost. cost ≡ team_cost_of pool.now team.now) }
 {
     cost(pool.categories(), pool.volunteers(), team.members())
 }
 
-/// Returns the sum over the values of all categories of how far the members miss their bounds.
+/// Returns the sum over the values of all categories of how far the members miss their bounds, or None if that doesn't fit.
 fn cost(categories: &[Category], volunteers: &[Volunteer], members: &[usize]) -> Option<usize>
     requires { IsTrue (list_all (λ i. nat_lt i (length volunteers.now)) members.now) }
     ensures { IfSome result (λ cost. cost ≡ sum_by (λ (c, category).
@@ -93,7 +62,7 @@ fn cost(categories: &[Category], volunteers: &[Volunteer], members: &[usize]) ->
     Some(sum)
 }
 
-/// Returns the sum over the values of a category of how far the members miss their bounds.
+/// Returns the sum over the values of a category of how far the members miss their bounds, or None if that doesn't fit.
 fn category_cost(
     values: &[BoundedValue],
     volunteers: &[Volunteer],
@@ -113,7 +82,7 @@ fn category_cost(
     Some(sum)
 }
 
-/// Returns how far a number is below the least or above the greatest number of a value.
+/// Returns how far a number is below the least or above the greatest number of a value, or None if that doesn't fit.
 fn missed_by(value: &BoundedValue, number: usize) -> Option<usize>
     ensures { IfSome result (λ missed. missed ≡ missed_by_number value.now.lower value.now.upper number) }
 {

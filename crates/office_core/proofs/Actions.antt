@@ -22,7 +22,7 @@ use Rattle.office_core.specs.declared.stops.DecideStop.TheVariants as decide
 -- ---- the tables after a call
 
 module _ (told : Option Tables) (loaded : Tables) (command : Command) (after : Option Tables) where
-  -- an outcome that leaves the tables
+  -- if the command's outcome leaves the tables as they are, and the keeper's tables are unchanged, `HasOutcomeOver` holds
   stays_so : (outcome : Outcome) → ((tables : Tables) → tables_after tables outcome ≡ tables) → Comes loaded command outcome → after ≡ told → HasOutcomeOver loaded told command outcome after
   stays_so outcome stays comes unchanged = record { comes = comes; leaves = unchanged ∙ kept told }
     where
@@ -47,7 +47,7 @@ module _ (told : Option Tables) (loaded : Tables) (command : Command) (after : O
   has_outcome : (outcome : Outcome) → IsLoaded told loaded → HasOutcomeOver loaded told command outcome after → HasOutcome told command outcome after
   has_outcome outcome is has = record { tables = loaded; loaded = is; comes = has.comes; leaves = has.leaves }
 
-  -- What is done over the tables that were loaded is done over the keeper.
+  -- If `ActsOver` holds over the tables that were loaded from the keeper, `ActsOn` holds of the keeper.
   pub acts_on : (result : Result Reply ActStop) → IsLoaded told loaded → ActsOver loaded told command result after → ActsOn told command result after
   acts_on (Ok reply) is (change, has) = (change, has_outcome (Replies change (seen_reply reply)) is has)
   acts_on (Err (act.Refused refusal)) is has = has_outcome (Refuses (seen_refusal refusal)) is has
@@ -56,7 +56,7 @@ module _ (told : Option Tables) (loaded : Tables) (command : Command) (after : O
   acts_on (Err act.KeeperFault) is same = same
   acts_on (Err act.OutOfMemory) is same = same
 
--- ---- a change leaves tables
+-- ---- the facts of tables after a change
 
 pub change_keeps : (told : Option Tables) (loaded : Tables) (command : Command) (change : Option office.Change) (reply : office.Reply) → IsTables loaded → IsCommand command → IfSome told (λ kept. loaded ≡ kept) →
     Comes loaded command (Replies change reply) → IfSome told (λ kept. IsTables (applied kept change))
@@ -64,7 +64,7 @@ change_keeps None loaded command change reply keeps is same comes = tt
 change_keeps (Some kept) loaded command change reply keeps is same comes =
     subst (λ t. IsTables (applied t change)) same (comes_keeps loaded keeps command (Replies change reply) is comes)
 
--- ---- faults
+-- ---- the keeper's count of faults
 
 pub failed_fault : (before now : ℕ) (stop : KeeperStop) → HasCause {T = Tables} before now (Err stop) → HasFault before now (Err (stop_of_keeper stop))
 failed_fault before now keeper.Failed cause = cause
@@ -76,9 +76,10 @@ stopped_fault before now (decide.Solve stopped) same = same
 stopped_fault before now (decide.Unproved verdict) same = same
 stopped_fault before now decide.OutOfMemory same = same
 
--- ---- lists of commands
+-- ---- the tables that a list of commands and one more command leave
 
--- If some commands leave the tables that a keeper tells, these commands and one more leave the tables after its outcome.
+-- If some commands leave the tables that a keeper tells, these commands followed by `command` leave the tables after the outcome of
+-- `command`.
 grown : (commands : List Command) (command : Command) (kept : Tables) (outcome : Outcome) (after : Option Tables) → Folds commands kept → HasOutcome (Some kept) command outcome after →
     (left : Tables) × (after ≡ Some left) × Folds (commands ++ command ∷ []) left
 grown commands command kept outcome after folds has = (

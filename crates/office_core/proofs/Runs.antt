@@ -1,4 +1,4 @@
--- What a solve of an open round decides, by the ending of the run over its pool.
+-- What a solve of an open round returns, given the ending of the run over its pool.
 use Rattle.std.proofs.Common.{◌≡◌, ℕ, Option, Some, None, Result, Ok, Err, refl}
 use Rattle.define_pools.specs.Pool.{Pool}
 use Rattle.define_runs.specs.Run as run

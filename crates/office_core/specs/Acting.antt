@@ -1,4 +1,4 @@
--- What a command over a keeper says, by the tables that the keeper tells before and after. The promise of `act` cites it.
+-- What a call of `act` returns, and what it does to the tables that the keeper tells. The promises of `act` and `act_over` use it.
 use Rattle.std.specs.Prelude.{◌≡◌, ◌≤◌, ℕ, List, [], ◌∷◌, ◌++◌, IfSome, Option, Some, None, Result, Ok, Err, option_map, ⊤}
 use Rattle.define_checks.specs.Reasons as reasons
 use Rattle.define_runs.specs.Run.{Ending}
@@ -22,7 +22,7 @@ abbrev pub stop_of_keeper : KeeperStop → ActStop
 stop_of_keeper keeper.Failed = KeeperFault
 stop_of_keeper keeper.OutOfMemory = OutOfMemory
 
--- tables that a keeper with these tables loads: they keep their facts, and are the ones that the keeper tells, if it tells its tables
+-- tables that a keeper may load: the facts of `IsTables` hold of them, and if the keeper tells tables, they are these
 pub record IsLoaded (kept : Option Tables) (tables : Tables) : Type 0 where
   pub is : IsTables tables
   pub same : IfSome kept (λ told. tables ≡ told)
@@ -52,7 +52,7 @@ ActsOver tables before command (Err (Unproved verdict)) after =
 ActsOver tables before command (Err KeeperFault) after = after ≡ before
 ActsOver tables before command (Err OutOfMemory) after = after ≡ before
 
--- as `ActsOver`, over the tables that the keeper loads
+-- the same as `ActsOver`, but over the tables that the keeper loads
 abbrev pub ActsOn : Option Tables → office.Command → Result Reply ActStop → Option Tables → Type 0
 ActsOn before command (Ok reply) after = (change : Option office.Change) × HasOutcome before command (Replies change (seen_reply reply)) after
 ActsOn before command (Err (Refused refusal)) after = HasOutcome before command (Refuses (seen_refusal refusal)) after
@@ -62,7 +62,7 @@ ActsOn before command (Err (Unproved verdict)) after =
 ActsOn before command (Err KeeperFault) after = after ≡ before
 ActsOn before command (Err OutOfMemory) after = after ≡ before
 
--- the call ended with an outcome of the command, not with a fault of the keeper or for want of memory; so the command counts in the fold
+-- the call ended with an outcome of the command, and not because the keeper failed or memory ran out; so the command counts in the fold
 abbrev pub IsDone : Result Reply ActStop → Type 0
 IsDone (Ok reply) = ⊤
 IsDone (Err (Refused refusal)) = ⊤
@@ -76,7 +76,7 @@ abbrev pub GoesOn : Option Tables → office.Command → Result Reply ActStop �
 GoesOn before command result after = (commands : List office.Command) (kept : Tables) → before ≡ Some kept → Folds commands kept → IsDone result →
     (left : Tables) × (after ≡ Some left) × Folds (commands ++ command ∷ []) left
 
--- the keeper counted a fault exactly if the call stopped by one
+-- the keeper counted a fault exactly if the call stopped because of one
 abbrev pub HasFault : ℕ → ℕ → Result Reply ActStop → Type 0
 HasFault before now (Ok reply) = now ≡ before
 HasFault before now (Err (Refused refusal)) = now ≡ before

@@ -1,4 +1,4 @@
--- Which outcome of the definitions a result of `decide` is. The promise of `decide` cites it.
+-- Which outcome of the definitions a result of `decide` is. The promise of `decide` uses it.
 use Rattle.std.specs.Prelude.{◌≡◌, Option, Some, Result, Ok, Err, option_map, ⊤}
 use Rattle.define_checks.specs.Reasons as reasons
 use Rattle.define_pools.specs.Pool.{Pool}

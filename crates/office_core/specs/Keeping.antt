@@ -1,4 +1,4 @@
--- How a call of a keeper counts faults, and what it does to the place and the tables that the keeper tells. The trait `Keeper` cites it.
+-- How a call of a keeper counts faults, and what it does to the place and the tables that the keeper tells. The trait `Keeper` uses it.
 use Rattle.std.specs.Prelude.{◌≡◌, ◌≤◌, ℕ, List, Option, Result, Ok, Err, option_map}
 use Rattle.outside.specs.Faults.{Rose}
 use Rattle.define_offices.specs.Commands.{Change}
@@ -7,7 +7,7 @@ use Rattle.define_offices.specs.Tables.{Tables}
 use Rattle.office_core.specs.declared.keeper.KeeperStop.{KeeperStop}
 use Rattle.office_core.specs.declared.keeper.KeeperStop.TheVariants.{Failed, OutOfMemory}
 
--- the call failed and the count rose, or it ended otherwise and counted nothing
+-- the call returned `Failed` and the count of faults rose, or it ended otherwise and the count stayed
 abbrev pub HasCause : {T : Type 0} → ℕ → ℕ → Result T KeeperStop → Type 0
 HasCause before now (Ok value) = now ≡ before
 HasCause before now (Err Failed) = (before ≤ now) × Rose before now

@@ -18,8 +18,8 @@ use outside::Watch;
 use std::alloc::Global;
 use std::thread::Threads;
 
-/// Does a command over a keeper that is attached. Returns the reply, after the change was stored if there is one. After every stop the kept
-/// tables are as before.
+/// Does a command over a keeper that is attached. Stores the change that the command makes, if there is one, and then returns the reply.
+/// After every stop the kept tables are as before.
 pub fn act<K: Keeper, R: Threads + Sync, W: Watch + Sync>(
     rt: &R,
     alloc: Global,
@@ -37,7 +37,7 @@ pub fn act<K: Keeper, R: Threads + Sync, W: Watch + Sync>(
     acted(rt, alloc, keeper, command, watch)
 }
 
-/// Does what `act` does, with each of its clauses except `fold`, which follows from `step`.
+/// The body of `act`. Its contract has each clause of that of `act` except `fold`, which follows from `step`.
 fn acted<K: Keeper, R: Threads + Sync, W: Watch + Sync>(
     rt: &R,
     alloc: Global,
@@ -55,7 +55,7 @@ fn acted<K: Keeper, R: Threads + Sync, W: Watch + Sync>(
     act_over(rt, alloc, keeper, &tables, command, watch)
 }
 
-/// Does a command over tables that were loaded from the keeper, as `act` does over those that it loads itself.
+/// Does a command like `act`, but over tables that the caller loaded from the keeper.
 pub fn act_over<K: Keeper, R: Threads + Sync, W: Watch + Sync>(
     rt: &R,
     alloc: Global,

@@ -30,7 +30,7 @@ pub enum Command {
     Keep {
         /// The round's number.
         round: usize,
-        /// The proof of a lottery over the round's pool, or that there is no quota panel.
+        /// A proof of a lottery over the round's pool, or a proof that this pool has no quota panel.
         proof: Proof,
     },
     /// Tells the seal of a round's bundle.
@@ -66,13 +66,13 @@ pub enum Command {
     },
     /// Lets a volunteer withdraw, named by the key.
     Withdraw {
-        /// The volunteer's key, of whatever bytes.
+        /// The volunteer's key. Any bytes are allowed.
         key: Vec<u8>,
     },
 }
 
 impl Command {
-    /// Does nothing; its contract says what holds of each command.
+    /// Does nothing; its contract says that each command is within the limits of `IsCommand`.
     pub fn facts(&self)
         ensures { IsCommand (seen_command self.now) }
     {

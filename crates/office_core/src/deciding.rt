@@ -19,7 +19,7 @@ use std::alloc::Global;
 use std::thread::Threads;
 
 /// Returns the outcome of a command over `tables`: a reply, with a change if the tables don't stay as they are; or a stop with the refusal,
-/// the run's stop or the verdict on the proof.
+/// the run's stop or the verdict on the proof. Memory may run out at any time; that is a stop too.
 pub fn decide<R: Threads + Sync, W: Watch + Sync>(
     rt: &R,
     alloc: Global,

@@ -1,4 +1,4 @@
-//! The trait of what keeps the tables of an office between calls.
+//! The trait of keepers, which keep the tables of an office between calls.
 
 ghost use Rattle.std.specs.Prelude.{◌≡◌, ℕ, IfOk, IfSome, OnErr, OnOk, Option};
 ghost use Rattle.define_offices.specs.Facts.{IsTables};
@@ -22,8 +22,8 @@ pub enum KeeperStop {
     OutOfMemory,
 }
 
-/// What keeps the tables of an office. It counts its faults; the count never falls. A call that returns `Failed` counts a fault, and no
-/// other call does.
+/// A keeper keeps the tables of an office, and counts its own faults. The count never falls. A call that returns `Failed` counts a fault,
+/// and no other call does.
 pub trait Keeper {
     /// The tables that are kept, if the keeper can tell.
     ghost tables: { Self → Option Seen };
@@ -48,7 +48,7 @@ pub trait Keeper {
         ensures loaded { IfOk result (λ loaded. IfSome (tables self.old) (λ kept. loaded ≡ kept)) }
         ensures cause { HasCause (faults self.old) (faults self.new) result };
 
-    /// Makes a change of the kept tables; after a stop they are as before. If the keeper tells its tables, the caller must show that
+    /// Stores a change of the kept tables; after a stop they are as before. If the keeper tells its tables, the caller must show that
     /// `IsTables` holds of them after the change.
     fn store(&mut self, alloc: Global, change: &Change) -> Result<(), KeeperStop>
         requires { IfSome (tables self.old) (λ kept. IsTables (apply kept (seen_change change.now))) }

@@ -1,10 +1,11 @@
 //! The office as a small machine: commands over its tables. `decide` returns the outcome of a command over tables. `act` loads the tables
 //! from a keeper, decides, and stores the change; `act_over` does so over tables that were loaded before. Stands on `office_steps`, which
-//! decides each command that needs neither the run nor a proof, on `leximin_run` and `proof_verify` for the others, and on the definitions
-//! of `define_offices` and their laws. `office_keeper` and `command_stores` stand on it.
+//! decides each command that needs neither the run nor a proof; on `leximin_run` and `proof_verify`, for the other commands; and on the
+//! definitions of `define_offices` and their laws. Used by `office_keeper`, by `office_desk` and `office_http`, and by the commands of the
+//! office.
 //!
-//! Promises: `decide` returns an outcome of the command by the definitions, and `act` and `act_over` change a keeper's tables by that
-//! outcome; the trait `Keeper`.
+//! Promises: `decide` returns an outcome of the command by the definitions; `act` and `act_over` change a keeper's tables by that outcome;
+//! and the contracts of the trait `Keeper`.
 #![tactic(auto)]
 
 mod acting;

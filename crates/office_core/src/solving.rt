@@ -64,7 +64,7 @@ fn run_stopped(stop: Stop) -> DecideStop
     }
 }
 
-/// Returns the outcome of a `Keep`: of a proof for a round.
+/// Returns the outcome of keeping a proof for a round.
 pub(crate) fn keep_proof(
     alloc: Global,
     tables: &Tables,
@@ -93,7 +93,8 @@ pub(crate) fn keep_proof(
     }
 }
 
-/// Returns the reply and the change if an open round keeps the answer of `bundle`, whose pool is `pool`.
+/// Returns the reply and the change if round `number`, which is open and has the pool `pool`, keeps the answer of `bundle`. The pool of
+/// `bundle` is the same.
 fn keep_answer(
     alloc: Global,
     number: usize,
@@ -109,7 +110,7 @@ fn keep_answer(
     answered(alloc, number, pool, answer)
 }
 
-/// Returns the pool of an open round, or why there is none.
+/// Returns the pool of round `number`, or why there is none.
 fn round_pool(alloc: Global, tables: &Tables, number: usize) -> Result<Pool, DecideStop>
     ensures { TellsPool (pool_of_round tables.now number) result }
 {
@@ -163,7 +164,7 @@ fn solved_reply(alloc: Global, number: usize, bundle: &Bundle) -> Result<Reply, 
     )
 }
 
-/// True if both pools are the same. Compares their texts, since each pool has one text.
+/// True if both pools are the same. Compares their texts, since no two pools have the same text.
 fn is_same_pool(alloc: Global, one: &Pool, other: &Pool) -> Result<bool, AllocError>
     ensures { IfOk result (λ same. same ≡ are_same one.now other.now) }
 {

@@ -9,7 +9,7 @@ use Rattle.serde_json.specs.Written.{compact_text, has_float, items_have_float, 
 use Rattle.define_desk.specs.Replies.{listed, text_or_null, texts, truth, truth_or_null}
 use Rattle.office_desk.specs.Bodies.{draw_data, draw_text, own_data, own_text, text_data, truth_data}
 
--- ---- values by themselves
+-- ---- a text or a truth value, or null
 
 text_data-text : (text : Option (List ℕ)) → compact_text (text_data text) ≡ text_or_null text
 text_data-text None = refl

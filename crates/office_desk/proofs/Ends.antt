@@ -30,7 +30,7 @@ comes_withdrawn : (tables : Tables) (key : List ℕ) (outcome : Outcome) → Com
 comes_withdrawn tables key outcome (AtOnce e) = cc
 comes_withdrawn tables key outcome (ByRun number limits pool ending c n r e) = absurd (cc)
 
--- the tables that were loaded are those that the keeper tells
+-- if the keeper tells no tables, or those that were loaded, then changing the told tables gives the same as changing the loaded ones
 kept_as : (before : Option Tables) (tables : Tables) (change : Tables → Tables) → IfSome before (λ kept. tables ≡ kept) → option_map (λ t. change t) before ≡ option_map (λ t. change tables) before
 kept_as None tables change e = refl
 kept_as (Some kept) tables change e = ap (λ t. Some (change t)) (sym e)
@@ -86,7 +86,7 @@ unknown_with before tables key None sent loaded f tells is =
     subst (λ (serves : Served). EndsAs before serves before sent) (sym whole) (left_so before tables unknown_key sent loaded is)
 unknown_with before tables key (Some entry) sent loaded f tells is = absurd (cc)
 
--- if the key is nobody's, a withdrawal by it ends with the reply `unknown_key`, and the tables stay
+-- if no volunteer has the key, a withdrawal with it ends with the reply `unknown_key`, and the tables stay as they are
 pub unknown_ends : (before : Option Tables) (tables : Tables) (key : List ℕ) (sent : Sent) → IfSome before (λ kept. tables ≡ kept) → TellsWithdrawn (with_hash tables.register (seal_of key)) None →
     sent ≡ sent_of unknown_key → EndsAs before (withdrawal tables (key ∷ [])) before sent
 unknown_ends before tables key sent loaded tells is = unknown_with before tables key (with_hash tables.register (seal_of key)) sent loaded refl tells is
@@ -104,7 +104,7 @@ module _ (before : Option Tables) (tables : Tables) (request : Request) (loaded 
   shown_reply reply sent e (inl is) = ends_reply (leaving tables reply) before sent e (left_so before tables reply sent loaded.same is)
   shown_reply reply sent e (inr is) = NoMemory is refl
 
--- ---- pages
+-- ---- the reply for each page
 
 module _ (tables : Tables) (request : Request) where
   pub at_bundle : (found : Option SeenPage) (round : ℕ) → option_map seen_page found ≡ Some (Bundle round) → served_page tables request found ≡ leaving tables (bundle_reply request (published_of (map published tables.rounds) round))

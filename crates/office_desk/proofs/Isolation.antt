@@ -1,4 +1,4 @@
--- What a key learns: the reply to each request is the same over all tables with the same view for this key.
+-- What can be learned with a key: the reply to each request with it is the same over all tables with the same view for this key.
 use Rattle.std.proofs.Common.{◌≡◌, ℕ, zero, suc, ◌+◌, ◌<◌, Bool, true, false, cond, eqb, not, ◌&&◌, List, [], ◌∷◌, length, get_or, map, option_map, Option, Some, None, refl, sym, ap, ◌∙◌, arith, subst}
 use Rattle.std.specs.Prelude.{codes, IsTrue}
 use Rattle.std.specs.Str.{bytes_eq}
@@ -24,7 +24,7 @@ use Rattle.office_desk.proofs.Seats.{IsRow, row_of, same_place, seat_by, seat_fi
 
 -- ---- the last rounds
 
--- the round at a place before the last is drawn, and somebody dropped out of it
+-- the round at place `k` is drawn
 pub record WasDrawn (rounds : List Round) (k : ℕ) : Type 0 where
   pub bundle : Bundle
   pub digits : List ℕ
@@ -63,7 +63,7 @@ last_open (Solved bundle ∷ next ∷ later) c = absurd (false≢true c)
 last_open (Sealed bundle ∷ next ∷ later) c = absurd (false≢true c)
 last_open (Drawn bundle digits dropped ∷ next ∷ later) c = last_open (next ∷ later) (and_parts (has_drop (Drawn bundle digits dropped)) (closed_but_last (next ∷ later)) c).1
 
--- a last round that is open is at its place
+-- if the last round is open and there are `k + 1` rounds, the round at place `k` is open
 open_at : (rounds : List Round) (k : ℕ) → is_last_open rounds ≡ true → length rounds ≡ suc k → round_at rounds k ≡ Some Open
 open_at [] k o e = absurd (omega arith)
 open_at (Open ∷ []) zero o e = refl
@@ -97,7 +97,8 @@ at_first : (start : ℕ) (rest : List ℕ) (b : Bool) → includes rest (start +
 at_first start rest true none = or_left (eqb start (start + 0)) (includes rest (start + 0)) (eq-eqb start (start + 0) (omega arith))
 at_first start rest false none = none
 
--- the numbers of the rounds of which somebody dropped out tell it of each round
+-- round `start + k` is among the rounds from which the volunteer dropped out exactly if the round at place `k` has this volunteer among its
+-- dropouts
 dropped_at : (id : List ℕ) (rounds : List Round) (start k : ℕ) → includes (dropped_from id rounds start) (start + k) ≡ dropped_in id (round_at rounds k)
 dropped_at id [] start k = refl
 dropped_at id (round ∷ rounds) start zero =
@@ -110,7 +111,7 @@ dropped_at id (round ∷ rounds) start (suc k) =
 
 -- ---- a volunteer in two tables
 
--- the row of a key in tables, and where it is
+-- the register of the tables has the id of `entry` at `place`
 pub record RowIn (tables : Tables) (place : ℕ) (entry : Entry) : Type 0 where
   pub inside : place < length tables.register
   pub read : get_or (entry_ids tables.register) place [] ≡ entry.id
@@ -121,7 +122,8 @@ row_in tables hash place entry e =
     let same : row.index ≡ place = (let is = row.is in omega arith) in
     record { inside = subst (λ (k : ℕ). k < length tables.register) same row.inside; read = subst (λ (k : ℕ). get_or (entry_ids tables.register) k [] ≡ entry.id) same row.read }
 
--- tables with the same view for a key, whose volunteer has the row `entry` in both
+-- what two tables with the same view for the key of `entry` share: what is published of their rounds, the phase of the last round, and the
+-- rounds from which this volunteer dropped out
 pub record SameSeen (one other : Tables) (entry : Entry) : Type 0 where
   pub rounds : map published one.rounds ≡ map published other.rounds
   pub phase : last_phase one.rounds ≡ last_phase other.rounds
@@ -185,7 +187,7 @@ module _ (one other : Tables) (keeps : IsTables one) (keeps' : IsTables other) (
 
 -- ---- replies to withdrawals
 
--- the row of a key is the one at its place
+-- looking for a key's row with or without its place finds the same row
 pub row_with : (register : List Entry) (hash : List ℕ) (start : ℕ) → with_hash register hash ≡ option_map (λ (found : ℕ × Entry). found.1) (place_of_hash register hash start)
 row_with [] hash start = refl
 row_with (entry ∷ register) hash start = by (bytes_eq hash entry.hash) (row_with register hash (start + 1))
@@ -195,7 +197,7 @@ row_with (entry ∷ register) hash start = by (bytes_eq hash entry.hash) (row_wi
     by true e = refl
     by false e = e
 
--- the reply to a withdrawal, by whether the volunteer withdrew before and may withdraw
+-- the reply to a withdrawal, by whether the volunteer withdrew before, and whether they may still withdraw
 abbrev pub reply_by : Entry → Bool → Bool → Reply
 reply_by entry withdrew may = cond withdrew (told (withdrawn_body entry.id)) (cond may (told (withdrawn_body entry.id)) too_late)
 

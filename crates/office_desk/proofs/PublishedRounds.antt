@@ -1,4 +1,4 @@
--- What is published of the round with a number, and what holds of it.
+-- What is published of the round with a number, and that published bundles and digits are sound.
 use Rattle.std.proofs.Common.{◌≡◌, ℕ, zero, suc, List, [], ◌∷◌, map, length, Option, Some, None, refl}
 use Rattle.define_offices.specs.declared.Phase.{Phase}
 use Rattle.define_offices.specs.declared.Phase.TheVariants as phase
@@ -36,7 +36,7 @@ phase_of_last [] = refl
 phase_of_last (round ∷ []) = refl
 phase_of_last (round ∷ next ∷ later) = phase_of_last (next ∷ later)
 
--- ---- what holds of what is published
+-- ---- published bundles and digits are sound
 
 round_sound : (tables : Tables) (round : Round) → KeepsRound tables round → IsSound (published round)
 round_sound tables Open h = tt

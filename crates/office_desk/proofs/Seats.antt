@@ -20,9 +20,9 @@ use Rattle.define_offices.specs.Pools.{after_withdrawals, drawn_of, has_withdraw
 use Rattle.define_offices.specs.Tables.{Charter, Entry, Round, Open, Solved, Sealed, Drawn, Tables, round_at}
 use Rattle.laws_of_offices.proofs.Pools.{length-restood}
 
--- ---- lists
+-- ---- the elements of lists and of filtered ranges
 
--- a list of different elements has each at one place
+-- a list includes the element at each of its places; if its elements are all different, each is at one place alone
 pub includes_at : (xs : List (List ℕ)) (j : ℕ) (x : List ℕ) → j < length xs → x ≡ get_or xs j [] → includes_list xs x ≡ true
 includes_at [] j x h e = absurd (omega arith)
 includes_at (y ∷ ys) zero x h e = or_left (bytes_eq x y) (includes_list ys x) ((bytes_eq-Decides x y).1 e)
@@ -58,7 +58,7 @@ passing_here first n rest false e none = none
 next_number : (a b : ℕ) → a ≤ b → (a ≡ b → ⊥) → a + 1 ≤ b
 next_number a b low other = omega (arith, other)
 
--- a number of a range is among those that pass a test exactly if it passes
+-- if the range of numbers that is filtered contains `n`, the filtered numbers include `n` exactly if `n` passes the test
 pub passes_in_range : (p : ℕ → Bool) (first count n : ℕ) → first ≤ n → n < first + count → includes (filter p (range_with_len first count)) n ≡ p n
 passes_in_range p first zero n low high = absurd (omega arith)
 passes_in_range p first (suc count) n low high = at (eqb first n) refl (λ less. passes_in_range p (first + 1) count n less (omega arith))
@@ -71,7 +71,7 @@ passes_in_range p first (suc count) n low high = at (eqb first n) refl (λ less.
         let less : first + 1 ≤ n = next_number first n low (eqb-false first n e) in
         passing_later first n (filter p (range_with_len (first + 1) count)) (p first) (p n) e (later less)
 
--- ---- rows
+-- ---- the row with the digest of a key
 
 pub record IsRow (register : List Entry) (start place : ℕ) (entry : Entry) : Type 0 where
   pub index : ℕ

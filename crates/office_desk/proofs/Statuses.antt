@@ -1,4 +1,4 @@
--- The statuses of replies that are no fault of the keeper.
+-- Replies whose status isn't 503: with these, `HasFault` holds if the keeper's count of faults stays the same.
 use Rattle.std.proofs.Common.{◌≡◌, ℕ, ◌≤◌, Bool, true, false, cond, List, [], ◌∷◌, Option, Some, None, inl, inr, refl, sym, subst}
 use Rattle.std.specs.Prelude.{◌==◌}
 use Rattle.std.specs.Bool.{MatchBool}

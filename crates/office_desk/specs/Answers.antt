@@ -1,4 +1,4 @@
--- What the desk sends, by what was asked and by the tables that the keeper tells before and after. The promise of `answer` cites it.
+-- What the desk sends for a request, and what it does to the tables that the keeper tells. The promise of `answer` uses it.
 use Rattle.std.specs.Prelude.{◌≡◌, ◌≤◌, ◌==◌, ℕ, Option, option_map}
 use Rattle.std.specs.Bool.{MatchBool}
 use Rattle.define_offices.specs.Tables.{Tables}
@@ -9,7 +9,8 @@ use Rattle.office_core.specs.Acting.{IsLoaded}
 use Rattle.outside.specs.Faults.{Rose}
 use Rattle.office_desk.specs.Sent.{Sent, sent_of}
 
--- what is sent for a request over the tables that were loaded. If the keeper tells its tables, they are then those of the desk
+-- what is sent for a request over the tables that were loaded. If the keeper tells its tables, they are afterwards as the definitions of
+-- the desk say
 pub record IsServed (before : Option Tables) (tables : Tables) (request : Request) (after : Option Tables) (sent : Sent) : Type 0 where
   pub replies : sent ≡ sent_of (served tables request).reply
   pub leaves : after ≡ option_map (λ told. (served tables request).tables) before
@@ -20,7 +21,7 @@ pub data IsReplyTo (before : Option Tables) (request : Request) (after : Option 
   Unavailable : sent ≡ sent_of unavailable → after ≡ before → IsReplyTo before request after sent
   NoMemory : sent ≡ sent_of out_of_memory → after ≡ before → IsReplyTo before request after sent
 
--- what is sent for what bytes ask for. Without a request no tables are loaded
+-- what is sent, by what the bytes ask for. If the bytes are too large or no request, the tables stay as they are
 abbrev pub IsDeskAnswer : Option Tables → Asking → Option Tables → Sent → Type 0
 IsDeskAnswer before TooLarge after sent = (sent ≡ sent_of too_large) × (after ≡ before)
 IsDeskAnswer before NoRequest after sent = (sent ≡ sent_of bad_request) × (after ≡ before)

@@ -1,11 +1,12 @@
--- Bodies of JSON by their parts, and the values whose texts they are. For `bodies`.
+-- Bodies of JSON: their texts, made of the texts of their parts, and the values whose texts they are. Used by the modules `bodies` and
+-- `own_page`.
 use Rattle.std.specs.Prelude.{ℕ, ◌++◌, Bool, true, List, Option, Some, None, codes}
 use Rattle.std.specs.Fmt.{decimal}
 use Rattle.json.specs.Print.{quoted}
 use Rattle.serde_json.specs.Data.{Data, null, boolean, number, unsigned, string, object, member, no_members}
 use Rattle.define_desk.specs.Replies.{text_or_null, truth, truth_or_null}
 
--- ---- texts
+-- ---- the texts of bodies
 
 abbrev pub own_text : Option (List ℕ) → Option Bool → List ℕ → List ℕ → ℕ → Bool → List ℕ
 own_text chance drawn id phase round withdrawn =
@@ -22,7 +23,7 @@ abbrev pub draw_text : List ℕ → List ℕ → List ℕ → List ℕ → List 
 draw_text digits panel seal ticket =
     codes "{\"digits\":" ++ quoted digits ++ codes ",\"panel\":" ++ panel ++ codes ",\"seal\":" ++ quoted seal ++ codes ",\"ticket\":" ++ quoted ticket ++ codes "}"
 
--- ---- values
+-- ---- the values whose texts are the bodies
 
 abbrev pub text_data : Option (List ℕ) → Data
 text_data None = null

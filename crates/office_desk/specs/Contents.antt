@@ -1,4 +1,4 @@
--- What the content of an answer sends. For `answers`.
+-- What is sent for the content of an answer. Used by the module `answers`.
 use Rattle.office_desk.specs.Sent.{Sent, sent_of}
 use Rattle.office_desk.specs.Refusals.{refusal_reply}
 use Rattle.office_desk.specs.declared.answers.Content.{Content}

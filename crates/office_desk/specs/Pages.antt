@@ -1,4 +1,4 @@
--- Pages of the program, as the definitions of the desk have them. For `routes`.
+-- Pages of the program, as the definitions of the desk have them. Used by the module `routes`.
 use Rattle.std.specs.Prelude.{ℕ, nat_le, nat_lt, Bool, ◌&&◌, List, length}
 use Rattle.std.specs.Char.{is_ascii_digit}
 use Rattle.std.specs.List.{list_all}
@@ -7,7 +7,7 @@ use Rattle.define_desk.specs.Desk.{round_named}
 use Rattle.office_desk.specs.declared.routes.Page.{Page}
 use Rattle.office_desk.specs.declared.routes.Page.TheVariants.{Bundle, Draw, Own, Withdrawal}
 
--- a round has its number instead of the text that names it
+-- a page, with a round's number in place of the text that names the round
 abbrev pub seen_page : desk.Page → Page
 seen_page (desk.BundlePage round) = Bundle (round_named round)
 seen_page (desk.DrawPage round) = Draw (round_named round)

@@ -1,4 +1,4 @@
--- Numbers of volunteers. For `public_pages`.
+-- Numbers of volunteers. Used by the module `public_pages`.
 use Rattle.std.specs.Prelude.{ℕ, nat_lt, IsTrue, List}
 use Rattle.std.specs.List.{list_all}
 

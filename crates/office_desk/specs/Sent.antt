@@ -1,4 +1,4 @@
--- What the desk sends. The promises of `answer` and `unwell` cite it.
+-- What the desk sends. The promises of `answer` and `unwell` use it.
 use Rattle.std.specs.Prelude.{ℕ, List}
 use Rattle.define_desk.specs.Replies.{Reply, reply_text}
 

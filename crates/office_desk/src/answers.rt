@@ -49,7 +49,7 @@ impl Answer {
         }
     }
 
-    /// The status.
+    /// Returns the status.
     pub fn status(&self) -> u16
         ensures { result ≡ self.now.status }
     {
@@ -59,7 +59,7 @@ impl Answer {
         }
     }
 
-    /// All bytes of the reply, from the status line to the end of the body.
+    /// Returns all bytes of the reply, from the status line to the end of the body.
     pub fn bytes(&self) -> &[u8]
         ensures { result.now ≡ self.now.bytes }
     {

@@ -10,8 +10,8 @@ ghost use Rattle.office_desk.specs.Bodies.{draw_data, draw_text, own_data, own_t
 use serde_json::{Value, json};
 use std::alloc::{AllocError, Global};
 
-/// What a volunteer sees: the chance and whether the panel has the volunteer, both once they are published; the id; the phase of the last
-/// round, and its number; and whether the volunteer withdrew.
+/// Returns the body for what a volunteer sees: the chance and whether the panel has the volunteer, both once they are published; the id;
+/// the phase of the last round, and its number; and whether the volunteer withdrew.
 pub(crate) fn own_body(
     alloc: Global,
     chance: Option<String>,
@@ -61,7 +61,7 @@ fn truth_or_null(truth: Option<bool>) -> Value
     }
 }
 
-/// What is published of a draw: the digits of the dice, the ids of the panel's members, the seal and the ticket.
+/// Returns the body for what is published of a draw: the digits of the dice, the ids of the panel's members, the seal and the ticket.
 pub(crate) fn draw_body(
     alloc: Global,
     digits: &str,
@@ -95,7 +95,7 @@ fn draw_value(
     json!(in alloc; {"digits": digits, "panel": panel, "seal": seal, "ticket": ticket})
 }
 
-/// What is told to who withdrew.
+/// Returns the body for a volunteer who withdrew.
 pub(crate) fn withdrawn_body(alloc: Global, id: &str) -> Result<String, AllocError>
     ensures { IfOk result (λ body. string_bytes body ≡ body_of_withdrawn id.now) }
 {

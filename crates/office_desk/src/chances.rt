@@ -15,7 +15,7 @@ use office_tables::{drawn_by, is_member};
 use pool_model::{Lottery, Name, Pool, Volunteer, chances};
 use std::alloc::{AllocError, Global};
 
-/// Returns the chance of the volunteer with this id in lowest terms, once the bundle is published.
+/// Returns the chance of the volunteer with this id, in lowest terms; or None if no bundle is published or no volunteer of it has the id.
 pub(crate) fn chance_of(
     alloc: Global,
     published: &Published<'_>,
@@ -64,7 +64,7 @@ fn chance_text(alloc: Global, bundle: &Bundle, number: usize) -> Result<String, 
     count_text(alloc, bundle.pool(), bundle.answer().lottery(), number)
 }
 
-/// Returns the chance of the volunteer with this number over a lottery in lowest terms.
+/// Returns the chance over a lottery, in lowest terms, of the volunteer with this number.
 fn count_text(
     alloc: Global,
     pool: &Pool,

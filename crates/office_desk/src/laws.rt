@@ -5,8 +5,8 @@ ghost use Rattle.define_offices.specs.Facts.{IsTables};
 ghost use Rattle.define_offices.specs.Tables.{Tables};
 ghost use Rattle.define_desk.specs.Desk.{BundlePage, DrawPage, IsIsolated, IsPublic};
 
-/// Does nothing; its contract is the law of isolation: a volunteer's key learns of the tables what its view has, and nothing else. Over two
-/// tables with the same view each request with this key gets the same reply.
+/// Does nothing; its contract is the law of isolation: whoever uses a volunteer's key learns only what the view of this key shows of the
+/// tables. Over two tables with the same view each request with this key gets the same reply.
 pub fn desk_is_isolated()
     ensures { (one other : Tables) → IsTables one → IsTables other → (key : List ℕ) → IsIsolated one other key }
 {}

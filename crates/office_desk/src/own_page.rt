@@ -37,7 +37,7 @@ pub(crate) fn own_page_answer(
     }
 }
 
-/// Returns the reply to the keys that were given: there must be one, and it must be a volunteer's.
+/// Returns the reply to the keys that were given: the refusal `UnknownKey` unless there is exactly one, and it is a volunteer's.
 fn own_answer(alloc: Global, tables: &Tables, keys: &[Key]) -> Result<Answer, AllocError>
     ensures { IfOk result (λ answer. answer ≡ sent_of (own_reply tables.now keys.now)) }
 {

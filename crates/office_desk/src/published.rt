@@ -17,7 +17,7 @@ pub(crate) enum Published<'a> {
     TheDraw(&'a Bundle, &'a [u8]),
 }
 
-/// Returns what is published of the round with a number, counted from 1. There is nothing of a round that isn't there.
+/// Returns what is published of the round with a number, counted from 1. Nothing is published of a round that doesn't exist.
 pub(crate) fn published_of(tables: &Tables, number: usize) -> Published<'_>
     ensures is { seen_published result ≡ published_with (map published_so tables.now.rounds) number }
     ensures sound { IsSound (seen_published result) }

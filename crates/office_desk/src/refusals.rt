@@ -11,17 +11,17 @@ use http::StatusCode;
 pub(crate) enum Refusal {
     /// The head or the body is too large.
     TooLarge,
-    /// It is no request.
+    /// The bytes are no request.
     NoRequest,
     /// The keeper failed.
     Unavailable,
-    /// There is no such page.
+    /// There is no page at this path.
     NotFound,
-    /// The page is asked for by another method than `GET`.
+    /// The page is asked for by a method other than `GET`.
     GetOnly,
-    /// The page is asked for by another method than `POST`.
+    /// The page is asked for by a method other than `POST`.
     PostOnly,
-    /// There isn't exactly one key, or it is nobody's.
+    /// There isn't exactly one key, or no volunteer has it.
     UnknownKey,
     /// The volunteer can't withdraw any more.
     TooLate,
@@ -30,7 +30,7 @@ pub(crate) enum Refusal {
 }
 
 impl Refusal {
-    /// The status of the reply.
+    /// Returns the status of the reply.
     pub(crate) fn status(self) -> u16
         ensures { result ≡ (refusal_reply self).status }
     {
@@ -47,7 +47,7 @@ impl Refusal {
         status.as_u16()
     }
 
-    /// All bytes of the reply.
+    /// Returns all bytes of the reply.
     pub(crate) fn text(self) -> &'static [u8]
         ensures { result.now ≡ reply_text (refusal_reply self) }
     {

@@ -32,7 +32,7 @@ fn told_with(alloc: Global, media: &str, body: &[u8]) -> Result<Answer, AllocErr
     Ok(Answer::told(bytes))
 }
 
-/// Returns all that comes before a body of `size` bytes.
+/// Returns the head of a reply with a body of `size` bytes: the status line, the headers and the empty line.
 fn head(alloc: Global, media: &str, size: usize) -> Result<String, AllocError>
     ensures { IfOk result (λ head. string_bytes head ≡ told_head media.now size) }
 {

@@ -50,7 +50,7 @@ fn round_page(path: &[u8]) -> Option<Page>
     }
 }
 
-/// Returns what follows `front` in a path, if the path begins so.
+/// Returns what follows `front` in a path, if the path begins with `front`.
 fn after_front<'a>(front: &[u8], path: &'a [u8]) -> Option<&'a [u8]>
     ensures { option_map (λ rest. rest.now) result ≡ rest_after front.now path.now }
 {

@@ -1,4 +1,4 @@
-//! Answers what was asked over the tables that a keeper keeps.
+//! Answers a request over the tables that a keeper keeps.
 
 ghost use Rattle.std.specs.Prelude.{◌≡◌, IfOk};
 ghost use Rattle.define_desk.specs.Replies.{Reply, out_of_memory};
@@ -20,9 +20,9 @@ use outside::Watch;
 use std::alloc::{AllocError, Global};
 use std::thread::Threads;
 
-/// Returns the desk's reply to what was asked, after the withdrawal was stored if it is one. The first refusal that applies is returned, in
-/// this order: 413 and 400, for which nothing is loaded; 503, after which the tables are as before; 404, 405, 401 and 409. Memory may run
-/// out at any time but at 413 and 400: the reply is then 507, and nothing was stored.
+/// Returns the desk's reply to what was asked. A withdrawal is stored before its reply is returned. The first refusal that applies is
+/// returned, in this order: 413 and 400, for which nothing is loaded; 503, after which the tables are as before; 404, 405, 401 and 409.
+/// Unless the reply is 413 or 400, memory may run out at any time: the reply is then 507, and nothing was stored.
 pub fn answer<R: Threads + Sync, K: Keeper, W: Watch + Sync>(
     rt: &R,
     alloc: Global,
@@ -86,7 +86,7 @@ fn reply_over<R: Threads + Sync, K: Keeper, W: Watch + Sync>(
     }
 }
 
-/// Returns the answer, or the reply for want of memory.
+/// Returns the answer, or if memory ran out, the reply that says so.
 fn or_short(made: Result<Answer, AllocError>) -> Answer
     ensures { (reply : Reply) → IfOk made (λ answer. answer ≡ sent_of reply) → IsSentFor reply result }
 {
@@ -96,7 +96,7 @@ fn or_short(made: Result<Answer, AllocError>) -> Answer
     }
 }
 
-/// Returns the reply for want of memory while a request was read.
+/// Returns the reply to a request if memory ran out while the request was read.
 pub fn unwell() -> Answer
     ensures { result ≡ sent_of out_of_memory }
 {

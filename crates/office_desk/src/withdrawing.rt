@@ -42,7 +42,7 @@ pub(crate) fn withdrawal_answer<R: Threads + Sync, K: Keeper, W: Watch + Sync>(
     }
 }
 
-/// Returns the reply to a withdrawal with these keys: there must be one, and it must be a volunteer's.
+/// Returns the reply to a withdrawal with these keys: the refusal `UnknownKey` unless there is exactly one, and it is a volunteer's.
 fn withdrawal_by<R: Threads + Sync, K: Keeper, W: Watch + Sync>(
     rt: &R,
     alloc: Global,
@@ -83,7 +83,7 @@ fn withdrawal_with<R: Threads + Sync, K: Keeper, W: Watch + Sync>(
     }
 }
 
-/// Returns the reply to the volunteer with this key after the withdrawal, or None if it is nobody's key.
+/// Returns the reply to the volunteer with this key after the withdrawal, or None if no volunteer has the key.
 fn told_withdrawn(alloc: Global, tables: &Tables, key: &Key) -> Result<Option<Answer>, AllocError>
     ensures { IfOk result (TellsWithdrawn (with_hash tables.now.register (seal_of key.now))) }
 {
@@ -96,7 +96,7 @@ fn told_withdrawn(alloc: Global, tables: &Tables, key: &Key) -> Result<Option<An
     }
 }
 
-/// Stores the withdrawal of the volunteer with this key, and returns `told` if the office doesn't refuse it.
+/// Does the withdrawal of the volunteer with this key. Returns `told` if the office did it, else the refusal for its stop.
 fn stored<R: Threads + Sync, K: Keeper, W: Watch + Sync>(
     rt: &R,
     alloc: Global,
@@ -131,7 +131,7 @@ fn refusal_of(stop: ActStop) -> Refusal
     }
 }
 
-/// Does the office's command over tables that were loaded.
+/// Does the office's command `Withdraw` with this key, over tables that were loaded.
 fn withdrawn<R: Threads + Sync, K: Keeper, W: Watch + Sync>(
     rt: &R,
     alloc: Global,

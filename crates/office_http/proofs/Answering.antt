@@ -1,4 +1,4 @@
--- What the desk answers to what is asked over a link is a reply to all bytes that come over it.
+-- The desk's answer over a link is a reply to all bytes that come over this link.
 use Rattle.std.proofs.Common.{◌≡◌, ℕ, List, [], Option, Some, None, refl, subst, ap}
 use Rattle.std.specs.Prelude.{IfSome}
 use Rattle.define_offices.specs.Tables.{Tables}
@@ -11,7 +11,7 @@ use Rattle.office_requests.specs.Askings.{IsAskedOver}
 use Rattle.office_http.specs.Answers.{IsAnswerTo}
 use Rattle.office_http.specs.Visits.{FromBytes, FromTables, IsReply, Kept, NoMemory, Unavailable, kept}
 
--- a reply that is sent is an answer
+-- if `reply` is a reply to `bytes`, which are all bytes that come over the link, and `sent` is this reply, `IsAnswerTo` holds
 sends : (left : Option (List ℕ)) (before after : Option Tables) (faults now : ℕ) (sent : Sent) (bytes : List ℕ) → IfSome left (λ told. bytes ≡ told) →
     HasFault faults now sent.status → (reply : Reply) → sent ≡ sent_of reply → IsReply bytes before after reply → IsAnswerTo left (kept before faults) (kept after now) sent
 sends left before after faults now sent bytes all fault reply says is =
@@ -36,7 +36,7 @@ answered left before after faults now sent NoRequest (bytes, all, asked) (says, 
 answered left before after faults now sent (Asks request) (bytes, all, asked) is fault =
     request_answered left before after faults now sent request bytes all asked fault is
 
--- if memory is wanting, some bytes come over the link
+-- the reply that memory ran out is an answer, whatever bytes come over the link
 pub unread : (left : Option (List ℕ)) (tables : Option Tables) (faults : ℕ) (sent : Sent) → sent ≡ sent_of out_of_memory → IsAnswerTo left (kept tables faults) (kept tables faults) sent
 unread None tables faults sent says = (out_of_memory, says, record { bytes = []; all = tt; is = NoMemory refl refl; fault = refl })
 unread (Some told) tables faults sent says = (out_of_memory, says, record { bytes = told; all = refl; is = NoMemory refl refl; fault = refl })

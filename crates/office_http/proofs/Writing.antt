@@ -1,4 +1,4 @@
--- What is written of an answer ends a visit.
+-- If the answer of a visit is written, wholly or in part, the visit ends as `EndsBy` says.
 use Rattle.std.proofs.Common.{◌≡◌, ℕ, List, Option, Err, Ok, subst, sym, ap, ◌∙◌}
 use Rattle.std.specs.Io.KnownBytes.{Appends}
 use Rattle.outside.specs.Content.{AppendsPart}
@@ -9,7 +9,7 @@ use Rattle.office_http.specs.Answers.{IsAnswerTo}
 use Rattle.office_http.specs.Visits.{CutOff, EndsBy, Kept, LinkTold, visit}
 use Rattle.office_http.specs.declared.attending.LinkFault.{LinkFault}
 
--- all of it was written
+-- if the whole answer was written, the visit ends with its status
 pub written : (link after : LinkTold) (before left : Kept) (sent : Sent) (number : ℕ) (unwritten : Option (List ℕ)) (piece : List ℕ) (faults : ℕ) →
     IsAnswerTo link.left before left sent → number ≡ sent.status → unwritten ≡ link.written → piece ≡ sent.bytes → Appends unwritten after.written piece →
     faults ≡ link.faults → after.faults ≡ faults → EndsBy (visit link before after left (Ok number)) (Ok number)
@@ -23,7 +23,7 @@ written link after before left sent number unwritten piece faults (reply, says, 
   no_fault = more ∙ no_fault;
 }
 
--- a part of it was written
+-- if a part of the answer was written, the visit ends with a fault of the link
 pub cut_off : (link after : LinkTold) (before left : Kept) (sent : Sent) (fault : LinkFault) (unwritten : Option (List ℕ)) (piece : List ℕ) (faults : ℕ) →
     IsAnswerTo link.left before left sent → unwritten ≡ link.written → piece ≡ sent.bytes → AppendsPart unwritten after.written piece →
     faults ≡ link.faults → Rose faults after.faults → EndsBy (visit link before after left (Err fault)) (Err fault)
@@ -32,6 +32,6 @@ cut_off link after before left sent fault unwritten piece faults (reply, says, i
     (subst (λ (bytes : List ℕ). AppendsPart link.written after.written bytes) (all ∙ ap (λ (s : Sent). s.bytes) says)
     (subst (λ (old : Option (List ℕ)). AppendsPart old after.written piece) none gains))
 
--- a put leaves what is left to read
+-- writing doesn't change what is left to read
 pub still_read : (before between after : Option (List ℕ)) → LosesAtMost most_read before between → after ≡ between → LosesAtMost most_read before after
 still_read before between after read same = subst (λ (left : Option (List ℕ)). LosesAtMost most_read before left) (sym same) read

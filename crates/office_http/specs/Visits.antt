@@ -1,5 +1,5 @@
--- What a visit of the desk says: what the link gains, by the bytes that come over it and by the tables that the keeper loads, and the
--- tables afterwards. The promises of `attend` and of `serve` cite it.
+-- What a visit of the desk does: what the link gains for the bytes that come over it, given the tables that the keeper loads, and the
+-- tables afterwards. The promises of `attend` and of `serve` use it.
 use Rattle.std.specs.Prelude.{◌≡◌, ℕ, List, Option, IfSome, Result, Ok, Err, option_map}
 use Rattle.std.specs.Io.KnownBytes.{Appends}
 use Rattle.outside.specs.Content.{AppendsPart}
@@ -42,23 +42,23 @@ abbrev pub visit : LinkTold → Kept → LinkTold → Kept → Result ℕ LinkFa
 visit link keeper link_after keeper_after ended =
     record { link = link; keeper = keeper; link_after = link_after; keeper_after = keeper_after; ended = ended }
 
--- the reply to `bytes`, by the tables that the keeper tells before and after
+-- `reply` is a reply to `bytes`. `before` are the tables that the keeper tells before this reply is found, and `after` those afterwards
 pub data IsReply (bytes : List ℕ) (before after : Option Tables) (reply : Reply) : Type 0 where
-  -- the desk's over the tables that were loaded. The keeper then tells those that the desk leaves
+  -- the desk's reply over the tables that were loaded. The keeper then tells the tables that the desk leaves
   FromTables : (tables left : Tables) → IsLoaded before tables → Serves tables bytes (leaving left reply) → after ≡ option_map (λ told. left) before → IsReply bytes before after reply
-  -- the desk's over any tables. None were loaded
+  -- the desk's reply, which is the same over all tables, so none were loaded
   FromBytes : ((tables : Tables) → Serves tables bytes (leaving tables reply)) → after ≡ before → IsReply bytes before after reply
   -- 503: the bytes ask for something, and the keeper failed
   Unavailable : (request : Request) → AreAsking bytes (Asks request) → reply ≡ unavailable → after ≡ before → IsReply bytes before after reply
-  -- 507: memory was wanting, which may come at any time
+  -- 507: memory ran out, which may happen at any time
   NoMemory : reply ≡ out_of_memory → after ≡ before → IsReply bytes before after reply
 
--- the reply is one to all bytes that come over a link with these left to read
+-- the reply is a reply to all bytes that come over a link. `left` are these bytes, if the link tells them
 pub record RepliesTo (left : Option (List ℕ)) (before after : Kept) (reply : Reply) : Type 0 where
   pub bytes : List ℕ
   pub all : IfSome left (λ told. bytes ≡ told)
   pub is : IsReply bytes before.tables after.tables reply
-  -- the keeper counted a fault if the status is 503, and else none
+  -- the keeper counted a fault if the status is 503, else none
   pub fault : HasFault before.faults after.faults reply.status
 
 -- the link gained a whole reply, which has this status
@@ -71,16 +71,16 @@ pub record EndsWith (it : Visit) (number : ℕ) : Type 0 where
 
 -- the link counted a fault
 pub data IsBroken (it : Visit) : Type 0 where
-  -- while it was read. It gained nothing, and nothing was asked of the keeper
+  -- the fault came while the link was read. The link gained nothing, and nothing was asked of the keeper
   Unread : Rose it.link.faults it.link_after.faults → it.link_after.written ≡ it.link.written → it.keeper_after ≡ it.keeper → IsBroken it
-  -- while a reply was written. It gained a part of the reply
+  -- the fault came while a reply was written. The link gained a part of the reply
   CutOff : Rose it.link.faults it.link_after.faults → (reply : Reply) → RepliesTo it.link.left it.keeper it.keeper_after reply → AppendsPart it.link.written it.link_after.written (reply_text reply) → IsBroken it
 
 abbrev pub EndsBy : Visit → Result ℕ LinkFault → Type 0
 EndsBy it (Ok status) = EndsWith it status
 EndsBy it (Err fault) = IsBroken it
 
--- the visit ended as the desk over HTTP must, and no more of the link was read than one request may have
+-- the visit ended as `EndsBy` says, and no more of the link was read than one request may have
 pub record IsAttended (it : Visit) : Type 0 where
   pub ends : EndsBy it it.ended
   pub read : LosesAtMost most_read it.link.left it.link_after.left

@@ -1,6 +1,6 @@
 //! Attends one link.
 
-ghost use Rattle.std.specs.Prelude.{◌≡◌, IfOk, OnErr, OnOk};
+ghost use Rattle.std.specs.Prelude.{◌≡◌, ◌≤◌, ◌+◌, IfOk, OnErr, OnOk};
 ghost use Rattle.outside.specs.Faults.{Rose};
 ghost use Rattle.office_requests.specs.Reads.{LosesAtMost, most_read};
 ghost use Rattle.office_http.specs.Answers.{IsAnswerTo};
@@ -20,7 +20,7 @@ use thiserror::Error;
 pub struct LinkFault;
 
 /// Reads what is asked over the link, and writes the desk's reply to it, in one put. Returns the status of the reply. A read that fails is
-/// never taken for the end of what comes. If the put fails, what a withdrawal changed stays changed.
+/// never taken for the end of the bytes. Makes at most 73,728 reads. If the put fails, what a withdrawal changed stays changed.
 pub fn attend<R: Threads + Sync, L: Link, K: Keeper, W: Watch + Sync>(
     rt: &R,
     alloc: Global,
@@ -31,6 +31,7 @@ pub fn attend<R: Threads + Sync, L: Link, K: Keeper, W: Watch + Sync>(
     ensures visit { IsAttended (visit
         (link_told (L.left link.old) (L.written link.old) (L.faults link.old)) (kept (K.tables keeper.old) (K.faults keeper.old))
         (link_told (L.left link.new) (L.written link.new) (L.faults link.new)) (kept (K.tables keeper.new) (K.faults keeper.new)) result) }
+    ensures reads { L.reads link.new ≤ L.reads link.old + most_read }
     ensures place { K.place keeper.new ≡ K.place keeper.old }
 {
     let answer = answer_link(rt, alloc, link, keeper, watch)?;
@@ -40,7 +41,7 @@ pub fn attend<R: Threads + Sync, L: Link, K: Keeper, W: Watch + Sync>(
     }
 }
 
-/// Reads what is asked over the link, and returns the desk's answer. For want of memory while it is read there is one too.
+/// Reads what is asked over the link, and returns the desk's answer. If memory runs out while it is read, the answer says so.
 fn answer_link<R: Threads + Sync, L: Link, K: Keeper, W: Watch + Sync>(
     rt: &R,
     alloc: Global,
@@ -55,6 +56,7 @@ fn answer_link<R: Threads + Sync, L: Link, K: Keeper, W: Watch + Sync>(
     ensures none { OnOk result (L.faults link.new ≡ L.faults link.old) }
     ensures unwritten { L.written link.new ≡ L.written link.old }
     ensures read { LosesAtMost most_read (L.left link.old) (L.left link.new) }
+    ensures reads { L.reads link.new ≤ L.reads link.old + most_read }
     ensures place { K.place keeper.new ≡ K.place keeper.old }
 {
     match read_asking(alloc, link) {

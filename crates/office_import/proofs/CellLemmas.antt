@@ -1,4 +1,4 @@
--- Blanks at the ends of a field, and places of a list.
+-- Lemmas for reading cells: blanks at the ends of a field, fields and elements at a place of a list, and the digits of a number.
 use Rattle.std.proofs.Common.{◌≡◌, ◌<◌, ◌+◌, ◌-◌, ◌*◌, ◌^◌, add-one, ap, zero, suc, sym, ◌∙◌, ◌++◌, arith, reverse, refl, Bool, true, false, ℕ, List, [], ◌∷◌, length, get_or, leb, Some, None}
 use Rattle.std.specs.Char.{digit_value}
 use Rattle.std.specs.List.{position}
@@ -42,14 +42,14 @@ back_stops rest others b e plain =
 pub back_ends : (rest : List ℕ) → length rest ≡ 0 → reverse (trim_front (reverse rest)) ≡ rest
 back_ends rest e = ap reverse (front_ends (reverse rest) (length-reverse rest ∙ e)) ∙ reverse-reverse rest
 
--- a field that isn't there is empty
+-- if a record has no field at a place, the field that is read there is empty
 pub not_there : (fields : List (List ℕ)) (place : ℕ) → field_at fields place ≡ None → get_or fields place [] ≡ []
 unfolding field_at
 not_there [] place e = refl
 not_there (f ∷ fs) zero e = cc
 not_there (f ∷ fs) (suc place) e = not_there fs place e
 
--- the first place at which a test passes
+-- `position` returns the first place at which the test passes
 pub first_place : {X : Type 0} (p : X → Bool) (xs : List X) (k : ℕ) (d : X) → k < length xs → p (get_or xs k d) ≡ true → ((j : ℕ) → j < k → p (get_or xs j d) ≡ false) → position p xs ≡ Some k
 first_place p xs k d inside good before =
     (elim (position p xs) as (λ r. position p xs ≡ r → r ≡ Some k) [
@@ -62,7 +62,7 @@ first_place p xs k d inside good before =
           ap Some same
     ]) refl
 
--- no place at which a test passes
+-- if the test passes at no place, `position` returns None
 pub no_place : {X : Type 0} (p : X → Bool) (xs : List X) (d : X) → ((j : ℕ) → j < length xs → p (get_or xs j d) ≡ false) → position p xs ≡ None
 no_place p xs d none =
     (elim (position p xs) as (λ r. position p xs ≡ r → r ≡ None) [
@@ -73,7 +73,7 @@ no_place p xs d none =
 pub digit_in_range : (byte : ℕ) → is_digit byte ≡ true → IsInRange 48 57 byte
 digit_in_range byte h = let parts = and_parts (leb 48 byte) (leb byte 57) h in (leb-true 48 byte parts.0, leb-true byte 57 parts.1)
 
--- a number with one more digit
+-- appending a digit to a number below `10 ^ i` adds the digit's value to 10 times the number, and stays below `10 ^ (i + 1)`
 pub one_more_digit : (number digit i : ℕ) → IsInRange 48 57 digit → number < 10 ^ i → (number * 10 + (digit - 48) ≡ number * 10 + digit_value digit) × (number * 10 + (digit - 48) < 10 ^ (i + 1))
 one_more_digit number digit i range small =
     let own : digit_value digit + 48 ≡ digit = digit_value_digit digit range in

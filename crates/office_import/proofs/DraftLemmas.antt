@@ -1,4 +1,4 @@
--- Categories while they are read, and the pool that is built of them.
+-- Categories while they are read, and the pool that is made of them.
 use Rattle.std.proofs.Common.{◌≡◌, ℕ, zero, suc, ◌<◌, Bool, true, false, cond, ◌&&◌, ◌||◌, List, [], ◌∷◌, ◌++◌, map, length, get_or, set, Some, None, refl, ap, arith}
 use Rattle.std.specs.List.{find, list_all, list_any, position}
 use Rattle.std.specs.Str.{bytes_eq}
@@ -7,7 +7,7 @@ use Rattle.define_pools.specs.Pool.{BoundedValue, Category}
 use Rattle.define_imports.specs.Rules.{Rule, values_of, with_rule}
 use Rattle.office_import.specs.Seen.{with_value_at}
 
--- ---- lists
+-- ---- tests of mapped lists
 
 pub list_any-map : {X Y : Type 0} (p : Y → Bool) (f : X → Y) (xs : List X) → list_any p (map f xs) ≡ list_any (λ x. p (f x)) xs
 list_any-map p f [] = refl
@@ -19,7 +19,7 @@ list_all-map p f (x ∷ xs) = ap (λ b. p (f x) && b) (list_all-map p f xs)
 
 -- ---- a rule is added
 
--- the values of a category that is found by its name
+-- if looking for a name finds a category, the values of this name are those of the category
 pub values_found : (categories : List Category) (name : List ℕ) (category : Category) → find (λ (c : Category). bytes_eq name c.name) categories ≡ Some category → category.values ≡ values_of categories name
 values_found [] name category h = cc
 values_found (c ∷ cs) name category h =
@@ -39,7 +39,7 @@ values_not_found (c ∷ cs) name h =
       | false ↦ λ k. values_not_found cs name k
     ]) h
 
--- writing the category with the value at place `place` is `with_value_at`
+-- replacing the category at `place` by this category with the value appended gives what `with_value_at` defines
 pub written : (categories : List Category) (place : ℕ) (value : BoundedValue) (d : Category) → place < length categories →
     set categories place (record (get_or categories place d) { values = (get_or categories place d).values ++ value ∷ [] }) ≡ with_value_at categories place value
 written [] place value d h = absurd (omega arith)

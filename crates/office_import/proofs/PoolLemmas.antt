@@ -1,4 +1,4 @@
--- A pool that is built of right categories, one by one, and value by value.
+-- A pool to which allowed categories are added one by one, each value by value.
 use Rattle.std.proofs.Common.{◌≡◌, ℕ, zero, suc, ◌+◌, ◌<◌, true, false, eqb, leb, not, ◌&&◌, ◌||◌, List, [], ◌∷◌, ◌++◌, map, length, length-append, get_or, take, drop, None, refl, sym, ap, ◌∙◌, arith}
 use Rattle.std.specs.List.{list_all, list_any}
 use Rattle.std.specs.Str.{bytes_eq, is_utf8}
@@ -23,7 +23,7 @@ new_among (first ∷ before) name later h =
     let other = same_bytes_comm name first ∙ here.0 in
     let rest = new_among before name later parts.1 in rw (other, rest) refl
 
--- a list, parted at a place
+-- a list is its first `i` elements, the element at place `i`, and the rest
 parted : {X : Type 0} (xs : List X) (i : ℕ) (d : X) → i < length xs → take i xs ++ get_or xs i d ∷ drop (suc i) xs ≡ xs
 parted [] i d h = absurd (omega arith)
 parted (x ∷ xs) zero d h = refl
@@ -36,7 +36,7 @@ new_at f xs i d h inside =
     new_among (map f (take i xs)) (f x) (map f (drop (suc i) xs))
     (ap all_different (sym (map-append f (take i xs) (x ∷ drop (suc i) xs))) ∙ (ap (λ all. all_different (map f all)) (parted xs i d inside) ∙ h))
 
--- ---- a category
+-- ---- a category that is added
 
 pub category_is_right : (categories : List Category) (i : ℕ) (d : Category) → AreRules categories → i < length categories → is_category (get_or categories i d) ≡ true
 category_is_right categories i d rules inside = passes_at is_category categories i d rules.each inside
@@ -55,7 +55,7 @@ category_is_new categories i d rules inside =
     let few : leb 20 (length (take i categories)) ≡ false = lt-leb 20 (length (take i categories)) (omega (arith, length-take i categories)) in
     rw (new, limits, few) refl
 
--- ---- a value
+-- ---- a value that is added
 
 last_values-push : (categories : List Category) (category : Category) → last_values (categories ++ category ∷ []) ≡ category.values
 last_values-push [] category = refl
@@ -89,7 +89,7 @@ value_is_new pool draft i d fresh right inside =
     let few : leb 50 (length (take i draft.values)) ≡ false = lt-leb 50 (length (take i draft.values)) (omega (arith, length-take i draft.values)) in
     rw (some, nobody, last, new, good.1, limits, few) refl
 
--- one more value
+-- adding value `i` to the pool with the first `i` values of the category gives the pool with the first `i + 1`
 pub values_grow : (pool : Pool) (draft : Category) (i : ℕ) (d : BoundedValue) → i < length draft.values →
     value_added (with_values pool draft i) (get_or draft.values i d) ≡ with_values pool draft (i + 1)
 values_grow pool draft i d inside =
@@ -97,7 +97,7 @@ values_grow pool draft i d inside =
     ap (λ categories. record pool { categories = categories }) (with_value-push pool.categories category (get_or draft.values i d)
     ∙ ap (λ values. pool.categories ++ record { name = draft.name; values = values } ∷ []) (sym (take_more draft.values i d inside)))
 
--- the value at a place, by its parts
+-- a value whose name and bounds are those of value `i` is value `i`
 pub next_value : (values items : List BoundedValue) (i : ℕ) (d : BoundedValue) (name : List ℕ) (lower upper : ℕ) → items ≡ values → d ≡ get_or items i d → name ≡ d.name → lower ≡ d.lower → upper ≡ d.upper →
     record { name = name; lower = lower; upper = upper } ≡ get_or values i d
 next_value values items i d name lower upper same there n l u =

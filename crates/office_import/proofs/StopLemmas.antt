@@ -1,4 +1,4 @@
--- Stops of a reader, and the results that they are for.
+-- When a reader's stop or result is right for a file.
 use Rattle.std.proofs.Common.{◌≡◌, ◌∙◌, ℕ, ap, sym, subst, Option, Some, Result, Ok, Err}
 use Rattle.define_imports.specs.Cells.{Fault}
 use Rattle.office_import.specs.declared.stops.ImportStop.{ImportStop}

@@ -1,4 +1,4 @@
--- What the readers of imported files return. Their contracts cite it.
+-- What the readers of imported files return. Their contracts use it.
 use Rattle.std.specs.Prelude.{ℕ, ⊤, Option, Some, None, Result, Ok, Err, ◌≡◌}
 use Rattle.define_imports.specs.Cells.{Fault}
 use Rattle.pool_model.specs.declared.building.BuildStop.{BuildStop}

@@ -17,7 +17,8 @@ use toml::Table;
 /// The place of a fault in a charter, which has no records.
 const WHOLE_FILE: usize = 0;
 
-/// Reads the bytes as a charter, in TOML with a `title` and a `size`. Fails exactly with the lowest kind of fault, or if memory runs out.
+/// Reads the bytes as a charter, in TOML with a `title` and a `size`. If the bytes have a fault, fails with the lowest
+/// kind that applies. Fails with `OutOfMemory` if memory runs out.
 pub fn read_charter(alloc: Global, bytes: &[u8]) -> Result<Charter, ImportStop>
     ensures { Reads (λ said. charter_read bytes.now ≡ said) result }
 {
@@ -43,7 +44,7 @@ fn charter_of(alloc: Global, table: &Table) -> Result<Charter, ImportStop>
     judged(alloc, title, size_of(size))
 }
 
-/// Returns the size that a number is, or 0, which is no size.
+/// Returns the number as a size, or 0, which is no size, if it is below 0.
 fn size_of(number: i64) -> usize
     ensures { result ≡ size_in number }
 {

@@ -54,21 +54,21 @@ impl DraftValue {
         })
     }
 
-    /// The value's name.
+    /// Returns the value's name.
     fn name(&self) -> &Name
         ensures { result.now ≡ self.now.name }
     {
         &self.name
     }
 
-    /// The least number of a panel's members who may have the value.
+    /// Returns the least number of a panel's members who may have the value.
     fn lower(&self) -> usize
         ensures { result ≡ self.now.lower }
     {
         self.bound.lower
     }
 
-    /// The greatest number of a panel's members who may have the value.
+    /// Returns the greatest number of a panel's members who may have the value.
     fn upper(&self) -> usize
         ensures { result ≡ self.now.upper }
     {
@@ -106,14 +106,14 @@ impl Draft {
         })
     }
 
-    /// The category's name.
+    /// Returns the category's name.
     fn name(&self) -> &Name
         ensures { result.now ≡ self.now.name }
     {
         &self.name
     }
 
-    /// The values, in the order in which they first appeared.
+    /// Returns the values, in the order in which they first appeared.
     fn values(&self) -> &[DraftValue]
         ensures { result.now ≡ self.now.values }
     {
@@ -129,7 +129,7 @@ impl Draft {
     }
 }
 
-/// Returns the values of the category with this name; none if there is no such category.
+/// Returns the values of the category with this name, or none if there is no category of this name.
 fn values_of<'a>(drafts: &'a [Draft], name: &[u8]) -> &'a [DraftValue]
     ensures { result.now ≡ values_in drafts.now name.now }
 {
@@ -148,7 +148,7 @@ pub(crate) fn has_value(drafts: &[Draft], category: &[u8], name: &[u8]) -> bool
         .any(|value| name == value.name().as_bytes())
 }
 
-/// True if one more value of this category is too much: there are 50, or the category is new and there are 20.
+/// True if there is no room for one more value of this category: it has 50 values, or it is new and there are 20 categories.
 pub(crate) fn is_full(drafts: &[Draft], category: &[u8]) -> bool
     ensures { result ≡ has_no_room drafts.now category.now }
 {

@@ -1,9 +1,9 @@
 //! Reads the files that an office imports: a charter in TOML, rules and a register in CSV. A file with a fault is refused with its first
 //! faulty record and the lowest kind of fault there. Stands on `define_imports`, on `office_tables`, whose values it returns, and on the
-//! toolchain's `csv` and `toml`. The commands for imports stand on it.
+//! toolchain's `csv` and `toml`. Used by the commands for imports.
 //!
-//! Promises: `read_charter`, `read_rules` and `read_register` return exactly the value or the first fault of the definitions, or that memory
-//! ran out.
+//! Promises: `read_charter`, `read_rules` and `read_register` return exactly the value or the first fault of the definitions, or that
+//! memory ran out.
 #![tactic(auto)]
 
 mod charters;

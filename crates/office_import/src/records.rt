@@ -11,7 +11,8 @@ use pool_model::Name;
 use std::alloc::{AllocError, Global};
 use std::str;
 
-/// Returns all records of a file, the header first. Records may be of any length. Over bytes in memory an error is want of memory.
+/// Returns all records of a file, the header first. Records may be of any length. The bytes are in memory, so an error means that memory
+/// ran out.
 pub(crate) fn records_of(alloc: Global, bytes: &[u8]) -> Result<Vec<ByteRecord>, Error>
     ensures { IfOk result (λ records. AreRecordsOf bytes.now (map fields_of records.items)) }
 {
@@ -116,7 +117,8 @@ fn column(header: &ByteRecord, name: &[u8]) -> Option<usize>
     None
 }
 
-/// Returns the trimmed field of a record in the first column with the name; empty if there is no such column, or the record is too short.
+/// Returns the trimmed field of a record in the first column with the name. It is empty if no column has the name, or if the record is too
+/// short.
 pub(crate) fn cell_named<'a>(header: &ByteRecord, row: &'a ByteRecord, name: &[u8]) -> &'a [u8]
     ensures { result.now ≡ named_cell (fields_of header.now) (fields_of row.now) name.now }
 {

@@ -24,8 +24,8 @@ const KEY: &[u8] = b"key";
 const HOUSEHOLD: &[u8] = b"household";
 
 /// Reads the bytes as rows of a register, in CSV with the columns `id` and `key` and one for each category of the rules; if no category is
-/// named `household`, a column of that name may be there too. Fails exactly with the first faulty record and its lowest kind of fault, or if
-/// memory runs out. Rows may have the same id.
+/// named `household`, a column of that name may be there too. If the bytes have a fault, fails with the first faulty record and its lowest
+/// kind of fault. Fails with `OutOfMemory` if memory runs out. Rows may have the same id.
 pub fn read_register(alloc: Global, bytes: &[u8], rules: &Rules) -> Result<Rows, ImportStop>
     ensures { Reads (ReadsRows rules.now bytes.now) result }
 {
@@ -51,7 +51,7 @@ fn rows_of(
     rows_after(alloc, categories, header, rows)
 }
 
-/// True if each column that is needed is there once, and that for households at most once.
+/// True if the header has each column that is needed exactly once, and the column for households at most once.
 fn is_row_header(categories: &[Category], header: &ByteRecord) -> bool
     ensures { result ≡ is_right_header categories.now (fields_of header.now) }
 {
@@ -61,7 +61,7 @@ fn is_row_header(categories: &[Category], header: &ByteRecord) -> bool
         && (is_household_taken(categories) || times(header, HOUSEHOLD) <= 1)
 }
 
-/// True if each category has one column.
+/// True if for each category exactly one column has its name.
 fn have_columns(categories: &[Category], header: &ByteRecord) -> bool
     ensures { result ≡ list_all (is_there_once (fields_of header.now)) (category_names categories.now) }
 {
@@ -138,7 +138,7 @@ fn are_texts(categories: &[Category], header: &ByteRecord, row: &ByteRecord) -> 
     categories.iter().all(|category| is_utf8(cell_named(header, row, category.name().as_bytes())))
 }
 
-/// Returns the field for the household; empty if there is no column for it.
+/// Returns the field for the household, which is empty if there is no column for it.
 fn household_cell<'a>(categories: &[Category], header: &ByteRecord, row: &'a ByteRecord) -> &'a [u8]
     ensures { result.now ≡ household_in categories.now (fields_of header.now) (fields_of row.now) }
 {
@@ -167,7 +167,7 @@ fn given_of(
     Ok(Given::new(id, key, values, household))
 }
 
-/// Returns the fields of the categories.
+/// Returns copies of the record's fields in the columns of the categories, in the order of the categories.
 fn values_of(
     alloc: Global,
     categories: &[Category],

@@ -34,7 +34,7 @@ const MAX_DIGITS: usize = 9;
 /// The greatest bound.
 const MAX_BOUND: usize = 999;
 
-/// What a field that gives no number is read as.
+/// The number that is read from a field that isn't 1 to 9 digits. It is above the greatest bound.
 const NO_BOUND: usize = 1000;
 
 /// What a record says: a value of a category, with its bounds.
@@ -46,8 +46,8 @@ pub(crate) struct Rule<'a> {
     pub(crate) upper: usize,
 }
 
-/// Reads the bytes as rules, in CSV with the columns `category`, `name`, `min` and `max`. Fails exactly with the first faulty record and its
-/// lowest kind of fault, or if memory runs out.
+/// Reads the bytes as rules, in CSV with the columns `category`, `name`, `min` and `max`. If the bytes have a fault, fails with the first
+/// faulty record and its lowest kind of fault. Fails with `OutOfMemory` if memory runs out.
 pub fn read_rules(alloc: Global, bytes: &[u8]) -> Result<Rules, ImportStop>
     ensures { Reads (ReadsRules bytes.now) result }
 {
@@ -70,7 +70,7 @@ fn rules_of(alloc: Global, records: &[ByteRecord]) -> Result<Rules, ImportStop>
     Ok(rules_from(alloc, &drafts)?)
 }
 
-/// True if each column that rules need is there once.
+/// True if the header has each column that rules need exactly once.
 fn is_rule_header(header: &ByteRecord) -> bool
     ensures { result ≡ list_all (is_there_once (fields_of header.now)) rule_columns }
 {
@@ -159,7 +159,7 @@ fn is_text(header: &ByteRecord, row: &ByteRecord) -> bool
         && is_utf8(cell_named(header, row, MAX))
 }
 
-/// True if a name isn't allowed, or the category is named as a column of each register.
+/// True if the name of the category or of the value isn't allowed, or the category is named `id` or `key`, as columns of each register are.
 fn is_misnamed(rule: &Rule<'_>) -> bool
     ensures { result ≡ has_wrong_name (rule_seen rule.now) }
 {
@@ -178,7 +178,7 @@ fn are_bounds(lower: usize, upper: usize) -> bool
     lower <= upper && upper <= MAX_BOUND
 }
 
-/// Returns the bound that a field gives, or 1000, which is no bound.
+/// Returns the number that a field of 1 to 9 digits gives, else 1000. A number above 999 is no bound.
 fn bound_of(field: &[u8]) -> usize
     ensures { result ≡ bound_in field.now }
 {

@@ -15,9 +15,10 @@ pub struct ImportFault {
     pub place: usize,
     /// The lowest kind of fault in it. In rules and registers:
     /// - 1 a field that is used isn't UTF-8
-    /// - 2 in the header: a column that is needed is missing, or is there twice; or rules have no record after it
+    /// - 2 in the header: there is none; a column that is needed is missing, or is there twice; a column for households is there twice; or
+    ///   rules have no record after the header
     /// - 3 the record isn't as long as the header
-    /// - 4 a name, an id or a key isn't allowed, or a category is named `id` or `key`
+    /// - 4 a name, an id, a key or a household isn't allowed, or a category is named `id` or `key`
     /// - 5 a field of a category is none of its values
     /// - 6 a bound isn't a number from 0 to 999, or the lower is above the upper
     /// - 7 an earlier record has the same category and value

@@ -8,7 +8,7 @@ abbrev pub place_of : Option (List ℕ) → Place
 place_of None = Nowhere
 place_of (Some path) = At path
 
--- true if the call failed with a fault; running out of memory is none
+-- true if the call failed with a fault; running out of memory is no fault
 abbrev pub has_failed : {T : Type 0} → Result T KeeperStop → Bool
 has_failed (Ok value) = false
 has_failed (Err Failed) = true

@@ -43,7 +43,7 @@ impl MapKeeper {
         &self.tables
     }
 
-    /// Returns how many calls have failed.
+    /// Returns how many calls have failed with a fault. Running out of memory is no fault.
     pub fn faults(&self) -> u64
         ensures { result ≡ self.now.calls.faults }
     {

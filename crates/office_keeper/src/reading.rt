@@ -1,4 +1,4 @@
-//! Reads the rows of a store as tables. Nothing is taken on trust: numbers, places and texts are tested, and then the facts of tables.
+//! Reads the rows of a store as tables. It trusts nothing in the store: it tests numbers, places and texts, and then the facts of tables.
 
 use crate::writing::{DRAWN, OPEN, SEALED, SOLVED};
 use bundle_text::{Bundle, ReadBundle, read_bundle};
@@ -7,12 +7,12 @@ use pool_model::{BuildStop, Category, Name, Pool};
 use sqlite::{Alter, Connection, Error, ErrorCode, Row};
 use std::alloc::Global;
 
-/// The error where the rows of a store make no tables.
+/// The error for a store whose rows make no tables or whose version is unknown, and for digits that are not UTF-8.
 pub(crate) const UNSOUND: Error = Error::SqliteFailure(ErrorCode::DatabaseCorrupt);
 
 const OUT_OF_MEMORY: Error = Error::SqliteFailure(ErrorCode::OutOfMemory);
 
-/// Returns the tables that a store keeps. Each of its tables is read whole, ordered by its key.
+/// Returns the tables of the office that a store keeps. Each SQL table is read whole, ordered by its key.
 pub(crate) fn read_tables<S: Alter>(
     alloc: Global,
     connection: &mut Connection<S>,
@@ -114,7 +114,7 @@ fn text(row: &Row, column: usize) -> Result<String, Error> {
     row.get(column)
 }
 
-/// Returns the text of a column as a name, within whatever limits.
+/// Returns the text of a column as a name. Whether it is within the limits of a name is tested later.
 fn name(alloc: Global, row: &Row, column: usize) -> Result<Name, Error> {
     let text = text(row, column)?;
     Ok(Name::new(alloc, text.as_str())?)
@@ -132,7 +132,7 @@ fn require(holds: bool) -> Result<(), Error> {
 
 // ---- charter and rules
 
-/// Returns the charter of the only row, or None if there is no row.
+/// Returns the charter of the only row, or None if there is no row. Fails if there are several rows, or if the row makes no charter.
 fn charter_of(alloc: Global, rows: &[Row]) -> Result<Option<Charter>, Error> {
     let Some(row) = rows.first() else {
         return Ok(None);
@@ -177,7 +177,7 @@ fn add_bound(pool: &mut Pool, row: &Row) -> Result<(), Error> {
     built(pool.add_value(value.as_str(), lower, upper))
 }
 
-/// True if the row has the place of the last category, its name, and the place after its last value.
+/// True if the row is the next value of the last category: it has the category's place and name, and the place after its last value.
 fn comes_next(categories: &[Category], row: &Row, name: &str) -> Result<bool, Error> {
     let Some(last) = categories.last() else {
         return Ok(false);
@@ -199,7 +199,7 @@ fn built<T>(answer: Result<T, BuildStop>) -> Result<T, Error> {
 
 // ---- the register
 
-/// Returns the rows of the register. Their places are consecutive from 0, and each household has the place of one of them.
+/// Returns the rows of the register. Fails unless their places are consecutive from 0 and each household has the place of one of them.
 fn register_of(alloc: Global, rows: &[Row], households: &[Row]) -> Result<Vec<Entry>, Error> {
     let mut entries = Vec::new(alloc);
     let mut housed = 0usize;
@@ -237,7 +237,7 @@ fn entry_of(alloc: Global, row: &Row, household: Option<Name>) -> Result<Entry, 
     ))
 }
 
-/// Returns the names that are parted by TABs.
+/// Returns the names in `answers`, which has a TAB between two of them.
 fn split_answers(alloc: Global, answers: &str) -> Result<Vec<Name>, Error> {
     let mut values = Vec::new(alloc);
     for value in answers.split('\t') {
@@ -248,7 +248,7 @@ fn split_answers(alloc: Global, answers: &str) -> Result<Vec<Name>, Error> {
 
 // ---- rounds
 
-/// Returns the rounds. Their numbers are consecutive from 1, and each dropout is of one of them.
+/// Returns the rounds. Fails unless their numbers are consecutive from 1 and each dropout is of one of them.
 fn rounds_of(alloc: Global, rows: &[Row], dropped: &[Row]) -> Result<Vec<Round>, Error> {
     let mut rounds = Vec::new(alloc);
     let mut told = 0usize;
@@ -263,7 +263,8 @@ fn rounds_of(alloc: Global, rows: &[Row], dropped: &[Row]) -> Result<Vec<Round>,
     Ok(rounds)
 }
 
-/// Returns the ids of the dropouts of this round, from row `told` of the dropouts on. Their places are consecutive from 0.
+/// Returns the ids of the dropouts of round `round`, which begin at row `told` of `dropped`. Fails unless their places are consecutive
+/// from 0.
 fn dropped_of(
     alloc: Global,
     dropped: &[Row],

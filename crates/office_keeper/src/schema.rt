@@ -1,16 +1,16 @@
-//! The tables of a store. They are made where they are missing, and a store of version 1 is brought to version 2.
+//! The SQL tables of a store. Those that are missing are made, and a store of version 1 is brought to version 2.
 
 use crate::reading::UNSOUND;
 use crate::writing::add_round;
 use sqlite::{Alter, Connection, Error, ErrorCode, Row, Transaction, params};
 
-/// The version of a store.
+/// The version of a store that this program makes.
 const VERSION: i64 = 2;
 
-/// The version that has no table `household`.
+/// The earlier version, whose stores have no table `household`.
 const FIRST_VERSION: i64 = 1;
 
-/// Makes the tables that are missing.
+/// The statements that make the tables that are missing.
 const TABLES: &str = "
 CREATE TABLE IF NOT EXISTS charter (
     one INTEGER PRIMARY KEY,
@@ -53,7 +53,8 @@ CREATE TABLE IF NOT EXISTS dropped (
 
 const META: &str = "CREATE TABLE IF NOT EXISTS meta (version INTEGER NOT NULL) STRICT";
 
-/// Makes in one transaction what a store lacks: its tables, its version, and in a new one the first round. Refuses a store of another version.
+/// Makes in one transaction what a store lacks: its tables, its version and, if the store is new, the first round. Refuses a store of an
+/// unknown version.
 pub(crate) fn complete<S: Alter>(connection: &mut Connection<S>) -> Result<(), Error> {
     if !connection.is_autocommit() {
         return Err(Error::SqliteFailure(ErrorCode::TransactionState));
@@ -63,7 +64,7 @@ pub(crate) fn complete<S: Alter>(connection: &mut Connection<S>) -> Result<(), E
     transaction.commit()
 }
 
-/// Makes what is missing.
+/// Makes a new store, brings one of version 1 to version 2, or makes the tables that are missing. Fails at any other version.
 fn make<S: Alter>(transaction: &mut Transaction<'_, S>) -> Result<(), Error> {
     make_meta(transaction)?;
     let rows = versions(transaction)?;
@@ -75,7 +76,7 @@ fn make<S: Alter>(transaction: &mut Transaction<'_, S>) -> Result<(), Error> {
     }
 }
 
-/// Returns the version of these rows of `meta`, or None if there is none.
+/// Returns the version that the row of `meta` has, or None if there is no row. Fails if there are several rows.
 fn version_of(rows: &[Row]) -> Result<Option<i64>, Error> {
     match rows.first() {
         Some(_) if rows.len() > 1 => Err(UNSOUND),
@@ -91,7 +92,7 @@ fn begin<S: Alter>(transaction: &mut Transaction<'_, S>) -> Result<(), Error> {
     add_round(transaction, 1)
 }
 
-/// Brings a store of version 1 to this version.
+/// Brings a store of version 1 to version 2.
 fn raise<S: Alter>(transaction: &mut Transaction<'_, S>) -> Result<(), Error> {
     make_tables(transaction)?;
     set_version(transaction)

@@ -12,8 +12,8 @@ use pool_model::Name;
 use sqlite::{Connection, Error, ErrorCode, File, FileStore};
 use std::alloc::Global;
 
-/// A store in the file of a path, which `attach` opens, and makes if it is missing. It tells where it is attached and no tables. Before it is
-/// attached, each other call fails. From then on until it is dropped nobody else can open the file.
+/// A store in a file. `attach` opens the file of a path, and makes it if it is missing; before that, each other call fails. While the
+/// keeper has the file open, nobody else can open it. Contracts speak of where the keeper is attached, and not of its tables.
 #[derive(Drop)]
 pub struct SqliteKeeper {
     rt: HostRuntime,
@@ -21,7 +21,7 @@ pub struct SqliteKeeper {
     faults: u64,
 }
 
-/// The file of a path, and a keeper over it that is attached.
+/// The path of the open file, and the keeper over this file, which is attached.
 struct Attached {
     path: Name,
     over: SqliteOver<FileStore<File>>,
@@ -34,7 +34,7 @@ impl Drop for Attached {
     }
 }
 
-/// Copies the log that is beside the file into it, and closes both. If that fails, the next open reads both.
+/// Copies the log, which is a file beside the database, into the database, and closes both. If that fails, the next open reads both.
 fn close(over: SqliteOver<FileStore<File>>) {
     let _ = over.into_connection().close();
 }
@@ -52,7 +52,7 @@ impl SqliteKeeper {
         }
     }
 
-    /// Returns how many calls have failed.
+    /// Returns how many calls have failed with a fault. Running out of memory is no fault.
     pub fn faults(&self) -> u64
         ensures { result ≡ self.now.faults }
     {
@@ -60,7 +60,7 @@ impl SqliteKeeper {
     }
 }
 
-/// Goes to a path. A file that is attached already isn't opened again.
+/// Attaches the file of `path`. If it is the file that is open already, it isn't opened again.
 fn go(
     rt: &HostRuntime,
     attached: &mut Option<Attached>,

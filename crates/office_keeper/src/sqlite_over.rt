@@ -12,8 +12,8 @@ use office_core::{Change, Keeper, KeeperStop, Tables};
 use sqlite::{Alter, Connection, Error, ErrorCode};
 use std::alloc::Global;
 
-/// A store over a connection. It tells neither its tables nor where it is: its `attach` looks at no path, and makes the tables that are
-/// missing. Before that, each other call fails.
+/// A store over a connection. Its `attach` ignores the path and makes the tables that are missing; before that, each other call fails.
+/// Contracts speak neither of its tables nor of where it is attached.
 #[derive(Drop)]
 pub struct SqliteOver<S: Alter> {
     connection: Connection<S>,
@@ -35,7 +35,7 @@ impl<S: Alter> SqliteOver<S> {
         }
     }
 
-    /// Returns how many calls have failed.
+    /// Returns how many calls have failed with a fault. Running out of memory is no fault.
     pub fn faults(&self) -> u64
         ensures { result ≡ self.now.faults }
     {
@@ -50,7 +50,7 @@ impl<S: Alter> SqliteOver<S> {
     }
 }
 
-/// Returns the stop of a call that met an error, and counts it, unless memory ran out.
+/// Returns the stop of a call that met this error. Counts a fault, unless memory ran out.
 fn stopped<T>(faults: &mut u64, error: &Error) -> Result<T, KeeperStop>
     ensures err { IsErr result }
     ensures cause { HasCause faults.old faults.new result }

@@ -8,7 +8,7 @@ use sqlite::types::ValueRef;
 use sqlite::{Alter, Connection, Error, ErrorCode, Transaction, params};
 use std::alloc::Global;
 
-/// The numbers of the phases of a round.
+/// The number by which a store names the phase `Open`. The numbers of the three other phases follow.
 pub(crate) const OPEN: i64 = 0;
 
 pub(crate) const SOLVED: i64 = 1;
@@ -17,8 +17,8 @@ pub(crate) const SEALED: i64 = 2;
 
 pub(crate) const DRAWN: i64 = 3;
 
-/// Writes a change and commits it, or leaves the store as it is. A change of a round that isn't in the right phase, or of a place without a
-/// row, changes nothing.
+/// Writes a change and commits it. A call that fails leaves the store as it is. If the change is of a round that isn't in the right phase,
+/// or of a place without a row, the call succeeds and nothing changes.
 pub(crate) fn write_change<S: Alter>(
     alloc: Global,
     connection: &mut Connection<S>,
@@ -69,7 +69,7 @@ fn count<S: Alter>(
     transaction.query_row(query, values)?.get(0)
 }
 
-/// Returns the number as one of a store. A number that is too great names no row.
+/// Returns the number as a store keeps it. A number that is too great becomes the greatest `i64`, which names no row.
 fn stored(number: usize) -> i64 {
     i64::try_from(number).unwrap_or(i64::MAX)
 }
@@ -178,7 +178,7 @@ fn insert_volunteer<S: Alter>(
     )
 }
 
-/// Returns the names with a TAB between two.
+/// Returns the names as one text, with a TAB between two of them.
 fn joined(alloc: Global, names: &[Name]) -> Result<String, Error> {
     let mut text = String::new(alloc);
     for (place, name) in names.iter().enumerate() {
@@ -222,7 +222,7 @@ fn seal<S: Alter>(transaction: &mut Transaction<'_, S>, round: usize) -> Result<
     )
 }
 
-/// Draws a round. Digits that are no text are refused.
+/// Marks a sealed round as drawn by these digits. Digits that are not UTF-8 are refused.
 fn draw<S: Alter>(
     transaction: &mut Transaction<'_, S>,
     round: usize,
@@ -238,7 +238,7 @@ fn draw<S: Alter>(
     )
 }
 
-/// Adds a dropout behind the others of a round that was drawn.
+/// Adds a dropout after the earlier ones of a round. Does nothing if the round isn't drawn.
 fn drop_out<S: Alter>(
     transaction: &mut Transaction<'_, S>,
     round: usize,

@@ -22,7 +22,7 @@ module _ (volunteers : List Volunteer) (ids : List (List ℕ)) where
   abbrev pub has_one : ℕ → Bool
   has_one i = includes_list ids (volunteer volunteers i).id
 
-  -- if `v` is volunteer `i` and `id` is `v`'s id, then `has` is whether volunteer `i`'s id is in `ids`
+  -- if `v` is volunteer `i`, with this `id`, and `has` says whether `id` is in `ids`, then `has_one i` is `has`
   told : (i : ℕ) (v : Volunteer) (id : List ℕ) (has : Bool) → i < length volunteers → v ≡ get_or volunteers i v → id ≡ v.id → has ≡ includes_list ids id → has_one i ≡ has
   told i v id has h k e t =
       let read : v ≡ volunteer volunteers i = get_or_read volunteers i v h k (record { id = []; values = []; standing = Gone; household = None }) in

@@ -1,4 +1,4 @@
--- Rounds by their places, from 0, and by their numbers, from 1. If a later round exists, a round was drawn.
+-- Rounds by their places, from 0, and by their numbers, from 1. A round was drawn if there is a later one.
 use Rattle.std.proofs.Common.{◌≡◌, ℕ, zero, suc, ◌-◌, ◌<◌, ◌≤◌, ltb, List, [], ◌∷◌, length, get_or, Bor, Option, Some, None, is_some, IfSome, option_map, refl, sym, ap, ◌∙◌, arith, subst}
 use Rattle.std.proofs.lemmas.Bool.{ltb-true, ltb-false}
 use Rattle.define_pools.specs.Pool.{Category, IsPool}
@@ -47,7 +47,7 @@ pub named_round-below : (rounds : List Round) (number : ℕ) (round : Round) →
 named_round-below rounds zero round h = absurd (cc)
 named_round-below rounds (suc place) round h = let below : place < length rounds = round_at-below rounds place round h in omega arith
 
--- ---- the round before
+-- ---- the pool of round 1, and the round before a later round
 
 module _ (tables : Tables) (keeps : IsTables tables) where
   pub first_is_pool : (charter : Charter) (categories : List Category) → tables.charter ≡ Some charter → tables.rules ≡ Some categories → 0 < length tables.rounds → IsPool (first_pool charter categories tables.register)

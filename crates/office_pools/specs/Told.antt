@@ -1,4 +1,4 @@
--- What `pool_of` may return, and which rounds have a next pool. Over Pools of `define_offices`.
+-- What `pool_of` may return, and which rounds were drawn. Builds on Pools of `define_offices`.
 use Rattle.std.specs.Prelude.{◌≡◌, true, is_ok, Result, Ok, Err, ⊤}
 use Rattle.define_pools.specs.Lottery.{TotalAgrees}
 use Rattle.define_pools.specs.Pool.{Pool}

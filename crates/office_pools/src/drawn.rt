@@ -1,4 +1,4 @@
-//! The pool of a later round: after the draw of the round before, its dropouts, and withdrawals.
+//! The pool of each round but the first: the pool of the round before, after its draw, its dropouts and the withdrawals.
 
 ghost use Rattle.std.specs.Prelude.{◌≡◌, map, true, is_ok, Some, IfOk};
 ghost use Rattle.define_pools.specs.Lists.{includes_list};
@@ -31,7 +31,7 @@ pub(crate) fn later_pool(
     }
 }
 
-/// Returns the pool in which each open volunteer whose row has withdrawn is gone.
+/// Returns the pool in which each open volunteer who withdrew, by the register, is gone.
 fn without_withdrawn(alloc: Global, mut pool: Pool, register: &[Entry]) -> Result<Pool, AllocError>
     ensures { IfOk result (λ next. next ≡ restood_pool (after_withdrawals register.now) pool) }
 {
@@ -88,7 +88,7 @@ fn includes(ids: &[Name], id: &Name) -> bool
     ids.iter().any(|one| id.as_bytes() == one.as_bytes())
 }
 
-/// Returns for each row whether it has withdrawn.
+/// Returns for each row of the register whether its volunteer withdrew.
 fn withdrawn_of(alloc: Global, register: &[Entry]) -> Result<Vec<bool>, AllocError>
     ensures { IfOk result (λ marks. marks.items ≡ map (λ entry. entry.withdrawn) register.now) }
 {

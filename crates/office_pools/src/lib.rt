@@ -1,5 +1,5 @@
 //! The pool of each round of an office: from the charter, the rules and the register, or from the round before. Stands on `office_tables`
-//! and `rounds`. Above: `office_steps` and `office_core`.
+//! and `rounds`. Used by `office_core`, `office_steps`, `round_reports`, `office_desk` and `command_stores`.
 //!
 //! Promise: `pool_of` returns exactly the pool of the definitions, or exactly why there is none.
 #![tactic(auto)]
@@ -50,10 +50,10 @@ impl From<AllocError> for PoolStop {
     }
 }
 
-/// Returns the pool of a round. While round 1 is open, its pool has the charter's size, the rules, and the rows of the register, gone if
-/// they withdrew. While a later round is open, its pool is the one after the round before, with those gone who withdrew meanwhile. Once a
-/// round is solved, its pool is that of its bundle. Fails if there is no round of this number, then if there is no charter, then if there
-/// are no rules. Running out of memory is allowed at any time.
+/// Returns the pool of a round. While round 1 is open, its pool has the charter's size, the categories of the rules, and the rows of the
+/// register as volunteers: gone if they withdrew, else open. While a later round is open, its pool is what the draw and the dropouts of the
+/// round before leave, and whoever is open there but withdrew is gone. Once a round is solved, its pool is that of its bundle. Fails if
+/// there is no round of this number, else if there is no charter, else if there are no rules. Running out of memory is allowed at any time.
 pub fn pool_of(alloc: Global, tables: &Tables, round: usize) -> Result<Pool, PoolStop>
     ensures { TellsPool (pool_of_round tables.now round) result }
 {

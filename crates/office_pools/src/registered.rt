@@ -8,7 +8,7 @@ use office_tables::{Charter, Entry, Rules, copied_categories};
 use pool_model::{Category, Pool, Standing, Volunteer, copied_name, places_named};
 use std::alloc::{AllocError, Global};
 
-/// Returns the pool of the charter's size, the rules and the rows of the register, gone if they withdrew, else open.
+/// Returns the pool of the charter's size, the categories of the rules, and the rows of the register as volunteers.
 pub(crate) fn first_pool(
     alloc: Global,
     charter: &Charter,

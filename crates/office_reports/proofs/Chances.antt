@@ -15,11 +15,11 @@ pub max_of_naturals : (a b : ℕ) → int_max (pos a) (pos b) ≡ pos (max a b)
 max_of_naturals a b =
     cond_both (ltb b a) (pos a) (pos b) (λ z. z ≡ pos (max a b)) (λ e. let l = ltb-true b a e in ap pos (omega arith)) (λ e. let l = ltb-false b a e in ap pos (omega arith))
 
--- the count at place `i` is its absolute value as a signed number
+-- if no count is negative, the count at place `i` is its own absolute value, as a signed number
 number_at : (counts : List ℤ) (i : ℕ) (x : ℤ) → counts ≡ map pos (map unsigned_abs counts) → x ≡ get_or counts i (pos 0) → x ≡ pos (get_or (map unsigned_abs counts) i 0)
 number_at counts i x natural e = e ∙ ap (λ zs. get_or zs i (pos 0)) natural ∙ get_or-map pos (map unsigned_abs counts) i 0
 
--- after one step of a loop, the stored number is the pick of the counts read so far, the count at `i` included
+-- after the step of a loop at place `i`, the stored number is what `pick` makes of `first` and the counts up to place `i`
 pub next_stored : (pick : ℕ → ℕ → ℕ) (choose : ℤ → ℤ → ℤ) → ((a b : ℕ) → choose (pos a) (pos b) ≡ pos (pick a b)) → (counts : List ℤ) (i first : ℕ) (now next : ℤ) →
     FitsSigned w128 (get_or counts i (pos 0)) → FitsSigned w128 next → counts ≡ map pos (map unsigned_abs counts) → i < length counts →
     now ≡ pos (fold pick first (take i (map unsigned_abs counts))) → next ≡ choose now (to_z w128 (of_z w128 (get_or counts i (pos 0)))) →

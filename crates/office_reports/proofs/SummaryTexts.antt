@@ -25,7 +25,7 @@ as_naturals zs ns e = ap (map unsigned_abs) e ∙ again ns
     again [] = refl
     again (x ∷ xs) = ap (λ ys. x ∷ ys) (again xs)
 
--- the count that is picked, over the total, is in lowest terms the chance of the definition
+-- the picked count over the total, in lowest terms, is the chance of the definition
 chance_is : (pick : List ℕ → ℕ) (zs : List ℤ) (ns : List ℕ) (num den : ℤ) (total : ℕ) → zs ≡ map pos ns → num ≡ pos (pick (map unsigned_abs zs)) → den ≡ pos total →
     lowest_of (unsigned_abs num) (unsigned_abs den) ≡ lowest_of (pick ns) total
 chance_is pick zs ns num den total e n d =

@@ -1,5 +1,5 @@
--- The values, the categories and the volunteer that each step of making a pool makes. Over MadePools of `define_made_pools`. For
--- `made_pools`.
+-- The values, the categories and the volunteer that each step of making a pool makes. Builds on MadePools of `define_made_pools`. The
+-- contracts of `generator` and `made_pools` cite it.
 use Rattle.std.specs.Prelude.{ℕ, ◌==◌, ◌%◌, ◌<◌, None, List, [], ◌∷◌, count_by, codes, map, slice_index}
 use Rattle.std.specs.List.{enumerate_from}
 use Rattle.define_pools.specs.declared.Standing.TheVariants.{Open}
@@ -27,7 +27,7 @@ category_by first place name value_names = record {
   values = map (λ (value_place, value_name). bounded_by value_name (members_with first place value_place)) (enumerate_from 0 value_names);
 }
 
--- the three categories
+-- the three categories of a made pool, with the bounds that come from the values of the first volunteers
 abbrev pub categories_by : List (List ℕ) → List Category
 categories_by first = category_by first 0 (codes "gender") genders ∷ category_by first 1 (codes "age") ages ∷ category_by first 2 (codes "area") areas ∷ []
 
@@ -39,7 +39,7 @@ names_of_values categories = map (λ category. value_names category.values) cate
 abbrev pub made_names : List (List (List ℕ))
 made_names = genders ∷ ages ∷ areas ∷ []
 
--- each of the three numbers is the place of a value in its category
+-- the three numbers are the places of a gender, an age and an area among the values of their categories
 abbrev pub ArePlaces : List ℕ → Type 0
 ArePlaces values = (slice_index values 0 < 2) × (slice_index values 1 < 3) × (slice_index values 2 < 2)
 

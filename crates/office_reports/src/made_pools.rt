@@ -12,9 +12,9 @@ use pool_model::Pool;
 use std::alloc::{AllocError, Global};
 
 /// Returns the pool that is made from a seed and 1 to 400 volunteers, `v1`, `v2` and so on. A generator gives each of them a gender, an age
-/// and an area, by three numbers in turn. A panel has a tenth of the volunteers, and at least one. The bounds come from the first
-/// volunteers, as many as a panel has: if n of them have a value, a panel has from n - 1 to n + 1 members with it, and at least 0. All
-/// volunteers are open, without households. Fails only if memory runs out.
+/// and an area, by three numbers in turn. A panel has a tenth of the volunteers, rounded down, but at least one. The bounds come from the
+/// first volunteers, as many as a panel has: if n of them have a value, a panel has from n - 1 to n + 1 members with it, and at least 0.
+/// All volunteers are open, without households. Fails only if memory runs out.
 pub fn made_pool(alloc: Global, seed: u64, volunteers: u32) -> Result<Pool, AllocError>
     requires some { 1 ≤ volunteers }
     requires few { volunteers ≤ 400 }
@@ -83,7 +83,7 @@ fn members_with(first: &[[usize; 3]], place: usize, value_place: usize) -> usize
         .count()
 }
 
-/// Adds a value that `members` of the first volunteers have, with bounds one below and one above.
+/// Adds a value that `members` of the first volunteers have, with bounds one below `members`, but at least 0, and one above.
 fn add_bounded(pool: &mut Pool, name: &str, members: usize) -> Result<(), AllocError>
     requires few { members ≤ 40 }
     requires kind { value_kind pool.old (bounded_by name.now members) ≡ None }

@@ -14,7 +14,7 @@ use pool_model::{Answer, Pool, chances};
 use sealed_draw::seal;
 use std::alloc::{AllocError, Global};
 
-/// Returns the summary of a run that found this answer: lines of a word and a field, parted by TAB and ended by LF. The fields are the
+/// Returns the summary of a run that found this answer: lines that end with LF, each of a word, a TAB and a field. The fields are the
 /// numbers of volunteers and classes, the size of a panel, the numbers of the lottery's panels, of columns, pivots and stages, the
 /// total, the least and the greatest chance of a volunteer in lowest terms, and the seal of the bundle. The answer's numbers are in the
 /// ranges of a bundle, and its weights sum to its total.
@@ -41,7 +41,7 @@ pub fn run_summary(
     Ok(text)
 }
 
-/// Appends the lines before the total.
+/// Appends the lines that come before the total: those of the numbers that say how large the pool, the answer and the last table are.
 fn push_sizes(
     text: &mut String,
     pool: &Pool,

@@ -1,4 +1,4 @@
--- What all bytes of a link ask for, by those that were read.
+-- What all the bytes of a link ask for, as it follows from those that were read.
 use Rattle.std.proofs.Common.{◌≡◌, ℕ, ◌+◌, ◌-◌, ◌<◌, ◌≤◌, nat_le, nat_lt, cond, Bool, false, true, List, [], ◌++◌, length, take, drop, Option, Some, None, Result, Ok, IfOk, refl, sym, ap, subst, ◌∙◌, append-nil, append_assoc, length-append, length-drop, arith}
 use Rattle.std.specs.Io.KnownBytes.{Consumes, IsAtEnd}
 use Rattle.std.proofs.KnownBytes.{Consumes-trans}
@@ -13,7 +13,7 @@ use Rattle.office_requests.specs.declared.heads.Wanted.{Wanted}
 use Rattle.office_requests.specs.declared.heads.Wanted.TheVariants.{TooLarge, NoRequest, Asks}
 use Rattle.office_requests.proofs.HeadSizes.{head_size-le, whole_head-found, whole_head-full, whole_head-none}
 
--- ---- from the bytes that were read to all
+-- ---- from the bytes that were read to all the bytes
 
 -- if the bytes that were read ask for `asking`, whatever follows them, then `asking` is asked over the link
 pub decided : (old new : Option (List ℕ)) (front : List ℕ) (asking : desk.Asking) → Consumes old new front → ((more : List ℕ) → desk.AreAsking (front ++ more) asking) → IsAskedOver old asking
@@ -51,7 +51,7 @@ together : (bytes rest : List ℕ) (size : ℕ) (asking : desk.Asking) → whole
 together bytes rest size asking whole cut (Headed h is e) = desk.Headed size h whole is (e ∙ ap (desk.asking_by h) (sym cut))
 together bytes rest size asking whole cut (Misheaded none e) = desk.Misheaded size whole none e
 
--- `bytes` have the head, and `more` follow them
+-- if `bytes` have a head, `bytes ++ more` ask for what this head asks for, with the bytes after it
 pub headed : (bytes more : List ℕ) (size : ℕ) (asking : desk.Asking) → length bytes ≤ most_of_head → head_size bytes ≡ Some size
     → AskTogether (take size bytes) (drop size bytes ++ more) asking → desk.AreAsking (bytes ++ more) asking
 headed bytes more size asking few found asks =
@@ -67,7 +67,7 @@ pub asked_by_head : (old new : Option (List ℕ)) (bytes : List ℕ) (size : ℕ
 asked_by_head old new bytes size asking read few found asks =
     decided old new bytes asking read (λ more. headed bytes more size asking few found (asks (drop size bytes ++ more)))
 
--- what follows the head of `bytes` if `body` were read after them, and `more` follow
+-- the same as `headed`, if `body` was read after `bytes`, and `more` follow
 after_body : (bytes body more : List ℕ) (size : ℕ) (asking : desk.Asking) → length bytes ≤ most_of_head → head_size bytes ≡ Some size
     → AskTogether (take size bytes) (drop size bytes ++ (body ++ more)) asking → desk.AreAsking ((bytes ++ body) ++ more) asking
 after_body bytes body more size asking few found asks =
@@ -84,7 +84,7 @@ enough_asks bytes body more size count request asks enough =
     let P : desk.Asking → Type 0 = λ asking. AskTogether (take size bytes) (drop size bytes ++ (body ++ more)) asking in
     subst P (ap (λ t. cond t desk.NoRequest (desk.Asks request)) test) asks
 
--- the whole body was read
+-- if the whole body was read, the request is asked over the link
 pub asked_with_body : (old new : Option (List ℕ)) (bytes body : List ℕ) (size count : ℕ) (request : desk.Request) → Consumes old new (bytes ++ body) → length bytes ≤ most_of_head
     → head_size bytes ≡ Some size → ((rest : List ℕ) → AskTogether (take size bytes) rest (cond (nat_lt (length rest) count) desk.NoRequest (desk.Asks request)))
     → count ≤ length bytes - size + length body → IsAskedOver old (desk.Asks request)
@@ -92,7 +92,7 @@ asked_with_body old new bytes body size count request read few found asks enough
     decided old new (bytes ++ body) (desk.Asks request) read
     (λ more. after_body bytes body more size (desk.Asks request) few found (enough_asks bytes body more size count request (asks (drop size bytes ++ (body ++ more))) enough))
 
--- all was read, and it is less than the body
+-- if the link ended before the whole body was read, no request is asked over it
 pub asked_without_body : (old new : Option (List ℕ)) (bytes body : List ℕ) (size count : ℕ) (request : desk.Request) → Consumes old new (bytes ++ body) → IsAtEnd new → length bytes ≤ most_of_head
     → head_size bytes ≡ Some size → ((rest : List ℕ) → AskTogether (take size bytes) rest (cond (nat_lt (length rest) count) desk.NoRequest (desk.Asks request)))
     → length bytes - size + length body < count → IsAskedOver old desk.NoRequest
@@ -102,9 +102,9 @@ asked_without_body old new bytes body size count request read none few found ask
     ended old new (bytes ++ body) desk.NoRequest read none
     (headed bytes body size desk.NoRequest few found (subst P (ap (λ t. cond t desk.NoRequest (desk.Asks request)) test) (asks (drop size bytes ++ body))))
 
--- ---- what `read_asking` asks for
+-- ---- what `read_asking` returns is asked over the link
 
--- no head was found
+-- if no head was found, `asking_without bytes` is asked over the link
 headless_by : (old new : Option (List ℕ)) (bytes : List ℕ) (head : Option ℕ) (test : Bool) → nat_le most_of_head (length bytes) ≡ test → ReadsFront old new bytes head → head ≡ None
     → IsAskedOver old (desk.asking_without bytes)
 headless_by old new bytes head true is front none =
@@ -140,7 +140,7 @@ asked_no old new bytes slice size head wanted front some same asks is =
     let here = wanted_here bytes slice size wanted NoRequest same is asks in
     asked_by_head old new bytes size desk.NoRequest front.read front.within (sym front.head_is ∙ some) (λ rest. here rest)
 
--- `body` bytes are asked for, of which `count` were still missing
+-- if the head asks for a body of `body` bytes, and the `count` bytes of it that were missing were read, the request is asked over the link
 pub asked_whole : (old mid new : Option (List ℕ)) (bytes slice : List ℕ) (size : ℕ) (head : Option ℕ) (wanted : Wanted) (request : desk.Request) (body count : ℕ) (all : Bool)
     → ReadsFront old mid bytes head → head ≡ Some size → slice ≡ bytes → IsWanted (take size slice) wanted → wanted ≡ Asks request body
     → count ≡ body - (length bytes - size) → Skips count mid new all → all ≡ true → IsAskedOver old (desk.Asks request)
@@ -159,11 +159,11 @@ asked_cut old mid new bytes slice size head wanted request body count false fron
     let lacking : length bytes - size + length skips.0 < body = omega (arith, skips.2.0, missing) in
     asked_without_body old new bytes skips.0 size body request (Consumes-trans old mid new bytes skips.0 front.read skips.1) skips.2.1 front.within (sym front.head_is ∙ some) (λ rest. here rest) lacking
 
--- what is at most the bytes of a head is at most what is read for a request
+-- if at most `most_of_head` bytes were read, at most `most_read` bytes were read
 pub lost_once : (a b : Option (List ℕ)) → LosesAtMost most_of_head a b → LosesAtMost most_read a b
 lost_once a b (bytes, read, few) = (bytes, read, omega arith)
 
--- the bytes of a head were read, and then a part of a body
+-- if at most `most_of_head` bytes were read, and then at most the missing bytes of a body, at most `most_read` bytes were read in all
 pub lost_twice : (a b c : Option (List ℕ)) (count body come : ℕ) → LosesAtMost most_of_head a b → LosesAtMost count b c → count ≡ body - come → body ≤ most_of_body → LosesAtMost most_read a c
 lost_twice a b c count body come (first, read, few) (second, then, less) missing small =
     (first ++ second, Consumes-trans a b c first second read then, omega (arith, length-append first second, few, less, missing, small))

@@ -1,4 +1,4 @@
--- The fields of a head, by spans and as the grammar has them.
+-- The fields of a head, as spans of bytes and as values of the grammar, have the same names and values.
 use Rattle.std.proofs.Common.{◌≡◌, ℕ, ◌+◌, ◌<◌, ◌≤◌, ◌||◌, cond, Bool, false, true, List, [], ◌∷◌, ◌++◌, length, get_or, map, drop, Option, Some, None, refl, sym, ap, ◌∙◌, append-nil, append_assoc}
 use Rattle.std.specs.List.{filter, list_any}
 use Rattle.std.proofs.lemmas.List.{drop_all, drop_more}
@@ -11,7 +11,7 @@ use Rattle.office_requests.specs.Heads.{pairs_at, values_with}
 
 -- ---- one field after the other
 
--- the values so far, and those of the fields from `at` on, are all
+-- `values`, followed by those of the fields from `at` on, are all values of the fields with this name
 abbrev pub AreValuesAt : List ℕ → List ℕ → List HeaderSpan → ℕ → List (List ℕ) → Type 0
 AreValuesAt name head fields at values = values ++ values_with name (pairs_at head (drop at fields)) ≡ values_with name (pairs_at head fields)
 
@@ -38,13 +38,13 @@ pub values-all : (name head : List ℕ) (fields : List HeaderSpan) (at : ℕ) (v
 values-all name head fields at values all before =
     sym (append-nil values) ∙ ap (λ fs. values ++ values_with name (pairs_at head fs)) (sym (drop_all at fields all)) ∙ before
 
--- ---- the one value, if there is one
+-- ---- the value of a name that at most one field has
 
 abbrev pub found_value : List ℕ → Option Span → List (List ℕ)
 found_value head None = []
 found_value head (Some span) = span_bytes head span ∷ []
 
--- two values are no size
+-- if two fields have the name, their values give no size
 pub two_sizes : (name head : List ℕ) (fields : List HeaderSpan) (at : ℕ) (field : HeaderSpan) (span : Span) → at < length fields → field ≡ get_or fields at field
     → is_name name (span_bytes head field.name) ≡ true → AreValuesAt name head fields at (found_value head (Some span)) → None ≡ size_by (values_with name (pairs_at head fields))
 two_sizes name head fields at field span within is named before =

@@ -1,11 +1,11 @@
--- Where a head ends, as bytes are looked at one after the other, and as more bytes come.
+-- Where a head ends: the search byte by byte, and the search after more bytes were read.
 use Rattle.std.proofs.Common.{◌≡◌, ℕ, ◌+◌, ◌-◌, ◌<◌, ◌≤◌, ◌==◌, nat_lt, ◌&&◌, cond, Bool, false, true, List, [], ◌∷◌, ◌++◌, length, get_or, take, drop, Option, Some, None, option_map, refl, sym, ap, ◌∙◌, zero-add, suc, arith}
 use Rattle.std.proofs.lemmas.Bool.Decides.{nat_tests}
 use Rattle.std.proofs.lemmas.List.{drop_more, take_all, take-append-le, take_rest}
 use Rattle.std.proofs.Math.Seq.{take-append-add}
 use Rattle.define_desk.specs.Requests.{empty_line, head_size, most_of_head, whole_head}
 
--- the size of a head whose first `count` bytes come before these
+-- `count` added to the size of a head, or None if there is no head
 abbrev pub further : ℕ → Option ℕ → Option ℕ
 further count size = option_map (λ n. count + n) size
 
@@ -21,13 +21,13 @@ one-further : (count : ℕ) (size : Option ℕ) → option_map (λ n. n + 1) (fu
 one-further count None = refl
 one-further count (Some n) = let e : count + n + 1 ≡ suc count + n = omega arith in ap Some e
 
--- a byte with which no head ends
+-- if `byte` is no LF before an empty line, the head is one byte longer than that of the bytes after `byte`
 past : (byte : ℕ) (bytes : List ℕ) → (byte ≡ 10 → empty_line bytes ≡ 0) → head_size (byte ∷ bytes) ≡ option_map (λ n. n + 1) (head_size bytes)
 past byte bytes h =
     let test : ((byte == 10) && nat_lt 0 (empty_line bytes)) ≡ false = grind (arith, nat_tests) in
     ap (λ t. cond t (Some (1 + empty_line bytes)) (option_map (λ n. n + 1) (head_size bytes))) test
 
--- an LF with which a head ends
+-- if `byte` is an LF before an empty line, the head ends with this line
 found : (byte : ℕ) (bytes : List ℕ) → byte ≡ 10 → 0 < empty_line bytes → head_size (byte ∷ bytes) ≡ Some (1 + empty_line bytes)
 found byte bytes e h =
     let test : ((byte == 10) && nat_lt 0 (empty_line bytes)) ≡ true = grind (arith, nat_tests) in
@@ -47,14 +47,14 @@ head_size-found bytes at within is h e =
     ap Some sum ∙ ap (further at) (sym (found (get_or bytes at 0) (drop (at + 1) bytes) is h))
     ∙ ap (λ xs. further at (head_size xs)) (sym (drop_more bytes at 0 within)) ∙ sym e
 
--- ---- one byte before others
+-- ---- the search with one more byte in front
 
 none_further : (test : Bool) (n : ℕ) (size : Option ℕ) → cond test (Some n) (option_map (λ m. m + 1) size) ≡ None → (test ≡ false) × (size ≡ None)
 none_further true n size e = absurd (let clash : ⊥ = cc in clash)
 none_further false n None e = (refl, refl)
 none_further false n (Some m) e = absurd (let clash : ⊥ = cc in clash)
 
--- no head ends with one byte
+-- a single byte has no head; `test` is whether it is an LF
 one_byte_by : (test : Bool) (n : ℕ) (rest : Option ℕ) → rest ≡ None → cond (test && false) (Some n) rest ≡ None
 one_byte_by true n rest e = e
 one_byte_by false n rest e = e
@@ -82,7 +82,7 @@ bounded false n size len (Some m) e first h =
     let small : m ≤ len = h m refl in
     omega arith
 
--- ---- more bytes
+-- ---- the search when more bytes follow
 
 only_by : (test other : Bool) → 0 < cond test 1 0 → ◌≡◌ {A = ℕ} (cond test 1 (cond other 2 0)) (cond test 1 0)
 only_by true other h = refl
@@ -107,7 +107,7 @@ empty_line-le [] = omega arith
 empty_line-le (byte ∷ []) = elim (byte == 10) as (λ t. cond t 1 0 ≤ length (byte ∷ [])) [ true ↦ omega arith | false ↦ omega arith ]
 empty_line-le (byte ∷ next ∷ bytes) = at_most_two (byte == 10) ((byte == 13) && (next == 10)) (length bytes)
 
--- a head of the bytes is that of more of them
+-- if bytes have a head, its size stays the same when more bytes follow
 pub head_size-append : (bytes more : List ℕ) (size : ℕ) → head_size bytes ≡ Some size → head_size (bytes ++ more) ≡ Some size
 head_size-append [] more size e = absurd (let clash : ⊥ = cc in clash)
 head_size-append (a ∷ []) more size e = absurd (let lost : None ≡ Some size = sym (one_byte a) ∙ e in let clash : ⊥ = cc in clash)
@@ -129,7 +129,8 @@ head_size-le (a ∷ bytes) size e =
     let first : 1 + empty_line bytes ≤ suc (length bytes) = omega (arith, small) in
     bounded ((a == 10) && nat_lt 0 (empty_line bytes)) (1 + empty_line bytes) size (length bytes) (head_size bytes) e first (λ m h. head_size-le bytes m h)
 
--- one byte more before bytes at whose last two the search goes on
+-- Suppose that `a` is no LF before an empty line. If the search in `rest ++ more` may start at the last two bytes of `rest`, so may the
+-- search in `a ∷ (rest ++ more)`.
 resumed_past : (a : ℕ) (rest more : List ℕ) (line : ℕ) → empty_line (rest ++ more) ≡ line → ((a == 10) && nat_lt 0 line) ≡ false
     → head_size (rest ++ more) ≡ further (length rest - 2) (head_size (drop (length rest - 2) (rest ++ more)))
     → 2 ≤ length rest → head_size (a ∷ (rest ++ more)) ≡ further (length (a ∷ rest) - 2) (head_size (drop (length (a ∷ rest) - 2) (a ∷ (rest ++ more))))
@@ -140,7 +141,7 @@ resumed_past a rest more line same test later two =
     ∙ one-further (length rest - 2) (head_size (drop (length rest - 2) (rest ++ more)))
     ∙ ap (λ n. further n (head_size (drop n (a ∷ (rest ++ more))))) count
 
--- if the bytes have no head, the search in more of them may go on at their last two
+-- if `bytes` have no head, the search in `bytes ++ more` may go on at the last two of `bytes`
 pub head_size-resumed : (bytes more : List ℕ) → head_size bytes ≡ None
     → head_size (bytes ++ more) ≡ further (length bytes - 2) (head_size (drop (length bytes - 2) (bytes ++ more)))
 head_size-resumed [] more none = further-zero (head_size more)
@@ -162,12 +163,12 @@ search_resumed old more all slice from found none all_is from_is slice_is found_
 
 -- ---- whole heads
 
--- bytes that have a head, of at most as many bytes as a head may have, have a whole one, whatever follows
+-- if at most `most_of_head` bytes have a head, it is whole, whatever follows
 pub whole_head-found : (bytes more : List ℕ) (size left : ℕ) → most_of_head ≡ length bytes + left → head_size bytes ≡ Some size → whole_head (bytes ++ more) ≡ Some size
 whole_head-found bytes more size left all e =
     ap (λ n. head_size (take n (bytes ++ more))) all ∙ ap head_size (take-append-add bytes more left) ∙ head_size-append bytes (take left more) size e
 
--- as many bytes as a head may have, without a head, have no whole one, whatever follows
+-- if `most_of_head` bytes have no head, there is no whole head, whatever follows
 pub whole_head-full : (bytes more : List ℕ) → length bytes ≡ most_of_head → head_size bytes ≡ None → whole_head (bytes ++ more) ≡ None
 whole_head-full bytes more all none =
     ap head_size (take-append-le most_of_head bytes more (omega arith) ∙ take_all most_of_head bytes (omega arith)) ∙ none

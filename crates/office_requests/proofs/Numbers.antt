@@ -10,7 +10,7 @@ use Rattle.std.proofs.Math.Nat.{pow-le-pow_right}
 use Rattle.laws_basic.proofs.Each.{passes_at}
 use Rattle.define_desk.specs.Requests.{is_number}
 
--- what is known of a number: how many digits it has, and that each is one
+-- the text spells a number: it has 1 to 18 bytes, and each is a digit
 pub record IsSpelled (text : List ℕ) : Type 0 where
   pub some : 0 < length text
   pub few : length text ≤ 18
@@ -32,12 +32,12 @@ digit_at text at it within = digit_range (get_or text at 0) (passes_at is_ascii_
 value_of_digit : (c : ℕ) → 48 ≤ c → c ≤ 57 → digit_value c ≡ c - 48
 value_of_digit c low high = grind (arith, nat_tests)
 
--- the digits before `at` spell this number
+-- the bytes before `at` are digits, and spell `value`
 pub record IsValueAt (text : List ℕ) (at value : ℕ) : Type 0 where
   pub digits : AllDigits 10 (take at text)
   pub is : value ≡ digits_value 10 (take at text)
 
--- one digit more fits
+-- before another digit is read, the value is below 10^17, so the value with this digit fits
 pub small_at : (text : List ℕ) (at value : ℕ) → IsSpelled text → at < length text → IsValueAt text at value → value < 10 ^ 17
 small_at text at value it within before =
     let size : length (take at text) ≡ at = length-take-le at text (omega arith) in

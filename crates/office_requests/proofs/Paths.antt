@@ -6,7 +6,7 @@ use Rattle.std.proofs.lemmas.Bool.Decides.{nat_tests}
 use Rattle.std.proofs.lemmas.List.{drop_all, drop_more, take_more}
 use Rattle.define_desk.specs.Requests.{path_of}
 
--- no `?` came before `at`
+-- no `?` is before `at`
 abbrev pub IsPathAt : List ℕ → ℕ → Type 0
 IsPathAt target at = take at target ++ path_of (drop at target) ≡ path_of target
 
@@ -37,7 +37,7 @@ pub path_at-end : (target : List ℕ) (at : ℕ) → length target ≤ at → Is
 path_at-end target at all before =
     sym (append-nil (take at target)) ∙ ap (λ xs. take at target ++ path_of xs) (sym (drop_all at target all)) ∙ before
 
--- a text that is read of the target's first `size` bytes, which are the path, has the bytes of the path
+-- if the target's first `size` bytes are the path, a text made of them has the bytes of the path
 pub path_text : {Z E : Type 0} (result : Result (String Z) E) (target : List ℕ) (size : ℕ) → IsUtf8 target → take size target ≡ path_of target → IsCharBoundary target size
     → IfOk result (λ text. IsUtf8 (take size target) → string_bytes text ≡ take size target) → IfOk result (λ text. string_bytes text ≡ path_of target)
 path_text (Ok text) target size utf8 is cut read = read (IsUtf8-take target size utf8 cut) ∙ is

@@ -1,14 +1,14 @@
--- What several reads take.
+-- How many bytes several reads take in all.
 use Rattle.std.proofs.Common.{◌≡◌, ℕ, ◌+◌, ◌-◌, ◌≤◌, List, ◌++◌, length, take, ap, arith, length-append}
 use Rattle.std.proofs.lemmas.List.{length-take-le}
 
--- how many bytes were read, and are still to be read, after `taken` more
+-- if the bytes read and the `left` bytes still to be read are `count` in all, they still are after `taken` more were read
 pub count_after : (bytes room : List ℕ) (taken left count : ℕ) → taken ≤ length room → taken ≤ left → length bytes + left ≡ count
     → length (bytes ++ take taken room) + (left - taken) ≡ count
 count_after bytes room taken left count fits few all =
     omega (arith, length-append bytes (take taken room), length-take-le taken room fits)
 
--- no more bytes come than there is room for
+-- if the room of a read is at most `most` less the bytes read before, at most `most` bytes are read in all after it
 pub within_after : (old room all : List ℕ) (count size most : ℕ) → all ≡ old ++ take count room → count ≤ length room → length room ≤ size → size ≤ most - length old → length old ≤ most
     → length all ≤ most
 within_after old room all count size most is fits few left within =

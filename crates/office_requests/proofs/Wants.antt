@@ -11,7 +11,7 @@ use Rattle.office_requests.specs.Heads.{Headed, IsHeadAt, IsWanted, asks_then, p
 use Rattle.office_requests.specs.declared.heads.Wanted.{Wanted}
 use Rattle.office_requests.proofs.FieldLaws.{any_same, values_same}
 
--- what is asked for by what is known of a body's size and of its encoding
+-- what a head asks for, given its request, the bytes after it, whether its body is encoded, and the size of its body
 abbrev asked : Request → List ℕ → Bool → Option ℕ → Asking
 asked request rest encoded None = NoRequest
 asked request rest encoded (Some size) = cond (nat_lt most_of_body size) TooLarge (cond (encoded || nat_lt (length rest) size) NoRequest (Asks request))
@@ -55,7 +55,7 @@ pub with_encoding : (head : List ℕ) (fields : List HeaderSpan) (spans : Reques
 with_encoding head fields spans h rest size encoded at e few is so =
     sym (within head fields spans h rest size encoded at e few is ∙ ap (λ t. cond (t || nat_lt (length rest) size) NoRequest (Asks (request_of h))) so)
 
--- the request by the spans is that of the head
+-- the request made of the bytes that the spans cover is that of the head
 request_same : (head : List ℕ) (fields : List HeaderSpan) (spans : RequestSpans) (h : RequestHead) (request : Request) → IsRequestAt head fields spans h
     → request ≡ record { method = span_bytes head spans.method; path = path_of (span_bytes head spans.path); keys = values_with (codes "office-key") (pairs_at head (take spans.headers fields)) }
     → request ≡ request_of h

@@ -21,7 +21,7 @@ values_with name (pair ∷ pairs) = if desk.is_name name pair.0 then pair.1 ∷ 
 
 -- ---- heads
 
--- the head is this head of at most 64 fields, and the spans cover its parts
+-- the bytes `head` spell the head `h` of at most 64 fields, and the spans cover its parts
 pub record IsHeadAt (head : List ℕ) (fields : List HeaderSpan) (spans : RequestSpans) (h : RequestHead) : Type 0 where
   pub is : desk.IsHead head h
   pub at : IsRequestAt head fields spans h
@@ -32,7 +32,7 @@ pub record IsHeadBy (head : List ℕ) (fields : List HeaderSpan) (spans : Reques
   pub whole : spans.len ≡ length head
   pub target : IsUtf8 (span_bytes head spans.path)
 
--- what is asked for if these bytes follow the head
+-- what a head with this `Wanted` asks for if the bytes `rest` follow it
 abbrev pub asks_then : Wanted → List ℕ → desk.Asking
 asks_then TooLarge rest = desk.TooLarge
 asks_then NoRequest rest = desk.NoRequest

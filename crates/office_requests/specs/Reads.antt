@@ -11,7 +11,7 @@ pub record ReadsFront (old new : Option (List ℕ)) (bytes : List ℕ) (head : O
   pub fits : IfSome head (λ size. size ≤ length bytes)
   pub ended : head ≡ None → length bytes < most_of_head → IsAtEnd new
 
--- `count` bytes were read, or all that there were
+-- `count` bytes were read, if `are_all`; else fewer, since the link ended
 abbrev pub Skips : ℕ → Option (List ℕ) → Option (List ℕ) → Bool → Type 0
 Skips count old new are_all =
     (bytes : List ℕ) × Consumes old new bytes × MatchBool are_all (length bytes ≡ count) ((length bytes < count) × IsAtEnd new)

@@ -1,4 +1,4 @@
-//! What the bytes of a connection ask for, and why that was not found out.
+//! What the bytes of a connection ask for, and why `read_asking` may be unable to say it.
 
 use crate::requests::Request;
 use thiserror::Error;
@@ -8,13 +8,13 @@ use thiserror::Error;
 pub enum Asking {
     /// A head of more than 8,192 bytes, or a body of more than 65,536.
     TooLarge,
-    /// No request.
+    /// The bytes are no request, or they end before the body of the request does.
     NoRequest,
     /// A request.
     Asks(Request),
 }
 
-/// Why it was not found out what was asked.
+/// Why `read_asking` can't say what the bytes ask for.
 #[derive(Clone, Copy, Debug, PartialEq, Eq, Error)]
 pub enum RequestStop {
     /// The link failed.

@@ -3,7 +3,7 @@
 ghost use Rattle.std.specs.Prelude.{◌≡◌};
 ghost use Rattle.define_desk.specs.Requests.{empty_line, head_size};
 
-/// Returns how many bytes a head has: it ends with the first empty line that comes after an LF.
+/// Returns how many bytes a head has: it ends with the first empty line that comes after an LF. Returns None if there is no such line.
 pub(crate) fn head_size(bytes: &[u8]) -> Option<usize>
     ensures { result ≡ head_size bytes.now }
 {
@@ -18,7 +18,7 @@ pub(crate) fn head_size(bytes: &[u8]) -> Option<usize>
     None
 }
 
-/// Returns how many bytes the empty line has with which the bytes begin, or 0.
+/// Returns the size of the empty line with which the bytes begin: 1 for LF, 2 for CR LF, or 0 if they don't begin with one.
 fn empty_line(bytes: &[u8]) -> usize
     ensures { result ≡ empty_line bytes.now }
 {

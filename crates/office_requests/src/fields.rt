@@ -12,7 +12,8 @@ use crate::requests::Key;
 use httparse::spans::{HeaderSpan, Span};
 use std::alloc::{AllocError, Global};
 
-/// Returns the size of the body by the fields `Content-Length`, or `None` if there are two or the one is no number.
+/// Returns the number in the field `Content-Length`, or 0 without this field: the size of the body. Returns `None` if there are two such
+/// fields, or if the only one has no number.
 pub(crate) fn body_size(head: &[u8], fields: &[HeaderSpan]) -> Option<u64>
     requires { All (IsHeaderWithin (length head.now)) fields.now }
     ensures { result ≡ size_by (values_with (codes "content-length") (pairs_at head.now fields.now)) }

@@ -1,6 +1,6 @@
 //! Reads a link up to the end of a head, and skips bytes of it.
 
-ghost use Rattle.std.specs.Prelude.{◌≡◌, ◌≢◌, ◌≤◌, IfOk, OnErr, OnOk};
+ghost use Rattle.std.specs.Prelude.{◌≡◌, ◌≢◌, ◌≤◌, ◌+◌, IfOk, OnErr, OnOk};
 ghost use Rattle.outside.specs.Faults.{Rose};
 ghost use Rattle.define_desk.specs.Requests.{most_of_head};
 ghost use Rattle.office_requests.specs.Reads.{LosesAtMost, ReadsFront, Skips};
@@ -10,7 +10,7 @@ use crate::ends::head_size;
 use outside::{Failed, Link};
 use std::alloc::Global;
 
-/// The most bytes that a head has.
+/// The most bytes that a head may have.
 pub(crate) const MOST_OF_HEAD: usize = 8192;
 
 // The most bytes that one read takes.
@@ -23,7 +23,7 @@ pub(crate) struct Front {
     pub head: Option<usize>,
 }
 
-/// Reads until a head is whole, there are too many bytes for a head, or none is left.
+/// Reads until a head is whole, until 8,192 bytes were read, which is the most that a head may have, or until no byte is left.
 pub(crate) fn read_front<L: Link>(alloc: Global, link: &mut L) -> Result<Front, RequestStop>
     ensures front { IfOk result
         (λ front. ReadsFront (L.left link.old) (L.left link.new) front.bytes.items front.head) }
@@ -33,6 +33,7 @@ pub(crate) fn read_front<L: Link>(alloc: Global, link: &mut L) -> Result<Front, 
     ensures written { L.written link.new ≡ L.written link.old }
     ensures none { result ≢ Err RequestStop.LinkFault → L.faults link.new ≡ L.faults link.old }
     ensures never_falls { L.faults link.old ≤ L.faults link.new }
+    ensures reads { L.reads link.new ≤ L.reads link.old + most_of_head }
 {
     let mut bytes = Vec::new(alloc);
     let mut room = [0u8; ROOM];
@@ -45,7 +46,7 @@ pub(crate) fn read_front<L: Link>(alloc: Global, link: &mut L) -> Result<Front, 
         if count == 0 {
             return Ok(Front { bytes, head: None });
         }
-        // An end of two bytes may be cut in two, so the search goes on two bytes before the new ones.
+        // The end of a head, LF LF or LF CR LF, may be split between two reads, so the search starts two bytes before the new ones.
         let from = bytes.len().saturating_sub(2);
         if bytes.extend_from_slice(&space[..count]).is_err() {
             return Err(RequestStop::OutOfMemory);
@@ -58,7 +59,7 @@ pub(crate) fn read_front<L: Link>(alloc: Global, link: &mut L) -> Result<Front, 
     Ok(Front { bytes, head: None })
 }
 
-/// Reads `count` bytes and forgets them. True if all came, and false if the link ended before.
+/// Reads `count` bytes and forgets them. Returns true if all came, and false if the link ended before they did.
 pub(crate) fn skip<L: Link>(link: &mut L, count: usize) -> Result<bool, Failed>
     ensures skips { IfOk result (Skips count (L.left link.old) (L.left link.new)) }
     ensures lost { LosesAtMost count (L.left link.old) (L.left link.new) }
@@ -66,6 +67,7 @@ pub(crate) fn skip<L: Link>(link: &mut L, count: usize) -> Result<bool, Failed>
     ensures never_falls { L.faults link.old ≤ L.faults link.new }
     ensures cause { OnErr result (Rose (L.faults link.old) (L.faults link.new)) }
     ensures none { OnOk result (L.faults link.new ≡ L.faults link.old) }
+    ensures reads { L.reads link.new ≤ L.reads link.old + count }
 {
     let mut left = count;
     let mut room = [0u8; ROOM];

@@ -23,9 +23,9 @@ const MOST_OF_BODY: u64 = 65536;
 pub(crate) enum Wanted {
     /// The body is too large.
     TooLarge,
-    /// It is no request.
+    /// The head is that of no request.
     NoRequest,
-    /// It is `request`, if a body of `body` bytes follows.
+    /// The head asks for `request`, if a body of `body` bytes follows.
     Asks { request: Request, body: usize },
 }
 
@@ -41,7 +41,7 @@ pub(crate) fn wanted_by(alloc: Global, head: &[u8]) -> Result<Wanted, AllocError
     }
 }
 
-/// Returns where the parts of the head are, or `None` if it isn't one, to its last byte, with at most 64 fields.
+/// Returns where the parts of the head are, or `None` if `head` isn't exactly one head with at most 64 fields.
 fn read_head(head: &[u8], fields: &mut [HeaderSpan]) -> Option<RequestSpans>
     requires { length fields.old ≡ MOST_FIELDS }
     ensures head { IfSome result (λ spans. (h : RequestHead) × IsHeadAt head.now fields.new spans h) }

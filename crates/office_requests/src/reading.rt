@@ -1,6 +1,6 @@
 //! Reads what the bytes of a link ask for.
 
-ghost use Rattle.std.specs.Prelude.{◌≡◌, ◌≢◌, ◌≤◌, IfOk};
+ghost use Rattle.std.specs.Prelude.{◌≡◌, ◌≢◌, ◌≤◌, ◌+◌, IfOk};
 ghost use Rattle.outside.specs.Faults.{Rose};
 ghost use Rattle.define_desk.specs.Requests.{asking_without};
 ghost use Rattle.office_requests.specs.Askings.{IsAskedOver, seen_asking};
@@ -12,8 +12,9 @@ use crate::heads::{Wanted, wanted_by};
 use outside::Link;
 use std::alloc::Global;
 
-/// Returns what the bytes that are left ask for. It reads no further than it must to know that, so a client that waits for an answer
-/// and keeps the connection open gets one. It reads at most the 8,192 bytes of a head and the 65,536 of a body.
+/// Returns what the bytes that are left ask for. It stops reading once it knows that, so a client that keeps the connection open while it
+/// waits for an answer gets one. It reads at most the 8,192 bytes of a head and the 65,536 of a body, and each read but the last takes at
+/// least one byte, so it makes at most 73,728 reads.
 pub fn read_asking<L: Link>(alloc: Global, link: &mut L) -> Result<Asking, RequestStop>
     ensures asking { IfOk result (λ asking. IsAskedOver (L.left link.old) (seen_asking asking)) }
 
@@ -26,6 +27,7 @@ pub fn read_asking<L: Link>(alloc: Global, link: &mut L) -> Result<Asking, Reque
     ensures written { L.written link.new ≡ L.written link.old }
     ensures none { result ≢ Err RequestStop.LinkFault → L.faults link.new ≡ L.faults link.old }
     ensures never_falls { L.faults link.old ≤ L.faults link.new }
+    ensures reads { L.reads link.new ≤ L.reads link.old + most_read }
 {
     let front = read_front(alloc, link)?;
     let Some(size) = front.head else {

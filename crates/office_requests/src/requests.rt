@@ -4,7 +4,7 @@ ghost use Rattle.std.specs.Prelude.{◌≡◌, string_bytes};
 
 use std::marker::Model;
 
-/// A key that was given, of whatever bytes.
+/// A key that a request gives. It may have any bytes.
 #[derive(Debug, Drop)]
 pub struct Key {
     bytes: Vec<u8>,
@@ -34,7 +34,7 @@ impl Key {
     }
 }
 
-/// A request.
+/// A request to the desk: its method, its path and its keys.
 #[derive(Debug, Drop)]
 pub struct Request {
     method: Vec<u8>,
@@ -59,21 +59,21 @@ impl Request {
         Request { method, path, keys }
     }
 
-    /// The method, as `GET`.
+    /// Returns the method, for instance `GET`.
     pub fn method(&self) -> &[u8]
         ensures { result.now ≡ self.now.method }
     {
         self.method.as_slice()
     }
 
-    /// The target up to its first `?`.
+    /// Returns the path: the target up to its first `?`.
     pub fn path(&self) -> &str
         ensures { result.now ≡ self.now.path }
     {
         self.path.as_str()
     }
 
-    /// The values of the fields `office-key`.
+    /// Returns the keys: the values of the fields `office-key`.
     pub fn keys(&self) -> &[Key]
         ensures { result.now ≡ self.now.keys }
     {

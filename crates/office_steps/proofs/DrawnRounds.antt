@@ -1,4 +1,4 @@
--- What holds of the bundle of a round that is drawn from.
+-- What holds of the bundle of a round from which a panel is drawn.
 use Rattle.std.proofs.Common.{◌≡◌, ◌∙◌, ℕ, zero, suc, List, Some, IsTrue, is_ok, ap, subst}
 use Rattle.define_pools.specs.Lottery.{TotalAgrees}
 use Rattle.define_bundles.specs.BundleText.{Bundle}

@@ -1,4 +1,4 @@
--- The members of a bundle's panels are the pool's.
+-- The members of a bundle's panels are volunteers of its pool.
 use Rattle.std.proofs.Common.{◌≡◌, ℕ, zero, suc, true, ◌&&◌, List, [], ◌∷◌, length, get_or, map, ltb, refl, ap, ◌∙◌}
 use Rattle.std.specs.List.{list_all}
 use Rattle.std.proofs.lemmas.Bool.{and_parts}

@@ -1,4 +1,4 @@
--- Two lists pass a test from the front exactly if they have one length and pass it at each place.
+-- A test of two lists from the front holds exactly if they have the same length and the test holds at each place.
 use Rattle.std.proofs.Common.{◌≡◌, ℕ, suc, Bool, false, ◌&&◌, ◌==◌, List, [], ◌∷◌, length, refl, ap, ◌∙◌}
 use Rattle.std.specs.List.{list_all, zip}
 use Rattle.std.specs.Cmp.Lexicographic.{pointwise}

@@ -3,7 +3,7 @@ use Rattle.std.specs.Prelude.{◌≡◌, ℕ, ◌<◌, List, Option, Some, None,
 use Rattle.define_offices.specs.Deciding.{place_of_hash}
 use Rattle.define_offices.specs.Tables.{Entry}
 
--- with a place: the row there is the first that has the digest; without one: no row has it
+-- if there is a place, the row there is the first with the digest; if there is none, no row has the digest
 abbrev pub IsPlaceOf : List Entry → List ℕ → Option ℕ → Type 0
 IsPlaceOf register hash None = place_of_hash register hash 0 ≡ None
 IsPlaceOf register hash (Some place) = (place < length register) × ((entry : Entry) → place_of_hash register hash 0 ≡ Some (place, slice_index_or register place entry))

@@ -52,7 +52,7 @@ fn push_panel(text: &mut Vec<u8>, pool: &Pool, panel: &Panel) -> Result<(), Allo
     end_line(text)
 }
 
-/// Returns the refusal that a draw's stop is. Fails if memory runs out, or if the stop is that memory ran out.
+/// Returns a draw's stop as a refusal. Fails if memory runs out, or if the stop says that it did.
 pub(crate) fn draw_refusal(alloc: Global, stop: &DrawStop) -> Result<Refusal, AllocError>
     ensures { IfOk result (λ refusal. IsStop stop.now (seen_refusal refusal)) }
 {

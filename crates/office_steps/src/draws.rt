@@ -25,8 +25,8 @@ use pool_model::Name;
 use sealed_draw::{draw, seal};
 use std::alloc::{AllocError, Global};
 
-/// Returns the outcome of sealing round `number`. It is refused if the round is open. A round that is sealed already gets the same reply,
-/// and no change.
+/// Returns the outcome of sealing round `number`. It is refused if the round is open. If the round is sealed already, the reply is the
+/// same, and nothing changes.
 pub fn seal_round(
     alloc: Global,
     tables: &Tables,
@@ -158,8 +158,9 @@ pub fn drop_member(
     drop_from(alloc, tables, number, round, id)
 }
 
-/// Returns the outcome of a dropout from `round`, which has this number. It is refused unless the round is drawn, with this member. A
-/// dropout that is known already gets the same reply. A new one is refused if a later round has begun.
+/// Returns the outcome of a dropout from `round`, which has this number. It is refused unless the round is drawn and its panel has this
+/// member. If the dropout is known already, the reply is the same, and nothing changes. A new dropout is refused if a later round has
+/// begun.
 fn drop_from(
     alloc: Global,
     tables: &Tables,

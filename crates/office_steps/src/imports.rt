@@ -16,8 +16,8 @@ use office_tables::{Change, Charter, Entry, Rules, Tables};
 use pool_model::{BoundedValue, Category, Name};
 use std::alloc::Global;
 
-/// Returns the outcome of an import of the charter. A charter that is kept already gets the reply `same`. A different charter is refused
-/// unless volunteers are enrolled.
+/// Returns the outcome of an import of the charter. For the charter that is kept already, the reply is `same`. A different charter is
+/// refused unless volunteers are enrolled, that is, round 1 is the last one and open.
 pub fn set_charter(
     alloc: Global,
     tables: &Tables,
@@ -49,8 +49,9 @@ fn is_charter_kept(kept: &Option<Charter>, charter: &Charter) -> bool
     }
 }
 
-/// Returns the outcome of an import of the rules. Rules that are kept already get the reply `same`. Others are refused unless volunteers
-/// are enrolled and the register's rows fit them.
+/// Returns the outcome of an import of the rules. For the rules that are kept already, the reply is `same`. Different rules are refused
+/// unless volunteers are enrolled, that is, round 1 is the last one and open. If the register has rows, they are also refused unless they
+/// differ from the kept rules in bounds alone.
 pub fn set_rules(
     alloc: Global,
     tables: &Tables,
@@ -73,7 +74,7 @@ pub fn set_rules(
     Ok((Some(change), line(alloc, b"rules", &[b"set"])?))
 }
 
-/// Returns the refusal of rows and rules that don't fit.
+/// Returns the refusal for rows and rules that don't fit each other.
 pub(crate) fn rules_differ(alloc: Global) -> OfficeStop
     ensures { Stops (Refuses (RowDiffers (codes "rules"))) result }
 {
@@ -93,7 +94,7 @@ fn are_rules_kept(kept: &Option<Rules>, rules: &Rules) -> bool
     }
 }
 
-/// True if the register has no row, or the kept rules have the same names in the same order.
+/// True if the register has no row, or if there are kept rules and `rules` differ from them in bounds alone.
 fn fit_rows(register: &[Entry], kept: &Option<Rules>, rules: &Rules) -> bool
     ensures { result ≡ rows_fit register.now kept.now rules.now }
 {

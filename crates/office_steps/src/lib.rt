@@ -1,6 +1,7 @@
 //! The outcome of each command of an office that needs neither the stated run nor a proof: imports, seals, draws, dropouts, next rounds,
 //! withdrawals and showing a round. Each outcome is a reply with at most one change of the tables, or a refusal. Stands on `office_tables`,
-//! whose values it decides over, `office_pools` and `sealed_draw`, and on the definitions of `define_offices`. `office_core` stands on it.
+//! `office_pools` and `sealed_draw`, and on the definitions of `define_offices`. `office_core`, `office_desk` and `command_stores` stand on
+//! it.
 //!
 //! Promises: each public function for a command returns exactly the outcome that `define_offices` defines, or that memory ran out.
 #![tactic(auto)]

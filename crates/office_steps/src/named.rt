@@ -1,4 +1,4 @@
-//! Rounds by their numbers, and the refusals that name them.
+//! The refusal for a number that no round has, the phase of the last round, and whether volunteers are enrolled.
 
 ghost use Rattle.std.specs.Prelude.{◌≡◌, length};
 ghost use Rattle.define_offices.specs.Commands as office;
@@ -8,7 +8,7 @@ ghost use Rattle.office_steps.specs.Replies.{seen_refusal};
 use crate::replies::Refusal;
 use office_tables::{Phase, Round, Tables};
 
-/// Returns the refusal of a number that no round has. It names the last round.
+/// Returns the refusal for a number that no round has. It names the last round.
 pub fn no_round(tables: &Tables) -> Refusal
     ensures { seen_refusal result ≡ office.NoRound (length tables.now.rounds) }
 {

@@ -19,7 +19,8 @@ use office_pools::round_named;
 use office_tables::{Change, Part, Phase, Round, Tables};
 use std::alloc::{AllocError, Global};
 
-/// Returns the outcome of beginning the round after round `after`. If that round is there already, it gets the same reply, and no change.
+/// Returns the outcome of beginning the round after round `after`. If that round has begun already, the reply is the same, and nothing
+/// changes.
 pub fn next_round(
     alloc: Global,
     tables: &Tables,

@@ -40,7 +40,7 @@ pub enum Refusal {
         /// The id of that row.
         id: Name,
     },
-    /// The register, with the rows that the import adds before, has no room for one more row.
+    /// The register is full, with the rows that the import adds before this one.
     RegisterFull {
         /// The most rows that a register has.
         rows: usize,

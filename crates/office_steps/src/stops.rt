@@ -1,9 +1,9 @@
-//! Why a command or a question has no answer.
+//! Why a command has no reply.
 
 use crate::replies::Refusal;
 use std::alloc::{AllocError, AllocFailed};
 
-/// Why a command has no reply, or a round no pool.
+/// Why a command has no reply.
 #[derive(Debug, Drop)]
 pub enum OfficeStop {
     /// A rule of the office refuses.

@@ -17,8 +17,9 @@ use pool_model::{Standing, Volunteer};
 use sealed_draw::seal;
 use std::alloc::{AllocError, Global};
 
-/// Returns the outcome of a withdrawal by the volunteer with this key. It is refused if no row has the key. A volunteer who withdrew
-/// already gets the same reply. Else it is refused if the last round isn't open, or if the volunteer is seated in it.
+/// Returns the outcome of a withdrawal by the volunteer with this key. It is refused if no row has the key. If the volunteer withdrew
+/// already, the reply is the same, and nothing changes. Else it is refused if the last round isn't open, or if the volunteer is seated in
+/// that round.
 pub fn withdraw(
     alloc: Global,
     tables: &Tables,

@@ -1,5 +1,5 @@
-//! Each command of an assembly is done over a keeper in memory and over a store. After each, a new keeper over the store's connection loads
-//! what the keeper in memory holds, and at the end so does one over the files closed and opened again.
+//! Does each command of an assembly over a keeper in memory and over a store. After each command, a new keeper over the store's connection
+//! must load what the keeper in memory holds. At the end the files are closed and opened again, and a keeper over them must load the same.
 
 use crate::assembly::{HOUSEHOLDS, PLAIN, Row, done};
 use crate::disks::{closed, loaded, nothing, opened, spelled};

@@ -57,7 +57,7 @@ const SEAL: &str = "41f145deb96e63082dd54ce2bcf3dea5bf3bb3cf4f2936371c318b2d1a43
 /// The SHA-256 digest of the bundle of `HOUSED` and `MORE`.
 const HOUSED_SEAL: &str = "2cb82b27c8b4c04f4a46a1fb8c5c4856a2486862f6e8e32bdddb6295cbdb3ab9";
 
-/// Four volunteers, with repeats and refusals.
+/// An assembly of four volunteers. Some of its commands are given twice, and some are refused.
 pub(crate) const PLAIN: &[Row] = &[
     (Asked::Solve(1), Ending::Refuses),
     (Asked::Register(FOUR), Ending::Refuses),
@@ -92,7 +92,7 @@ pub(crate) const PLAIN: &[Row] = &[
     (Asked::Show, Ending::Replies),
 ];
 
-/// Five volunteers, with a change of each kind. Two are of one household, and one withdraws.
+/// An assembly of five volunteers, whose commands make a change of each kind. Two volunteers are of one household, and one withdraws.
 pub(crate) const HOUSEHOLDS: &[Row] = &[
     (Asked::Rules, Ending::Replies),
     (Asked::Register(HOUSED), Ending::Replies),
@@ -106,7 +106,7 @@ pub(crate) const HOUSEHOLDS: &[Row] = &[
     (Asked::Next, Ending::Replies),
 ];
 
-/// Does a command over a keeper. Returns how it ends, or None if memory runs out.
+/// Does a command over a keeper. Returns how it ends, or None if the command can't be made, for want of memory.
 pub(crate) fn done<K: Keeper, R: Threads + Sync>(
     rt: &R,
     alloc: Global,

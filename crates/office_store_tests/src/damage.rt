@@ -1,5 +1,5 @@
-//! Stores that were changed by hand. What keeps the facts of tables is loaded. Of another store a call fails, counts one fault and changes
-//! nothing.
+//! Stores that were changed by hand. A store that still keeps the facts of tables is loaded. Over any other store a call fails, counts one
+//! fault and changes nothing.
 
 use crate::assembly::{HOUSEHOLDS, done};
 use crate::disks::{loaded, rows_of, spelled};
@@ -10,14 +10,14 @@ use std::alloc::Global;
 use std::process::Abort;
 use std::thread::Threads;
 
-/// How a store is taken.
+/// What a new keeper does with a store.
 #[derive(Clone, Copy, PartialEq, Eq)]
 enum Taken {
-    /// Its tables are loaded.
+    /// It is attached, and loads the tables.
     Loaded,
-    /// It is attached, and the load fails.
+    /// It is attached, and its `load` fails.
     Unsound,
-    /// It isn't attached.
+    /// Its `attach` fails.
     Refused,
 }
 
@@ -48,7 +48,7 @@ stage\t0\t-1\t1\t-1\t1\t0
 done
 ";
 
-/// The rows of a store after all commands of `HOUSEHOLDS`, but for round 1, which a new store has.
+/// The rows of a store after all commands of `HOUSEHOLDS`, except round 1, which a new store has already.
 const STORE: &str = "
 INSERT INTO charter VALUES (1, 'River', 2);
 INSERT INTO bound VALUES (0, 'gender', 0, 'female', 1, 1), (0, 'gender', 1, 'male', 1, 1);
@@ -63,7 +63,7 @@ INSERT INTO round VALUES (2, 0, x'', '');
 INSERT INTO dropped VALUES (1, 0, 'a');
 ";
 
-/// Changes by hand of `STORE` that leave the rows of tables.
+/// Changes of `STORE` by hand after which its rows are still those of tables.
 const SOUND: &[&str] = &[
     "UPDATE charter SET title = 'Lake'",
     "UPDATE bound SET upper = 2 WHERE value = 'male'",
@@ -77,7 +77,7 @@ const SOUND: &[&str] = &[
     "UPDATE round SET digits = '5' WHERE number = 1; UPDATE dropped SET id = 'b'",
 ];
 
-/// Changes that break a fact of tables, or the form of a table.
+/// Changes after which the rows make no tables: one has a number, place or text that it can't have, or they break a fact of tables.
 const UNSOUND: &[&str] = &[
     "UPDATE charter SET size = 0",
     "UPDATE charter SET size = 201",
@@ -126,7 +126,7 @@ const UNSOUND: &[&str] = &[
     "DELETE FROM dropped",
 ];
 
-/// Changes after which the version is another one, or none.
+/// Changes after which the table `meta` doesn't hold exactly one version that this program knows.
 const OTHER: &[&str] = &[
     "UPDATE meta SET version = 3",
     "UPDATE meta SET version = 0",
@@ -136,7 +136,7 @@ const OTHER: &[&str] = &[
     "DROP TABLE meta; CREATE TABLE meta (other INTEGER NOT NULL) STRICT; INSERT INTO meta VALUES (2)",
 ];
 
-/// Returns how a keeper that isn't attached takes its store.
+/// Attaches a keeper and loads its tables. Returns how that ended.
 fn outcome_of<S: Alter>(alloc: Global, keeper: &mut SqliteOver<S>) -> Taken {
     if keeper.attach(alloc, "").is_err() {
         return Taken::Refused;
@@ -147,7 +147,8 @@ fn outcome_of<S: Alter>(alloc: Global, keeper: &mut SqliteOver<S>) -> Taken {
     }
 }
 
-/// True if after the change by hand the store is taken as `wanted` says, a call that fails counts a fault, and the rows of the store stay.
+/// True if, after the change by hand, a new keeper does with the store what `wanted` says, a call that fails counts a fault, and the rows
+/// of the store stay the same.
 fn is_taken(alloc: Global, change: &str, wanted: Taken) -> Option<bool> {
     let mut connection = store(alloc)?;
     connection.execute_batch(change).ok()?;
@@ -160,7 +161,7 @@ fn is_taken(alloc: Global, change: &str, wanted: Taken) -> Option<bool> {
     Some(is_wanted && is_counted && before == after)
 }
 
-/// Returns a store in memory with the rows of `STORE`.
+/// Returns a store in memory with the rows of `STORE`, and with round 1 as drawn from `BUNDLE` by the digit 0.
 fn store(alloc: Global) -> Option<Connection<MemStore>> {
     let mut keeper = SqliteOver::new(Connection::open_in_memory(alloc).ok()?);
     keeper.attach(alloc, "").ok()?;
@@ -180,7 +181,7 @@ fn assembled<R: Threads + Sync>(rt: &R, alloc: Global) -> Option<String> {
     spelled(alloc, map.tables())
 }
 
-/// Makes each of these changes by itself, and asserts that the store is then taken as `wanted` says.
+/// Makes each of these changes by itself, and asserts that a new keeper then does with the store what `wanted` says.
 fn judge(rt: &impl Abort, alloc: Global, changes: &[&str], wanted: Taken) {
     for change in changes {
         assert!(rt; is_taken(alloc, change, wanted) == Some(true), "{change}");

@@ -5,7 +5,7 @@ use sqlite::{Alter, Connection, FileStore, Files, Options};
 use sqlite_disk::{Disk, Fuse, Memory};
 use std::alloc::Global;
 
-/// A store over files that pass a number of calls on, and then fail each one.
+/// A store over files in memory that do a given number of calls, and then fail each call.
 pub(crate) type Stored = FileStore<Fuse<Memory>>;
 
 /// The bytes of a store's files.
@@ -23,7 +23,7 @@ pub(crate) fn nothing(alloc: Global) -> Kept {
     }
 }
 
-/// Returns a file of these bytes that passes `calls` calls on.
+/// Returns a file of these bytes that does `calls` calls, and then fails each call.
 fn file(alloc: Global, bytes: &[u8], calls: u64) -> Option<Fuse<Memory>> {
     let mut memory = Memory::new(alloc);
     memory.write_at(0, bytes).ok()?;
@@ -31,7 +31,7 @@ fn file(alloc: Global, bytes: &[u8], calls: u64) -> Option<Fuse<Memory>> {
     Some(Fuse::new(memory, calls))
 }
 
-/// Returns the files of these bytes, each with the number of calls that it passes on.
+/// Returns the files of these bytes. The log does `log_calls` calls and the database `db_calls`, and then each call fails.
 pub(crate) fn files(
     alloc: Global,
     kept: &Kept,
@@ -59,7 +59,7 @@ pub(crate) fn opened(alloc: Global, kept: &Kept) -> Option<Connection<Stored>> {
     Connection::open_files(alloc, files, Options::new(7)).ok()
 }
 
-/// Closes a store.
+/// Closes a store. Returns the bytes of its files.
 pub(crate) fn closed(alloc: Global, connection: Connection<Stored>) -> Option<Kept> {
     let files = connection.close_files().ok()?;
     bytes_of(alloc, &files)
@@ -72,7 +72,7 @@ pub(crate) fn changed(alloc: Global, kept: &Kept, statements: &str) -> Option<Ke
     closed(alloc, connection)
 }
 
-/// What finds all that a store holds.
+/// Queries that find all that a store holds.
 const ALL: &[&str] = &[
     "SELECT name FROM sqlite_schema ORDER BY name",
     "SELECT * FROM meta",

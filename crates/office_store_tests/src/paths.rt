@@ -1,4 +1,4 @@
-//! A store in a file.
+//! Tests of a store in a file.
 
 use crate::assembly::{Asked, Ending, done};
 use crate::disks::loaded;

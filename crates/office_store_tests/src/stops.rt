@@ -1,5 +1,5 @@
 //! The machine stops at each call of a file: while a new store is made, while a change of each kind is stored, and while a store of version
-//! 1 is brought to version 2. Opened again, the store holds what it held before or after the step.
+//! 1 is brought to version 2. When the store is opened again, it must hold what it held before the step, or what it holds after it.
 
 use crate::assembly::{Asked, HOUSEHOLDS, command_of, done};
 use crate::disks::{
@@ -14,14 +14,14 @@ use std::alloc::Global;
 use std::process::Abort;
 use std::thread::Threads;
 
-/// How far a step comes: a store is opened and attached, and a change is stored if there is one.
+/// How far a step got. A step opens and attaches a store, and stores a change if there is one.
 #[derive(Clone, Copy, PartialEq, Eq)]
 enum Far {
     /// The files aren't opened.
     Nowhere,
-    /// They are opened, and the store isn't attached.
+    /// The files are opened, and the store isn't attached.
     Opened,
-    /// It is attached, and the change isn't stored.
+    /// The store is attached, and the change isn't stored.
     Attached,
     /// All is done.
     Done,
@@ -38,7 +38,7 @@ fn step<S: Alter>(alloc: Global, keeper: &mut SqliteOver<S>, change: &Option<Cha
     }
 }
 
-/// Does a step over a connection, and lets its files go where they are.
+/// Does a step over a connection. Returns how far it got, and the files as they are then.
 fn stepped(
     alloc: Global,
     connection: Connection<Stored>,
@@ -49,7 +49,7 @@ fn stepped(
     (far, keeper.into_connection().into_store().close())
 }
 
-/// Opens files and does a step. Returns how far it comes, and lets the files go where they are.
+/// Opens files and does a step. Returns how far it got, and the files as they are then.
 fn tried(
     alloc: Global,
     files: Files<Fuse<Memory>>,
@@ -66,8 +66,8 @@ fn tried(
     )
 }
 
-/// Does a step over files of which the log passes `log_calls` calls on and the other `db_calls`. Returns how far it comes, and the files as
-/// a stop of the machine leaves them.
+/// Does a step over files of which the log does `log_calls` calls and the database `db_calls`, before each call fails. Returns how far the
+/// step got, and the files as a stop of the machine leaves them.
 fn stopped(
     alloc: Global,
     kept: &Kept,
@@ -93,7 +93,8 @@ fn held(alloc: Global, kept: &Kept) -> Option<String> {
     rows
 }
 
-/// Stops a step at each call of the log, or of the database.
+/// Stops a step at each call of the log if `of_log` holds, else at each call of the database. Asserts that the store then holds what it
+/// held before the step, or what the whole step leaves; and that it holds the latter if the step was done.
 fn stop_at_each(
     rt: &impl Abort,
     alloc: Global,
@@ -122,7 +123,7 @@ fn stop_at_each(
     None
 }
 
-/// Stops a step everywhere. Returns the store after it.
+/// Stops a step at each call of the log, then at each call of the database. Returns the store that the step leaves if nothing stops it.
 fn stop(rt: &impl Abort, alloc: Global, kept: &Kept, change: &Option<Change>) -> Option<Kept> {
     stop_at_each(rt, alloc, kept, change, true)?;
     stop_at_each(rt, alloc, kept, change, false)?;
@@ -144,7 +145,7 @@ fn change_of<R: Threads + Sync>(
     change
 }
 
-/// Stops each step of an assembly: a new store, a change of each kind, and the step from version 1.
+/// Stops each step of an assembly: making a new store, storing a change of each kind, and bringing a store of version 1 to version 2.
 fn stop_all<R: Threads + Sync + Abort>(rt: &R, alloc: Global) -> Option<()> {
     let mut kept = stop(rt, alloc, &nothing(alloc), &None)?;
     let mut map = MapKeeper::new(alloc, &[]).ok()?;

@@ -1,4 +1,4 @@
--- What digits draw from a bundle, from the outcome of a draw.
+-- What digits draw from a bundle, as it follows from the outcome of a draw.
 use Rattle.std.proofs.Common.{◌≡◌, ℕ, zero, suc, true, ◌&&◌, List, [], ◌∷◌, length, get_or, map, ltb, is_ok, unsigned_abs, Result, Ok, Err, refl, ap, ◌∙◌}
 use Rattle.std.specs.List.{list_all}
 use Rattle.std.proofs.lemmas.Bool.{and_parts}

@@ -1,4 +1,4 @@
--- The facts of tables, from tests of their parts and back.
+-- The tests of the parts of tables hold exactly if the facts of tables do.
 use Rattle.std.proofs.Common.{◌≡◌, ◌↔◌, ℕ, zero, suc, Bool, true, ◌&&◌, leb, List, [], ◌∷◌, length, Option, Some, refl, subst}
 use Rattle.std.specs.List.{AllByRecursion, list_all}
 use Rattle.std.proofs.lemmas.Bool.{and_from, and_parts}

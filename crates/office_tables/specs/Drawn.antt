@@ -6,7 +6,7 @@ use Rattle.define_draws.specs.Dice.{name_ticket}
 use Rattle.define_offices.specs.Pools.{drawn_of}
 use Rattle.sealed_draw.specs.declared.drawn.Draw.{Draw}
 
--- the digits name a ticket, and `drawn` has this ticket, its panel, and how many digits were used; the panel's members are of the pool
+-- the digits name a ticket; `drawn` has this ticket, its panel, and how many digits were used; the panel's members are in the pool
 pub record Draws (bundle : Bundle) (digits : List ℕ) (drawn : Draw) : Type 0 where
   pub named : is_ok (name_ticket bundle.answer.lottery.total digits) ≡ true
   pub from : pos 0 ≤ℤ drawn.ticket

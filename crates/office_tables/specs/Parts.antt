@@ -5,7 +5,7 @@ use Rattle.define_offices.specs.declared.Phase.{Phase}
 use Rattle.define_offices.specs.declared.Phase.TheVariants as phase
 use Rattle.define_offices.specs.Tables.{Round, Open, Solved, Sealed, Drawn}
 
--- the round of these parts; an open round if the parts don't fit
+-- the round of these parts; an open round if the bundle is missing. Parts that a round of this phase doesn't have are ignored
 abbrev pub round_of : Phase → Option Bundle → List ℕ → List (List ℕ) → Round
 round_of phase.Open bundle digits dropped = Open
 round_of phase.Solved (Some bundle) digits dropped = Solved bundle

@@ -9,7 +9,7 @@ use Rattle.office_tables.specs.declared.tables.Parts.{Parts}
 abbrev pub seen_parts : Parts → Tables
 seen_parts parts = record { charter = parts.charter; rules = parts.rules; register = parts.register.items; rounds = parts.rounds.items }
 
--- what `tables_of` may return: the tables of these parts, or none exactly if they don't keep a fact, or at any time out of memory
+-- what `tables_of` may return: the tables of these parts if they keep all facts, else None; running out of memory is allowed at any time
 abbrev pub TellsTables : Tables → Result (Option Tables) AllocError → Type 0
 TellsTables parts (Ok (Some tables)) = (tables ≡ parts) × IsTables parts
 TellsTables parts (Ok None) = ¬ IsTables parts

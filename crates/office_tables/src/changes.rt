@@ -59,8 +59,8 @@ pub enum Change {
     },
 }
 
-/// Returns the tables after a change. The caller must know that they keep the facts of tables, which holds of each change that an office
-/// decides.
+/// Returns the tables after a change. The caller must know that the changed tables keep the facts of tables. They do after each change that
+/// an office decides.
 pub fn apply(alloc: Global, tables: &Tables, change: &Change) -> Result<Tables, AllocError>
     requires { IsTables (applied tables.now (seen_change change.now)) }
     ensures { IfOk result (λ changed. changed ≡ applied tables.now (seen_change change.now)) }

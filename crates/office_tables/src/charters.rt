@@ -103,7 +103,7 @@ impl Model for Rules {
 }
 
 impl Rules {
-    /// Returns the categories of a pool as rules, or None exactly if there is none, one has no value, or one is named `id` or `key`.
+    /// Returns the categories of a pool as rules, or None exactly if there is no category, or one has no value or is named `id` or `key`.
     pub fn of_pool(alloc: Global, pool: &Pool) -> Result<Option<Rules>, AllocError>
         ensures { IfOk result (λ rules. rules ≡ (if make_rules pool.now.categories then Some pool.now.categories else None)) }
     {
@@ -157,7 +157,7 @@ fn have_free_names(categories: &[Category]) -> bool
         .all(|category| !is_reserved(category.name().as_bytes()))
 }
 
-/// True for the names of the two columns that a register has beside its categories.
+/// True for `id` and `key`, the names of the two columns that a register has apart from its categories.
 fn is_reserved(name: &[u8]) -> bool
     ensures { result ≡ is_taken name.now }
 {

@@ -69,28 +69,28 @@ impl Round {
         })
     }
 
-    /// How far the round has come.
+    /// Returns the phase of the round.
     pub fn phase(&self) -> Phase
         ensures { result ≡ phase_of self.now }
     {
         self.phase
     }
 
-    /// The bundle that the round keeps, if it is past `Open`.
+    /// Returns the bundle of the round, or None if the round is open.
     pub fn bundle(&self) -> &Option<Bundle>
         ensures { result.now ≡ bundle_of self.now }
     {
         &self.bundle
     }
 
-    /// The digits of the dice; none before the round was drawn.
+    /// Returns the digits of the dice, or no digits if the round is not drawn yet.
     pub fn digits(&self) -> &[u8]
         ensures { result.now ≡ digits_of self.now }
     {
         &self.digits
     }
 
-    /// The ids of those who dropped out after the draw, in the order in which they did.
+    /// Returns the ids of those who dropped out after the draw, in the order in which they did.
     pub fn dropped(&self) -> &[Name]
         ensures { result.now ≡ dropped_of self.now }
     {

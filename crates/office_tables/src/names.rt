@@ -11,7 +11,7 @@ use std::alloc::{AllocError, Global};
 /// The most bytes that a key may have.
 const MAX_KEY_LEN: usize = 200;
 
-/// True if a name or id is allowed: 1 to 200 bytes, none below 32 and none 127.
+/// True if a name or id is allowed: 1 to 200 bytes, none of which is below 32 or is 127.
 pub(crate) fn is_name(name: &str) -> bool
     ensures { result ≡ is_allowed name.now }
 {

@@ -78,7 +78,7 @@ impl Entry {
         &self.household
     }
 
-    /// Whether the volunteer withdrew.
+    /// True if the volunteer withdrew.
     pub fn withdrawn(&self) -> bool
         ensures { result ≡ self.now.withdrawn }
     {

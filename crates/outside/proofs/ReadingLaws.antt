@@ -1,5 +1,5 @@
--- What a read of an object in memory does to its bytes: `items`, of which those before `at` were read. A slice of them is given as the
--- program has it, by a list `bytes` that is the same.
+-- What a read of an object in memory does to its bytes. The bytes are `items`, and those before `at` were read already. The program takes a
+-- slice of a list `bytes`, which equals `items`.
 use Rattle.std.proofs.Common.{◌≡◌, ℕ, ◌<◌, ◌-◌, ◌+◌, ◌++◌, List, [], ap, arith, drop, length, min, sym, take, ◌∙◌}
 use Rattle.std.proofs.lemmas.List.{drop-drop, drop_all, length-drop, take-append-drop, take_rest}
 

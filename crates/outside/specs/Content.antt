@@ -1,5 +1,5 @@
--- What calls do to the bytes of an object, if it can tell them: `Some` of the bytes, or `None`. The contracts of sources and sinks cite
--- it.
+-- What calls do to the bytes of an object: `Some` of the bytes if the object can tell them, else `None`. The contracts of sources and sinks
+-- cite it.
 use Rattle.std.specs.Prelude.{◌≡◌, ◌<◌, ℕ, List, [], length, Option, Some, None, take, ⊤}
 use Rattle.std.specs.Io.KnownBytes.{Appends, Consumes}
 

@@ -1,9 +1,10 @@
 -- A link is a source and a sink in one. A door gives links. This says what the calls of a door do to its links, and what a link and a door
--- in memory are. Over Memory. Their contracts cite it.
+-- in memory are. Builds on Memory. Their contracts cite it.
 use Rattle.std.specs.Prelude.{ℕ, ◌+◌, ◌<◌, ◌++◌, ◌∷◌, List, [], length, min, drop, Option, Some, None, IfSome, if◌then◌else◌}
+use Rattle.outside.specs.Faults.{raised}
 use Rattle.outside.specs.Memory.{Calls, SourceState, SinkState, after_call, after_put, after_read, next_fails, no_calls}
 
--- what a door tells: the links that are still to come, how many were given, and those that were given back, in this order
+-- what a door tells: the links that are still to come, how many were given, and those that were given back, in the order of their return
 pub record DoorLinks (L : Type 0) : Type 0 where
   pub coming : List L
   pub given : ℕ
@@ -18,46 +19,52 @@ abbrev pub first_of : {L : Type 0} → List L → Option L
 first_of [] = None
 first_of (link ∷ links) = Some link
 
--- the links after the first to come, if there is one, was given
+-- a door's links after `next` gave the first that is to come, if there is one
 abbrev pub after_next : {L : Type 0} → DoorLinks L → DoorLinks L
 after_next links = record links { coming = drop 1 links.coming; given = links.given + min 1 (length links.coming) }
 
--- the links after one was given back
+-- a door's links after one was given back
 abbrev pub after_back : {L : Type 0} → DoorLinks L → L → DoorLinks L
 after_back links link = record links { back = links.back ++ link ∷ [] }
 
--- a link that was given has not come back, if the door tells its links
+-- if the door tells its links, at least one that was given has not come back
 abbrev pub IsOneOut : {L : Type 0} → Option (DoorLinks L) → Type 0
 IsOneOut links = IfSome links (λ told. length told.back < told.given)
 
--- a link in memory: the bytes that are left, what was written, how many bytes it takes in all, and its calls, reads and puts together
+-- a link in memory: the bytes that are left, what was written, how many bytes it takes in all, how many reads were made, and its calls, of
+-- which reads and puts are counted together
 pub record LinkState : Type 0 where
   pub left : List ℕ
   pub written : List ℕ
   pub room : ℕ
+  pub reads : ℕ
   pub calls : Calls
 
--- its source
+-- a link as a source
 abbrev pub source_of : LinkState → SourceState
 source_of link = record { left = link.left; calls = link.calls }
 
--- its sink
+-- a link as a sink
 abbrev pub sink_of : LinkState → SinkState
 sink_of link = record { written = link.written; room = link.room; calls = link.calls }
 
--- nothing was read or written yet
+-- a link from which nothing was read yet, and to which nothing was written
 abbrev pub new_link : List ℕ → ℕ → List ℕ → LinkState
-new_link bytes room failing = record { left = bytes; written = []; room = room; calls = no_calls failing }
+new_link bytes room failing = record { left = bytes; written = []; room = room; reads = 0; calls = no_calls failing }
 
 -- the link after a read into a room of `size` bytes
 abbrev pub link_after_read : LinkState → ℕ → LinkState
-link_after_read link size = record link { left = (after_read (source_of link) size).left; calls = (after_read (source_of link) size).calls }
+link_after_read link size = record link {
+  left = (after_read (source_of link) size).left;
+  reads = raised link.reads;
+  calls = (after_read (source_of link) size).calls;
+}
 
 -- the link after a put of `piece`
 abbrev pub link_after_put : LinkState → List ℕ → LinkState
 link_after_put link piece = record link { written = (after_put (sink_of link) piece).written; calls = (after_put (sink_of link) piece).calls }
 
--- a door in memory: its links, the port at which it listens, if it does, and its calls, `listen` and `next` together
+-- a door in memory: its links, the port at which it listens, if it does, and its calls, of which `listen` and `next` are counted together
 pub record DoorState : Type 0 where
   pub links : DoorLinks LinkState
   pub port : Option ℕ

@@ -1,4 +1,4 @@
--- A source and a sink in memory, and what a call of each does. Over Faults. Their contracts cite it.
+-- A source and a sink in memory, and what a call of each does. Builds on Faults. Their contracts cite it.
 use Rattle.std.specs.Prelude.{ℕ, ◌+◌, ◌-◌, ◌==◌, ◌||◌, ◌++◌, Bool, List, length, take, drop, nat_lt, if◌then◌else◌}
 use Rattle.std.specs.List.{list_any}
 use Rattle.outside.specs.Faults.{raised}
@@ -17,7 +17,7 @@ no_calls failing = record { failing = failing; made = 0; faults = 0 }
 abbrev pub next_fails : Calls → Bool
 next_fails calls = list_any (λ number. number == raised calls.made) calls.failing
 
--- the calls after one more, which counted a fault if `is_fault` holds
+-- the calls after one more call, which counted a fault if `is_fault` holds
 abbrev pub after_call : Calls → Bool → Calls
 after_call calls is_fault = record calls { made = raised calls.made; faults = if is_fault then raised calls.faults else calls.faults }
 

@@ -1,4 +1,5 @@
-//! Counts the calls of an object in memory, and says which of them fail. The source, the sink and the keeper in memory have one.
+//! A plan that counts the calls of an object in memory and says which of them fail. Each source, sink, link, door and keeper in memory has
+//! one.
 ghost use Rattle.std.specs.Prelude.{◌≡◌, ◌≤◌, IfOk};
 ghost use Rattle.outside.specs.Memory.{no_calls, next_fails, after_call};
 

@@ -27,8 +27,8 @@ pub trait Door {
         ensures cause { OnErr result (Rose (faults self.old) (faults self.new)) }
         ensures none { OnOk result (faults self.new ≡ faults self.old) };
 
-    /// Gives the first link that is to come, or `None` only if none is. A call that fails gives no link and counts a fault; no other
-    /// call counts one.
+    /// Gives the first link that is to come, or `None` only if no link is to come. A call that fails gives no link and counts a fault; no
+    /// other call counts one.
     fn next(&mut self) -> Result<Option<Self::Link>, Failed>
         ensures first { IfOk result (λ link. IfSome (links self.old) (λ told. link ≡ first_of told.coming)) }
         ensures given { OnOk result (links self.new ≡ option_map after_next (links self.old)) }

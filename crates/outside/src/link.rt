@@ -3,7 +3,7 @@ ghost use Rattle.std.specs.Prelude.{◌≡◌, ◌≤◌, List, ℕ, OnErr, OnOk
 ghost use Rattle.std.specs.Io.{ReadsAtMost};
 ghost use Rattle.std.specs.Io.KnownBytes.{Appends, ReadConsumes};
 ghost use Rattle.outside.specs.Content.{AppendsPart};
-ghost use Rattle.outside.specs.Faults.{Rose};
+ghost use Rattle.outside.specs.Faults.{Rose, raised};
 
 use crate::Failed;
 
@@ -18,6 +18,9 @@ pub trait Link {
     /// How many faults the link has counted.
     ghost faults: { Self → ℕ };
 
+    /// How many reads the link has counted. The count stays at 2^64 - 1 once it is there.
+    ghost reads: { Self → ℕ };
+
     /// Moves bytes from the front of what is left to the front of `room`, and returns how many. If `room` isn't empty, it returns 0
     /// only if nothing is left. A call that fails moves nothing and counts a fault; no other call counts one.
     fn read(&mut self, room: &mut [u8]) -> Result<usize, Failed>
@@ -26,7 +29,8 @@ pub trait Link {
         ensures same { written self.new ≡ written self.old }
         ensures never_falls { faults self.old ≤ faults self.new }
         ensures cause { OnErr result (Rose (faults self.old) (faults self.new)) }
-        ensures none { OnOk result (faults self.new ≡ faults self.old) };
+        ensures none { OnOk result (faults self.new ≡ faults self.old) }
+        ensures one { reads self.new ≡ raised (reads self.old) };
 
     /// Appends the piece. `Ok`: all of it was appended, and no fault is counted. `Failed`: none, some or all of it was, and a fault
     /// is counted.
@@ -36,5 +40,6 @@ pub trait Link {
         ensures same { left self.new ≡ left self.old }
         ensures never_falls { faults self.old ≤ faults self.new }
         ensures cause { OnErr result (Rose (faults self.old) (faults self.new)) }
-        ensures none { OnOk result (faults self.new ≡ faults self.old) };
+        ensures none { OnOk result (faults self.new ≡ faults self.old) }
+        ensures no_read { reads self.new ≡ reads self.old };
 }

@@ -11,7 +11,7 @@ use std::collections::VecDeque;
 use std::marker::Model;
 
 /// Links in memory, with a list of the calls that are to fail. Contracts speak of the links that are still to come, of how many were given,
-/// of those that were given back, and of the port. The room for those that are given back is taken when the door is made.
+/// of those that were given back, and of the port. The memory for those that are given back is allocated when the door is made.
 #[derive(Drop)]
 pub struct MemDoor {
     coming: VecDeque<MemLink>,
@@ -67,7 +67,7 @@ impl MemDoor {
         self.coming.len()
     }
 
-    /// Returns the links that were given back, in this order.
+    /// Returns the links that were given back, in the order of their return.
     pub fn given_back(&self) -> &[MemLink]
         ensures { result.now ≡ self.now.links.back }
     {

@@ -3,7 +3,7 @@ ghost use Rattle.std.specs.Prelude.{◌≡◌, ◌≤◌, ◌++◌, length, min,
 ghost use Rattle.std.specs.Io.{ReadsAtMost};
 ghost use Rattle.std.specs.Io.KnownBytes.{Appends, ReadConsumes};
 ghost use Rattle.outside.specs.Content.{AppendsPart};
-ghost use Rattle.outside.specs.Faults.{Rose};
+ghost use Rattle.outside.specs.Faults.{Rose, raised};
 ghost use Rattle.outside.specs.Memory.{next_fails, put_fails};
 ghost use Rattle.outside.specs.Links.{link_after_put, link_after_read, new_link, sink_of};
 
@@ -14,14 +14,15 @@ use crate::{Failed, Link};
 use std::alloc::{AllocError, Global};
 use std::marker::Model;
 
-/// Bytes and room in memory, with a list of the calls that are to fail. Contracts speak of the bytes that are left and of those that were
-/// written.
+/// Bytes to read and room for bytes to write, in memory, with a list of the calls that are to fail. Contracts speak of the bytes that are
+/// left and of those that were written.
 #[derive(Drop)]
 pub struct MemLink {
     bytes: Vec<u8>,
     at: usize,
     written: Vec<u8>,
     room: usize,
+    reads: u64,
     calls: CallPlan,
 }
 
@@ -35,6 +36,7 @@ impl Model for MemLink {
       left = drop l.at l.bytes.items;
       written = l.written.items;
       room = l.room;
+      reads = l.reads;
       calls = l.calls;
     } };
 
@@ -58,6 +60,7 @@ impl MemLink {
             at: 0,
             written: Vec::with_capacity(alloc, room)?,
             room,
+            reads: 0,
             calls: CallPlan::new(alloc, failing)?,
         })
     }
@@ -91,6 +94,8 @@ impl Link for MemLink {
 
     ghost faults = { λ l. l.calls.faults };
 
+    ghost reads = { λ l. l.reads };
+
     fn read(&mut self, room: &mut [u8]) -> Result<usize, Failed>
         ensures fits { ReadsAtMost result room.new }
         ensures given { ReadConsumes (Some self.old.left) (Some self.new.left) result room.new }
@@ -98,6 +103,7 @@ impl Link for MemLink {
         ensures never_falls { self.old.calls.faults ≤ self.new.calls.faults }
         ensures cause { OnErr result (Rose self.old.calls.faults self.new.calls.faults) }
         ensures none { OnOk result (self.new.calls.faults ≡ self.old.calls.faults) }
+        ensures one { self.new.reads ≡ raised self.old.reads }
 
         // What a read does, exactly.
         ensures failed { is_err result ≡ next_fails self.old.calls }
@@ -106,6 +112,7 @@ impl Link for MemLink {
         ensures untouched { OnErr result (room.new ≡ room.old) }
         ensures state { self.new ≡ link_after_read self.old (length room.old) }
     {
+        self.reads = self.reads.saturating_add(1);
         let is_fault = self.calls.next_fails();
         self.calls.count(is_fault);
         if is_fault {
@@ -124,6 +131,7 @@ impl Link for MemLink {
         ensures never_falls { self.old.calls.faults ≤ self.new.calls.faults }
         ensures cause { OnErr result (Rose self.old.calls.faults self.new.calls.faults) }
         ensures none { OnOk result (self.new.calls.faults ≡ self.old.calls.faults) }
+        ensures no_read { self.new.reads ≡ self.old.reads }
 
         // What a put does, exactly.
         ensures failed { is_err result ≡ put_fails (sink_of self.old) piece.now }

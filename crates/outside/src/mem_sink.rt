@@ -10,7 +10,7 @@ use crate::{Failed, Sink};
 use std::alloc::{AllocError, Global};
 use std::marker::Model;
 
-/// Room in memory, with a list of the calls that are to fail. Contracts speak of the bytes that were written.
+/// Room for bytes in memory, with a list of the calls that are to fail. Contracts speak of the bytes that were written.
 #[derive(Drop)]
 pub struct MemSink {
     written: Vec<u8>,

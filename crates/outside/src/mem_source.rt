@@ -2,7 +2,7 @@
 ghost use Rattle.std.specs.Prelude.{◌≡◌, ◌+◌, ◌<◌, ◌≤◌, ◌++◌, [], length, min, take, drop, is_err, Some, IfOk, OnErr, OnOk};
 ghost use Rattle.std.specs.Io.{ReadsAtMost};
 ghost use Rattle.std.specs.Io.KnownBytes.{ReadConsumes};
-ghost use Rattle.outside.specs.Faults.{Rose};
+ghost use Rattle.outside.specs.Faults.{Rose, raised};
 ghost use Rattle.outside.specs.Memory.{no_calls, next_fails, after_read};
 
 use crate::calls::CallPlan;
@@ -62,12 +62,15 @@ impl Source for MemSource {
 
     ghost faults = { λ s. s.calls.faults };
 
+    ghost reads = { λ s. s.calls.made };
+
     fn read(&mut self, room: &mut [u8]) -> Result<usize, Failed>
         ensures fits { ReadsAtMost result room.new }
         ensures given { ReadConsumes (Some self.old.left) (Some self.new.left) result room.new }
         ensures never_falls { self.old.calls.faults ≤ self.new.calls.faults }
         ensures cause { OnErr result (Rose self.old.calls.faults self.new.calls.faults) }
         ensures none { OnOk result (self.new.calls.faults ≡ self.old.calls.faults) }
+        ensures one { self.new.calls.made ≡ raised self.old.calls.made }
 
         // What a read does, exactly.
         ensures failed { is_err result ≡ next_fails self.old.calls }

@@ -24,8 +24,8 @@ pub enum ReadStop {
 // The most bytes that one read takes.
 const ROOM: usize = 4096;
 
-/// Returns all bytes that are left, or `TooLong` if they are more than `limit`. Each turn but the last takes at least one byte, so there
-/// are at most `limit + 2` turns, as the loop's bound shows.
+/// Returns all bytes that are left, or `TooLong` if they are more than `limit`. Each read but the last takes at least one byte, so there
+/// are at most `limit + 2` reads.
 pub fn read_all<S: Source>(alloc: Global, source: &mut S, limit: usize) -> Result<Vec<u8>, ReadStop>
     requires { limit + 2 < 2 ^ 64 }
     ensures all { IfOk result
@@ -42,6 +42,7 @@ pub fn read_all<S: Source>(alloc: Global, source: &mut S, limit: usize) -> Resul
     ensures front { LosesFront (S.left source.old) (S.left source.new) }
     ensures none { result ≢ Err ReadStop.Fault → S.faults source.new ≡ S.faults source.old }
     ensures never_falls { S.faults source.old ≤ S.faults source.new }
+    ensures reads { S.reads source.new ≤ S.reads source.old + (limit + 2) }
 {
     let mut bytes = Vec::new(alloc);
     let mut room = [0u8; ROOM];

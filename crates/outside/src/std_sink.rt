@@ -7,8 +7,8 @@ ghost use Rattle.outside.specs.Faults.{Rose, raised};
 use crate::{Failed, Sink};
 use std::io::Write;
 
-/// Any writer of std. Contracts speak of the bytes that were written if those of the writer do. Each error of the writer is a fault, also
-/// an interrupted call, and so is a write that takes nothing. No failed write is tried again.
+/// Any writer of std. Contracts speak of the bytes that were written if the contracts of the writer do. Each error of the writer is a
+/// fault, also an interrupted call, and so is a write that takes nothing. No failed write is tried again.
 #[derive(Drop)]
 pub struct StdSink<W: Write> {
     inner: W,

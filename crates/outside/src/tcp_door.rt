@@ -14,14 +14,15 @@ const ADDRESS: &str = "127.0.0.1";
 /// How long a read or a put of a link waits for the client, in seconds, before it fails.
 const PATIENCE: u64 = 10;
 
-/// How long `back` waits for the client to close its end, in milliseconds.
+/// How long each read of `back` waits for the client to close its end, in milliseconds.
 const LINGERING: u64 = 500;
 
-/// How often `back` reads at most what the client still sends, a few thousand bytes at a time.
+/// The most reads by which `back` takes what the client still sends. Each takes at most 4,096 bytes.
 const LAST_READS: usize = 64;
 
-/// A port of this machine. It tells no links: contracts speak of its port and of its count of faults alone. Each error of the system is a fault, and so is
-/// a `next` before the door listens. `next` waits for a connection, and never returns `None`. `back` closes the connection.
+/// A port of this machine. It tells no links: contracts speak of its port and of its count of faults alone. A `listen` or a `next` that the
+/// system refuses is a fault, and so is a `next` before the door listens. `next` waits for a connection, and never returns `None`. `back`
+/// closes the connection, and counts no fault.
 ///
 /// A read or a put of a link fails if the client lets it wait for 10 seconds.
 #[derive(Drop)]
@@ -138,8 +139,8 @@ impl<R: Net + Drop> Door for TcpDoor<R> {
     }
 }
 
-/// Closes a connection. What the client has sent and nobody read is read first: otherwise the system would reset the connection, and the
-/// client could lose what was written to it.
+/// Closes a connection. First reads what the client has sent and nobody has read: otherwise the system would reset the connection, and the
+/// client could lose the answer that was written to it.
 fn close<S: Read + OpenStream + Drop>(mut stream: S) {
     let lingering = Some(Duration::from_millis(LINGERING));
     if stream.shutdown(Shutdown::Write).is_err() || stream.set_read_timeout(lingering).is_err() {

@@ -15,6 +15,7 @@ use std::io::{Read, Write};
 pub struct TcpLink<S: Read + Write + Drop> {
     stream: S,
     faults: u64,
+    reads: u64,
 }
 
 impl<S: Read + Write + Drop> TcpLink<S> {
@@ -22,7 +23,11 @@ impl<S: Read + Write + Drop> TcpLink<S> {
     pub fn new(stream: S) -> TcpLink<S>
         ensures { ⟦<TcpLink<S> as Link>⟧.faults result ≡ 0 }
     {
-        TcpLink { stream, faults: 0 }
+        TcpLink {
+            stream,
+            faults: 0,
+            reads: 0,
+        }
     }
 
     /// Returns the stream.
@@ -45,6 +50,8 @@ impl<S: Read + Write + Drop> Link for TcpLink<S> {
 
     ghost faults = { λ l. l.faults };
 
+    ghost reads = { λ l. l.reads };
+
     fn read(&mut self, room: &mut [u8]) -> Result<usize, Failed>
         ensures fits { ReadsAtMost result room.new }
         ensures given { ReadConsumes (⟦<TcpLink<S> as Link>⟧.left self.old)
@@ -57,12 +64,15 @@ impl<S: Read + Write + Drop> Link for TcpLink<S> {
             (⟦<TcpLink<S> as Link>⟧.faults self.new)) }
         ensures none { OnOk result (⟦<TcpLink<S> as Link>⟧.faults self.new
             ≡ ⟦<TcpLink<S> as Link>⟧.faults self.old) }
+        ensures one { ⟦<TcpLink<S> as Link>⟧.reads self.new
+            ≡ raised (⟦<TcpLink<S> as Link>⟧.reads self.old) }
 
         // Each error counts one fault, and nothing else does.
         ensures counted { ⟦<TcpLink<S> as Link>⟧.faults self.new
             ≡ (if is_err result then raised (⟦<TcpLink<S> as Link>⟧.faults self.old)
             else ⟦<TcpLink<S> as Link>⟧.faults self.old) }
     {
+        self.reads = self.reads.saturating_add(1);
         match self.stream.read(room) {
             Ok(count) => Ok(count),
             Err(_) => {
@@ -85,6 +95,8 @@ impl<S: Read + Write + Drop> Link for TcpLink<S> {
             (⟦<TcpLink<S> as Link>⟧.faults self.new)) }
         ensures none { OnOk result (⟦<TcpLink<S> as Link>⟧.faults self.new
             ≡ ⟦<TcpLink<S> as Link>⟧.faults self.old) }
+        ensures no_read { ⟦<TcpLink<S> as Link>⟧.reads self.new
+            ≡ ⟦<TcpLink<S> as Link>⟧.reads self.old }
 
         // Each put that fails counts one fault, and no other put does.
         ensures counted { ⟦<TcpLink<S> as Link>⟧.faults self.new

@@ -202,8 +202,8 @@ parent_stands all closed row depth count rest before child after stands below e 
       closed_rows = subst (WeighEach all closed (take depth after.counts.items)) (sym i) (each_back all closed front_before _ _ count _ e front below.closed_rows);
     }
 
--- if a child is reachable, and its optimistic weight is at least the right side in each closed row and above the floor in `row`, searching
--- it is entering it
+-- if a child is reachable, and its optimistic weight is at least the right side in each closed row and above the floor in `row`, to search
+-- the child is to enter it
 pub child_due : (all : Classes) (closed : List Row) (row : Row) (later : List Class) (child : List ℕ) (now : Pricing) → is_reachable all child ≡ true →
     (list_all (λ r. int_le r.b (optimistic all r child)) closed && int_lt now.floor (optimistic all row child)) ≡ true → child_best all closed row later child now ≡ enter_best all closed row later child now
 child_due all closed row later child now live weighs =
@@ -212,7 +212,7 @@ child_due all closed row later child now live weighs =
     (and_from (is_reachable all child) (list_all (λ r. int_le r.b (optimistic all r child)) closed) live parts.0) parts.1 in
     ap (λ b. cond b (enter_best all closed row later child now) now) above
 
--- ---- the rows
+-- ---- rows whose weights fit 128 bits
 
 pub each_narrow : (all : Classes) (rows : List Row) → HaveEntries all rows → HaveReach all rows → EachNarrow all rows
 each_narrow all [] h k i row e = cc

@@ -28,7 +28,7 @@ use Rattle.laws_of_fronts.proofs.Fronts.{class_limits}
 use Rattle.panel_search.proofs.Ranges.{LiveBetween, below_next, below_none, live_counts}
 use Rattle.laws_of_fronts.proofs.Tracking.{comes_next, stands_there}
 
--- ---- how many classes
+-- ---- how many classes the front of a piece has
 
 lists_next : (all : Classes) (depth : ℕ) (class : Class) → Stands all depth class → lists_of (take (depth + 1) all.classes) ≡ lists_of (take depth all.classes) * (class.most - class.least + 1)
 lists_next all depth class stands =
@@ -40,8 +40,8 @@ lists_next all depth class stands =
     taken (y ∷ ys) zero x l e = ap (λ (z : Class). z ∷ []) (sym e)
     taken (y ∷ ys) (suc n) x l e = let same : suc n + 1 ≡ suc (n + 1) = omega arith in rw same (ap (λ (zs : List Class). y ∷ zs) (taken ys n x (omega arith) e))
 
--- the first `depth + 1` classes have `next` lists of counts, at most 30000; the first `k` classes, for each `k` up to `depth`, have fewer
--- than 64
+-- if the first `k` classes have fewer than 64 lists of counts, for each `k` up to `depth`, then the first `depth + 1` classes have `next`
+-- lists, at most 30000
 pub few_next : (all : Classes) (depth lists next : ℕ) (class : Class) → KeepsLimits all → Stands all depth class → lists ≡ lists_of (take depth all.classes) → lists < 64 → ((k : ℕ) → k < depth → lists_of (take k all.classes) < 64) →
     next ≡ lists * (class.most - class.least + 1) →
     (next ≡ lists_of (take (depth + 1) all.classes)) × (next ≤ 30000) × ((k : ℕ) → k < depth + 1 → lists_of (take k all.classes) < 64)
@@ -119,7 +119,7 @@ among_all all closed row front class low end stands order live =
     ap (live_among all closed row row.b front) (sym (live_counts all front class low end order live.inside live.outside))
     ∙ sym (ap (live_among all closed row row.b front) (ap counts_first (comes_next all (length front) class stands)) ∙ passed_over all closed row row.b front (counts_of class))
 
--- ---- from front to front
+-- ---- from the live fronts of `depth` classes to those of one class more
 
 abbrev pub firsts : Classes → List Class
 firsts all = take (piece_depth all) all.classes
@@ -128,7 +128,7 @@ firsts all = take (piece_depth all) all.classes
 abbrev pub below_each : Classes → List Row → Row → ℕ → List (List ℕ) → Pieces
 below_each all closed row depth fronts = together (map (λ front. pieces_below all closed row (drop depth (firsts all)) front) fronts)
 
--- the pieces are those below `here`, which are live fronts of `depth` classes; and `so_far` fronts were entered before
+-- the pieces are those below `here`, which are live fronts of `depth` classes, and `so_far` visits were made before
 pub record GoesOn (all : Classes) (closed : List Row) (row : Row) (depth so_far : ℕ) (here : List (List ℕ)) : Type 0 where
   pub live : AllByRecursion (IsLiveFront all closed row depth) here
   pub visits : (pieces all closed row).visits ≡ so_far + (below_each all closed row depth here).visits
@@ -180,7 +180,7 @@ enter_each all closed row class later (front ∷ fronts) h =
           ∙ ap (λ zs. (together (map below (live_children all closed row front))).fronts ++ zs) rest.1 ∙ sym split.1,
     )
 
--- if `depth` is below the number of classes of a piece's front, these classes from place `depth` on are `class` and those from `depth + 1`
+-- if a piece's front has more than `depth` classes, its classes from place `depth` on are `class`, followed by those from place `depth + 1`
 -- on
 pub firsts_from : (all : Classes) (depth : ℕ) (class : Class) → Stands all depth class → depth < piece_depth all → drop depth (firsts all) ≡ class ∷ drop (depth + 1) (firsts all)
 firsts_from all depth class stands below =
@@ -245,7 +245,8 @@ goes_next all closed row depth visits more class fronts next limits stands below
         (subst (λ counts. AllByRecursion (IsLiveFront all closed row (depth + 1)) (live_among all closed row row.b front counts)) (sym k.0) (children_live all closed row depth class front limits stands h.0))
         (each_child fronts h.1 k.1)
 
--- if `visits` and one visit to each of `fronts` exceed the budget, the visits of the whole division exceed it
+-- if the pieces are those below `fronts` after `visits` visits, and `visits` and one visit to each of `fronts` exceed the budget, the
+-- visits of the whole division exceed it
 pub goes_too_far : (all : Classes) (closed : List Row) (row : Row) (depth visits nodes : ℕ) (class : Class) (fronts : List (List ℕ)) → Stands all depth class → depth < piece_depth all → GoesOn all closed row depth visits fronts →
     nodes < visits + length fronts → nodes < (pieces all closed row).visits
 goes_too_far all closed row depth visits nodes class fronts stands below goes l =
@@ -259,7 +260,8 @@ goes_too_far all closed row depth visits nodes class fronts stands below goes l 
     each_count [] h = tt
     each_count (front ∷ fronts) h = (ap (λ n. counts_first (drop n all.classes)) h.0.long ∙ ap counts_first (comes_next all depth class stands), each_count fronts h.1)
 
--- if `fronts` are as long as a piece's front, they are the fronts of the pieces, and no more visits are made
+-- if the pieces are those below `fronts` after `visits` visits, and `fronts` are as long as a piece's front, they are the fronts of the
+-- pieces, and no more visits are made
 pub goes_last : (all : Classes) (closed : List Row) (row : Row) (depth visits : ℕ) (fronts : List (List ℕ)) → depth ≡ piece_depth all → GoesOn all closed row depth visits fronts → ((pieces all closed row).visits ≡ visits) × ((pieces all closed row).fronts ≡ fronts)
 goes_last all closed row depth visits fronts e goes =
     let none : drop depth (firsts all) ≡ [] = ap (λ n. drop n (firsts all)) (e ∙ sym (length-take-le (piece_depth all) all.classes (depth_within all))) ∙ dropped (firsts all) in

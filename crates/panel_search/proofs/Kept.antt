@@ -1,4 +1,4 @@
--- The closed rows of a pricer and their greatest sums, and what follows for the answers of a search.
+-- Laws on the closed rows of a pricer and their greatest sums, and on what a search kept and answers.
 use Rattle.std.proofs.Common.{◌≡◌, ℕ, zero, suc, ◌^◌, ◌<◌, ◌≤◌, List, [], ◌∷◌, ◌++◌, length, map, Option, Some, Result, Ok, Err, sym, ap, ◌∙◌, arith, subst, length-append, ⊎_elim}
 use Rattle.std.specs.Prelude.{slice_get, slice_index, IfOk, Vec, vec_items}
 use Rattle.std.specs.declared.alloc.Global.{Global}

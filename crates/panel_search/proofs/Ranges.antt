@@ -1,4 +1,4 @@
--- The counts of the next class with which a front is reachable are one range.
+-- The counts of the next class that make reachable children of a front are one range.
 use Rattle.std.proofs.Common.{◌≡◌, ℕ, zero, suc, ◌+◌, ◌-◌, ◌≤◌, ◌<◌, max, min, Bool, true, false, cond, eqb, leb, ltb, ◌&&◌, List, [], ◌∷◌, ◌++◌, length, drop, filter, Option, Some, refl, sym, ap, ◌∙◌, arith, subst}
 use Rattle.std.specs.Prelude.{slice_get, slice_index, slice_index_or}
 use Rattle.std.specs.List.{All}
@@ -19,7 +19,7 @@ use Rattle.panel_search.specs.declared.tally.Tally.{Tally}
 use Rattle.laws_of_fronts.proofs.Households.{child_households}
 use Rattle.laws_of_fronts.proofs.Liveness.{size_of_child, values_of_child, reach_of_child}
 
--- ---- the values
+-- ---- the counts that keep the values within reach
 
 -- with `count` more members, the value in each of the first `done` categories can still meet its bounds
 abbrev pub ReachTo : List (List Bounds) → List ℕ → List ℕ → List ℕ → ℕ → ℕ → Type 0
@@ -31,8 +31,8 @@ pub record IsRange (bounds : List (List Bounds)) (held later values : List ℕ) 
   pub inside : (count : ℕ) → low ≤ count → count < end → (from ≤ count) × (count < until) × ReachTo bounds held later values done count
   pub outside : (count : ℕ) → from ≤ count → count < until → ReachTo bounds held later values done count → (low ≤ count) × (count < end)
 
--- if `low'..end'` are the counts of `low..end` that keep the value of the next category within reach, they are the range for `done + 1`
--- categories
+-- if `low..end` is the range for `done` categories, and `low'..end'` are its counts that keep the value of the next category within reach,
+-- then `low'..end'` is the range for `done + 1` categories
 pub range_next : (bounds : List (List Bounds)) (held later values : List ℕ) (from until done low end low' end' : ℕ) (bound : Bounds) → IsRange bounds held later values from until done low end →
     HasBound bounds done (slice_index values done) bound →
     ((count : ℕ) → low' ≤ count → count < end' → (low ≤ count) × (count < end) × (reaches bound held later count done (slice_index values done) ≡ true)) →
@@ -85,7 +85,7 @@ small_bounds all limits c v bound below has =
     let is = get_or_from_slice_get values v bound bound has in
     omega (arith, one.1, ap (λ (bound : Bounds). bound.upper) is)
 
--- ---- the child
+-- ---- when the child with `count` of the class is reachable
 
 -- with `count` of the class, the size and the bounds of its values can still be met, and its household has at most one member
 pub record Reached (all : Classes) (class : Class) (count : ℕ) (tally : Tally) : Type 0 where
@@ -147,7 +147,7 @@ down_below least (suc more) =
     ap (λ xs. (least + suc more) ∷ xs) (down_below least more ∙ ap (counts_below least) (sym next))
     ∙ sym (below_next least (least + suc more + 1) (omega arith) ∙ ap (λ n. n ∷ counts_below least n) last)
 
--- if of the counts in `from..until` exactly those in `low..end` pass a test, they are what a filter leaves
+-- if exactly those counts of `from..until` pass a test that are in `low..end`, a filter by the test leaves these, the greatest first
 passing : (passes : ℕ → Bool) (from until low end : ℕ) → ((c : ℕ) → low ≤ c → c < end → (from ≤ c) × (c < until) × (passes c ≡ true)) → ((c : ℕ) → from ≤ c → c < until → passes c ≡ true → (low ≤ c) × (c < end)) →
     filter passes (counts_below from until) ≡ counts_below low end
 passing passes from zero low end inside outside = sym (below_none low end (empty (ltb low end) refl))

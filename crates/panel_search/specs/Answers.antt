@@ -1,5 +1,5 @@
--- What a search under a budget of visits answers. Over `Visits` of `define_searches` and `Waves` of `define_waves`. The contracts of the
--- public calls cite it.
+-- What a search under a budget of visits answers. Builds on `Visits` of `define_searches` and `Waves` of `define_waves`. The contracts of
+-- the public calls cite it.
 use Rattle.std.specs.Prelude.{◌≡◌, ◌≤◌, ◌<◌, ℕ, ℤ, List, Option, Some, None, Result, Ok, Err, Vec, vec_items}
 use Rattle.std.specs.declared.alloc.Global.{Global}
 use Rattle.define_searches.specs.Visits.{Search, Pricing}
@@ -14,8 +14,8 @@ Answers search nodes (Ok found) = (search.visits ≤ nodes) × (found ≡ search
 Answers search nodes (Err Spent) = nodes < search.visits
 Answers search nodes (Err OutOfMemory) = Unit {0}
 
--- what a search for the best composition answers if its memory is there already: what it kept and its visits if these are at most `nodes`,
--- else that the budget is spent
+-- what a search for the best composition answers if its memory is allocated already: what it kept and its visits if these are at most
+-- `nodes`, else that the budget is spent
 abbrev pub AnswersBestWithin : Pricing → ℕ → Result (Option (List ℕ) × ℕ) BudgetSpent → Type 0
 AnswersBestWithin pricing nodes (Ok (found, visits)) = (pricing.visits ≤ nodes) × (found ≡ pricing.kept) × (visits ≡ pricing.visits)
 AnswersBestWithin pricing nodes (Err spent) = nodes < pricing.visits
@@ -39,8 +39,8 @@ abbrev pub IsKept : Pricing → Option (List ℕ × ℤ) → Type 0
 IsKept pricing None = pricing.kept ≡ None
 IsKept pricing (Some (counts, weight)) = (pricing.kept ≡ Some counts) × (weight ≡ pricing.floor)
 
--- what a search answers if its memory is there already: what it kept, with its weight, and its visits if these are at most `nodes`, else
--- that the budget is spent
+-- what a search answers if its memory is allocated already: what it kept, with its weight, and its visits if these are at most `nodes`,
+-- else that the budget is spent
 abbrev pub AnswersWeighedWithin : Pricing → ℕ → Result (Option (List ℕ × ℤ) × ℕ) BudgetSpent → Type 0
 AnswersWeighedWithin pricing nodes (Ok (found, visits)) = (pricing.visits ≤ nodes) × IsKept pricing found × (visits ≡ pricing.visits)
 AnswersWeighedWithin pricing nodes (Err spent) = nodes < pricing.visits

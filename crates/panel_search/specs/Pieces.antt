@@ -1,4 +1,4 @@
--- The pieces of a search, as they are made class by class. For `dividing`.
+-- The pieces of a search, as they are made class by class. The contracts of `dividing` and `pricing` cite it.
 use Rattle.std.specs.Prelude.{◌≡◌, ℕ, true, List, [], ◌∷◌, ◌++◌, drop, filter, length, map, ℤ}
 use Rattle.define_rows.specs.Row.{Row}
 use Rattle.define_searches.specs.Classes.{Class, Classes}

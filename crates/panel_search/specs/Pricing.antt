@@ -1,4 +1,4 @@
--- One step of the search for the best composition. For `pricing`.
+-- One step of the search for the best composition. The contracts of `pricing` cite it.
 use Rattle.std.specs.Prelude.{◌≡◌, ◌≤◌, ◌<◌, ℕ, if◌then◌else◌, true, List, [], ◌∷◌, ◌++◌, length, take, drop, fold, Result, Ok, Err, Some, None}
 use Rattle.define_rows.specs.Row.{Row}
 use Rattle.define_searches.specs.Classes.{Class, Classes}
@@ -40,7 +40,7 @@ pricing_of search = record { visits = search.visits; floor = search.floor; kept 
 abbrev pub CanTakeWithin : Classes → ℕ → ℕ → ℕ → Type 0
 CanTakeWithin all depth low end = (count : ℕ) → low ≤ count → count < end → CanTake all depth count
 
--- where a search that is at `now` is after it has searched the children of `front` with each of `counts` of the next class, in this order
+-- what `now` becomes when the children of `front` with each of `counts` of the next class are searched, in this order
 abbrev pub children_best : Classes → List Row → Row → List Class → List ℕ → List ℕ → Pricing → Pricing
 children_best all closed row later front counts now = fold (λ now c. child_best all closed row later (front ++ c ∷ []) now) now counts
 

@@ -1,4 +1,4 @@
--- One step of the search for the first composition. For `searching`.
+-- One step of the search for the first composition. The contracts of `searching` and `pricing` cite it.
 use Rattle.std.specs.Prelude.{◌≡◌, ◌≤◌, ◌<◌, ◌+◌, ℕ, zero, suc, nat_le, if◌then◌else◌, Bool, true, false, List, [], ◌∷◌, ◌++◌, length, take, filter, map, Result, Ok, Err, Some, None}
 use Rattle.define_searches.specs.Classes.{Class, Classes}
 use Rattle.define_searches.specs.Fronts.{is_reachable}

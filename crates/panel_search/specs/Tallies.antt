@@ -1,4 +1,4 @@
--- Bounds that a search can count with in 64 bits.
+-- Bounds so small that a search's sums with them fit 64 bits.
 use Rattle.std.specs.Prelude.{ℕ, ◌≤◌, ◌<◌, List, length}
 use Rattle.define_searches.specs.declared.Bounds.{Bounds}
 use Rattle.laws_of_fronts.specs.Tallies.{HasBound}

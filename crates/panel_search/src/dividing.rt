@@ -64,7 +64,7 @@ fn entered(visits: u64, fronts: usize, nodes: u64) -> Result<u64, BudgetSpent>
     Ok(visits + more)
 }
 
-// Returns how many classes a piece's front has: as few of the first classes as have at least 64 lists of counts, or all classes.
+// Returns how many classes a piece's front has: the least number of first classes that have at least 64 lists of counts, or all classes.
 fn piece_depth(classes: &Classes) -> usize
     ensures { result ≡ piece_depth classes.now }
 {

@@ -10,8 +10,8 @@ use alike::Classes;
 use define_rows::Row;
 use std::alloc::{AllocError, Global};
 
-/// For each k from 0 to the number of classes: the greatest sums of 0, 1, 2 and more units of the last k classes, up to as many units as
-/// the size. If the classes have fewer units, it is the sum of all. The table has (classes + 1) times (size + 1) numbers of 16 bytes.
+/// A table that holds, for each k from 0 to the number of classes and each n from 0 to the size, the greatest sum of n units of the last k
+/// classes, or the sum of all their units if they have fewer than n. It has (classes + 1) times (size + 1) numbers of 16 bytes.
 #[derive(Debug, Drop)]
 pub(crate) struct Sums {
     cells: Vec<i128>,

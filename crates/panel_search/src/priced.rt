@@ -44,7 +44,7 @@ impl<'p> Model for PricedRow<'p> {
 }
 
 impl<'p> PricedRow<'p> {
-    // Returns `row` with its greatest sums, as a row that is priced over the closed rows with theirs.
+    // Returns `row`, whose greatest sums are `sums`, as a row that is priced over the closed rows, whose greatest sums are `closed_sums`.
     pub(crate) fn new(
         classes: &'p Classes,
         closed: &'p [Row],
@@ -133,7 +133,7 @@ impl<'p> PricedRow<'p> {
         search_from(alloc, &self.terms(), front.counts(), floor, nodes)
     }
 
-    /// Searches as `best_from` does, and returns the weight in the row of the composition that is found, too.
+    /// Searches like `best_from`, and also returns the weight that the found composition has in the row.
     #[tactic(auto, using(crate::proofs::Kept::front_within))]
     pub fn weighed_from(
         &self,

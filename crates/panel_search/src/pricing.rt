@@ -54,7 +54,7 @@ pub(crate) fn search_from(
     Ok(search.run(terms, front.len())?)
 }
 
-// Searches as `search_from` does, and returns the weight of what it finds, too.
+// Searches like `search_from`, and also returns the weight of what it finds.
 pub(crate) fn search_weighed(
     alloc: Global,
     terms: &Terms<'_>,
@@ -163,7 +163,7 @@ impl BestSearch {
         Ok(self.answer())
     }
 
-    // Runs the whole search, and returns the weight of what it kept, too. This weight is the floor at the end.
+    // Runs the whole search, and also returns the weight of what it kept, which is the floor at the end.
     fn run_weighed(
         mut self,
         terms: &Terms<'_>,
@@ -298,8 +298,8 @@ impl BestSearch {
                 .child(terms.sums, classes, terms.row, front, count, lack)
     }
 
-    // Takes the class after a live front out of the classes still to come. Returns `(low, end)`: exactly the counts in `low..end` of this
-    // class keep size, values and households within reach.
+    // Takes the class after a reachable front out of the classes still to come. Returns `(low, end)`: exactly the counts in `low..end` of
+    // this class keep size, values and households within reach.
     pub(crate) fn begin(&mut self, terms: &Terms<'_>, front: &Front) -> (usize, usize)
         requires below { length front.now < length terms.now.classes.now.classes }
         requires front { take (length front.now) self.old.counts.items ≡ front.now }
@@ -378,7 +378,7 @@ impl BestSearch {
     }
 
     #[cycle(search)]
-    // Enters a live front of the first `depth` classes.
+    // Enters a reachable front of the first `depth` classes.
     fn enter(&mut self, terms: &Terms<'_>, depth: usize) -> Result<(), BudgetSpent>
         requires terms { AreTerms terms.now }
         requires few { self.old.visits ≤ self.old.nodes }

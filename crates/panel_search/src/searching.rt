@@ -62,7 +62,7 @@ impl From<BudgetSpent> for SearchStop {
     }
 }
 
-// The error of a search that needs a visit more than its budget.
+// The error of a search that needs more visits than its budget allows.
 #[derive(Debug, Clone, Copy)]
 pub(crate) struct BudgetSpent;
 
@@ -100,7 +100,7 @@ impl Search {
         }
     }
 
-    // Enters the empty front, if it is live.
+    // Enters the empty front if it is reachable, else only counts a visit. True if it leads to a composition.
     fn from_the_empty_front(&mut self, classes: &Classes) -> Result<bool, BudgetSpent>
         requires places { length self.old.counts.items ≡ length classes.now.classes }
         requires tally { Tracks classes.now [] classes.now.classes self.old.tally }
@@ -129,7 +129,7 @@ impl Search {
     }
 
     #[cycle(search)]
-    // Enters a live front of the first `depth` classes. True if it leads to a composition.
+    // Enters a reachable front of the first `depth` classes. True if it leads to a composition.
     fn enter(&mut self, classes: &Classes, depth: usize) -> Result<bool, BudgetSpent>
         requires { StandsAt classes.now depth (drop depth classes.now.classes) self.old }
         ensures { Steps classes.now depth (drop depth classes.now.classes)
@@ -154,8 +154,8 @@ impl Search {
     }
 
     #[cycle(search)]
-    // Tries the children of the front with counts of the next class in `low..end`, all live, the greatest first. True if one leads to a
-    // composition.
+    // Enters the children of the front with counts of the next class in `low..end`, the greatest first. All of them must be reachable. True
+    // if one leads to a composition.
     fn children(
         &mut self,
         classes: &Classes,
@@ -181,7 +181,7 @@ impl Search {
     }
 
     #[cycle(search)]
-    // Enters the live child with `count` of the next class. True if it leads to a composition.
+    // Enters the child with `count` of the next class, which must be reachable. True if it leads to a composition.
     fn try_child(
         &mut self,
         classes: &Classes,

@@ -1,5 +1,5 @@
-//! What a front takes, in all, of each value and of each household, and the most that the classes after it give. Both searches keep
-//! one.
+//! What a front takes, in all, of each value and of each household, and the most that the classes after it give. The searches of
+//! `searching` and `pricing` keep one.
 
 ghost use Rattle.std.specs.Prelude.{◌≡◌, ℕ, ◌+◌, ◌-◌, ◌*◌, ◌≤◌, ◌<◌, ◌++◌, ◌^◌, [], ◌∷◌, IfOk, true, nat_le, ◌&&◌, drop, length};
 ghost use Rattle.laws_of_fronts.specs.Front.{Gives, AreWithin};
@@ -64,7 +64,7 @@ impl Tally {
         Ok(tally)
     }
 
-    // Takes the class after the front from those that are still to come.
+    // Takes the class after the front out of the classes that are still to come.
     pub(crate) fn begin_class(&mut self, classes: &Classes, front: &[usize])
         requires below { length front.now < length classes.now.classes }
         requires stands { Tracks classes.now front.now (drop (length front.now) classes.now.classes) self.old }
@@ -177,7 +177,7 @@ impl Tally {
         true
     }
 
-    // Returns how many members the front lacks of the size.
+    // Returns how many members the front still lacks to reach the size.
     pub(crate) fn lack_here(&self, classes: &Classes, front: &[usize]) -> usize
         requires live { is_reachable classes.now front.now ≡ true }
         requires stands { Tracks classes.now front.now (drop (length front.now) classes.now.classes) self.now }
@@ -187,7 +187,7 @@ impl Tally {
         classes.size() - self.taken
     }
 
-    // Returns how many members the front with `count` of the next class lacks of the size.
+    // Returns how many members the front with `count` of the next class still lacks to reach the size.
     pub(crate) fn lack(&self, classes: &Classes, front: &[usize], count: usize) -> usize
         requires below { length front.now < length classes.now.classes }
         requires live { is_reachable classes.now (front.now ++ count ∷ []) ≡ true }
@@ -198,7 +198,7 @@ impl Tally {
         classes.size() - (self.taken + count)
     }
 
-    // True if at most the size is taken, and the size can be reached.
+    // True if at most `size` members are taken, and later classes can give the rest.
     fn size_allows(&self, size: usize) -> bool
         requires { self.now.taken + self.now.later_taken < 2 ^ 64 }
         ensures { result ≡ (nat_le self.now.taken size && nat_le size (self.now.taken + self.now.later_taken)) }

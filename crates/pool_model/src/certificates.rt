@@ -115,7 +115,7 @@ fn copied_stages(alloc: Global, stages: &[Stage]) -> Result<Vec<Stage>, AllocErr
     Ok(copies)
 }
 
-/// A lottery, and a certificate that it is leximin greatest. Whether the certificate holds is for a check to find out.
+/// A lottery, and a certificate that it is leximin greatest. A check finds out whether the certificate holds.
 #[derive(Debug, Drop)]
 pub struct Answer {
     lottery: Lottery,

@@ -3,8 +3,8 @@
 //! `alike`, `check_search`, `check_reasons`, `tickets`, the office and the commands.
 //!
 //! Promises: a `Pool` is always within its limits. Each step of building it adds its part, or is refused with a kind and changes nothing.
-//! `fits` is exactly 'is a quota panel', `chances` exactly each volunteer's count. The module `names` and the functions without `pub` are
-//! helpers.
+//! `fits` is true exactly for the quota panels, and `chances` returns exactly each volunteer's count. The module `names` and the functions
+//! without `pub` are helpers.
 #![tactic(auto)]
 
 mod building;

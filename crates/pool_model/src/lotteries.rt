@@ -6,7 +6,7 @@ use crate::panels::Panel;
 use std::alloc::{AllocError, Global};
 use std::marker::Model;
 
-/// A panel and its weight in a lottery, which is at least 0.
+/// A panel and its weight in a lottery. The weight is at least 0.
 #[derive(Debug, Drop)]
 pub struct LotteryRow {
     panel: Panel,

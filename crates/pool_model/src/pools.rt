@@ -222,8 +222,8 @@ impl Pool {
         self.volunteer_fault(id, known, values.len())
     }
 
-    // Does what `volunteer_kind` does. `known` says whether each name is that of a value of its category, and `count` is the number of
-    // names.
+    // Returns the kind that `volunteer_kind` returns. `known` says whether each name is that of a value of its category, and `count` is the
+    // number of names.
     fn volunteer_fault(&self, id: &[u8], known: bool, count: usize) -> Option<u8>
         ensures { result ≡ lowest_kind (
             (6, not known) ∷

@@ -49,7 +49,7 @@ line_says_text line h =
     let each = each_field_is_utf8 (fields_of line) (subst IsUtf8 (sym (line_of-fields_of line)) (IsUtf8-from_is_utf8 line h)) in
     entry_is_text (fields_of line) (each_map (λ field. is_utf8 field ≡ true) IsUtf8 IsUtf8-from_is_utf8 (fields_of line) each)
 
--- if a line's entry has no fault, the line has none if it is UTF-8, and else a fault of kind 11
+-- `kind_of_text` and `kind_of_no_text`: if a line's entry has no fault, the line has none if it is UTF-8, and else a fault of kind 11
 pub kind_of_text : (pool : Pool) (passed : Passed) (line : List ℕ) → entry_kind pool passed (entry_of (fields_of line)) ≡ None → is_utf8 line ≡ true → line_kind (Inside pool passed) line ≡ None
 kind_of_text pool passed line h text = line_kind_of pool passed line ∙ ap (λ kind. kind_or kind (encoding_kind line)) h ∙ ap (λ test. cond (not test) (Some 11) None) text
 
@@ -61,7 +61,7 @@ pub says : (entry : Entry) (lent taken : List (Bor (List ℕ))) (line : List ℕ
     entry ≡ entry_of (fields_of line)
 says entry lent taken line h same is = h ∙ (ap (λ fields. entry_of (map (λ field. field.now) fields)) same ∙ ap entry_of is)
 
--- if no kind of fault was found for an entry, and it is the line's entry, no kind applies to the line's entry
+-- if no kind of fault was found for `entry`, which is the line's entry, no kind applies to the line's entry
 pub is_right : (pool : Pool) (passed : Passed) (entry : Entry) (line : List ℕ) (found : Option ℕ) → entry ≡ entry_of (fields_of line) → found ≡ entry_kind pool passed entry → found ≡ None →
     entry_kind pool passed (entry_of (fields_of line)) ≡ None
 is_right pool passed entry line found same is none = ap (entry_kind pool passed) (sym same) ∙ (sym is ∙ none)

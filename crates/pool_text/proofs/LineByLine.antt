@@ -22,7 +22,7 @@ stops_at T number progress rest line later parted wanted same stop tells told e 
     by OutOfMemory h = tt
     by (Kind kind) h = reading.stops_at reader number progress rest line later parted wanted same kind h
 
--- if line `number` says an entry, and `number` is at least 3, line `number + 1` isn't too early for the progress after the entry
+-- if line `number` is an entry, and `number` is at least 3, line `number + 1` isn't too early for the progress after the entry
 entry_due : (pool : Pool) (passed : Passed) (entry : Entry) (number : ℕ) → 3 ≤ number → line_due (after_entry pool passed entry) ≤ number + 1
 entry_due pool passed (OfCategory name) number h = omega arith
 entry_due pool passed (OfValue value) number h = omega arith
@@ -32,7 +32,7 @@ entry_due pool passed (OfStanding standing id) number h = omega arith
 entry_due pool passed TheEnd number h = omega arith
 entry_due pool passed Unknown number h = omega arith
 
--- if line `number` isn't too early for the progress, line `number + 1` isn't too early for the progress after it
+-- if the next line after `progress` can have the number `number`, the one after that line can have the number `number + 1`
 pub next_due : (progress : Progress) (line : List ℕ) (number : ℕ) → line_due progress ≤ number → line_due (after_line progress line) ≤ number + 1
 next_due Begun line number h = omega arith
 next_due (Versioned second) line number h = omega arith
@@ -60,7 +60,7 @@ reads_from number progress (line ∷ next ∷ later) =
       | Some kind ↦ omega arith
     ]
 
--- if the stop at a line is out of memory, the builder's stop was out of memory
+-- if the reader stops at a line because memory ran out, the builder stopped because memory ran out
 pub memory_wanted : (stop : BuildStop) (number : ℕ) → stopped number stop ≡ Unread → stop ≡ OutOfMemory
 memory_wanted OutOfMemory number h = refl
 memory_wanted (Kind kind) number h = cc

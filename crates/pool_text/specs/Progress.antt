@@ -19,7 +19,7 @@ line_due (words.Versioned second) = 2
 line_due (words.Inside pool passed) = 3
 line_due (words.Ended pool) = 4
 
--- the progress inside a pool, if `passed` says how far its lines have come; after its end, if it is None
+-- the progress inside the pool if `passed` says how far its lines have come, or after the pool's end if `passed` is None
 abbrev pub with_pool : Pool → Option Passed → words.Progress
 with_pool pool (Some passed) = words.Inside pool passed
 with_pool pool None = words.Ended pool

@@ -115,8 +115,8 @@ fn standing_entry<'a>(standing: Standing, rest: &'a [&'a [u8]]) -> Entry<'a>
     }
 }
 
-/// Adds to the pool what a line says. `passed` is how far the lines before it have come. Returns how far they have come after it, or None
-/// if it is the end line. A line with a fault changes nothing.
+/// Adds to the pool what a line says. `passed` is how far the lines before this one have come. Returns how far the lines have come after
+/// this one, or None if this is the end line. A line with a fault changes nothing.
 pub(crate) fn read_entry(
     alloc: Global,
     pool: &mut Pool,

@@ -1,4 +1,4 @@
-//! The progress of a pool's text, and how one more line moves it on.
+//! How far the text of a pool was read, and how one more line changes that.
 
 ghost use Rattle.std.specs.Prelude.{◌≡◌, ◌≤◌, Err, IfOk};
 ghost use Rattle.pool_model.specs.declared.building.BuildStop.TheVariants.{OutOfMemory};

@@ -40,7 +40,7 @@ module _ (all : Classes) (closed : List Row) (row : Row) (front : List ℕ) (flo
   taken_spent (Err Spent) start e l m answers came = omega (arith, answers)
   taken_spent (Err OutOfMemory) start e l m answers came = absurd came
 
--- a piece adds its visits
+-- taking a piece adds its visits to those so far
 pub piece_visits : (row : Row) (now piece : Pricing) → (take_piece row now piece).visits ≡ now.visits + piece.visits
 piece_visits row now piece = by piece.kept
   where

@@ -1,4 +1,5 @@
--- What the searches of a wave's pieces answer, worker by worker. Over Waves of `define_waves`. For `workers` and `waves`.
+-- What the searches of a wave's pieces answer, worker by worker. Builds on Waves of `define_waves`. The contracts of `wave`, `workers` and
+-- `waves` cite it.
 use Rattle.std.specs.Prelude.{◌≡◌, ℕ, ◌+◌, ◌*◌, ◌/◌, ◌%◌, ◌<◌, ◌≤◌, List, [], length, slice_get, slice_index_or, ◌++◌, Vec, vec_items, ℤ, Option, Some, Result, Ok, Err}
 use Rattle.std.specs.declared.alloc.Global.{Global}
 use Rattle.std.specs.declared.alloc.AllocError.{AllocError}

@@ -25,7 +25,7 @@ const WAVE: usize = 16;
 /// search its pieces on threads, and the watch is told the number of each piece as it starts. Neither changes the answer.
 ///
 /// Each of the rows has one entry per class and a reach below 2^127: the absolute value of its right side, and of each entry times its
-/// class's size. `Spent` comes exactly if the visits exceed `nodes`; running out of memory is allowed at any time.
+/// class's size. Fails with `Spent` exactly if the visits exceed `nodes`, unless memory runs out, which is allowed at any time.
 pub fn best_by<R: Threads + Sync, W: Watch + Sync>(
     rt: &R,
     alloc: Global,
@@ -47,7 +47,7 @@ pub fn best_by<R: Threads + Sync, W: Watch + Sync>(
     price_by(rt, alloc, workers, watch, &pricer, row, nodes)
 }
 
-/// Searches as `best_by` does, with the closed rows of `pricer`.
+/// Searches as `best_by` does, with the classes and the closed rows of `pricer`.
 pub fn price_by<R: Threads + Sync, W: Watch + Sync>(
     rt: &R,
     alloc: Global,

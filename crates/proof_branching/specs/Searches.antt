@@ -28,7 +28,7 @@ IsFound spans most old new (Point point) = IsWithin spans point.items
 IsFound spans most old new Nothing = Unit {0}
 IsFound spans most old new Doubt = old.nodes ≡ new.nodes + (most + 1)
 
--- the stops of a search: those of a run of the table, or no node is left, or the table was wrong
+-- the stops of a search: those of a run of its table, `Spent Nodes` if no node is left, and `Lost` if what the table gave can't be right
 abbrev pub SearchStops : TableSizes → Left → ProveStop → Type 0
 SearchStops table left (Wide pass) = Unit {0}
 SearchStops table left BeyondWidth = table.width < 2 ^ 62

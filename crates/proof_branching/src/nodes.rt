@@ -10,7 +10,7 @@ use proof_limits::{Budget, Narrow, ProveStop, Span};
 use proof_table::Table;
 use std::alloc::Global;
 
-/// A column whose value lies between two whole numbers, and the parts of its span below and above the value.
+/// A column whose value lies between two whole numbers, the parts of its span below and above the value, and which part is nearer.
 #[derive(Clone, Copy, Debug)]
 pub(crate) struct Split {
     pub(crate) column: usize,

@@ -1,5 +1,5 @@
-//! The search as a list of steps that show that there is no point. Stands on `nodes`, `path` and `refutations`; `proof_run` turns the steps
-//! into trees.
+//! The search as a list of steps that show that there is no whole point. Stands on `nodes`, `path` and `refutations`; `proof_run` turns the
+//! steps into trees.
 
 ghost use Rattle.std.specs.Prelude.{◌≡◌, ◌<◌, IfErr, IfSome, OnOk, length};
 ghost use Rattle.proof_table.specs.Sizes.{SameSizes};
@@ -15,8 +15,8 @@ use proof_table::Table;
 use std::alloc::Global;
 
 /// Searches all nodes, and returns a step for each, in order: a split if the table's point is not whole, or a refutation if there is no
-/// point. The steps of a split's lower part come before those of the upper part. `numbers` has the number of each row; if there is a row of
-/// weights, its multiplier becomes the scale instead. Returns None if some node has a whole point.
+/// point. The steps of a split's lower part come before those of the upper part. `numbers` has the number of each row. The multiplier of
+/// the row of weights, if there is one, becomes the scale. Returns None if some node has a whole point.
 pub fn prove_empty(
     alloc: Global,
     table: &mut Table,

@@ -1,5 +1,5 @@
 //! The multipliers by which a table refutes a node, in lowest terms. `proving` uses this, and `proof_stages` uses `in_lowest_terms`.
-//! Promises: which stops there are.
+//! The contracts promise which stops the calls may return.
 
 ghost use Rattle.std.specs.Prelude.{◌≤ℤ◌, pos, IfErr, IfOk};
 ghost use Rattle.proof_branching.specs.Nodes.{IsLostOrMemory};
@@ -77,7 +77,7 @@ fn divisor_of(alloc: Global, scale: Narrow, pairs: &[(usize, Narrow)]) -> Result
     Ok(common_divisor(&numbers))
 }
 
-/// Returns what the weights are multiplied by: minus the multiplier of the row of weights if it is below 0, else 0.
+/// Returns what the weights are multiplied by: minus the multiplier of the row of weights if this multiplier is below 0, else 0.
 fn scale(refutation: &[Narrow], weight_row: Option<usize>) -> Narrow {
     match weight_row {
         Some(row) => (-factor_of(refutation, row)).max(Narrow::ZERO),

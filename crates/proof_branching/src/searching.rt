@@ -1,5 +1,5 @@
-//! The search for a point of whole numbers, at a limited number of nodes. Stands on `nodes` and `path`; `weighing`, `proof_stages` and
-//! `proof_peeling` call it.
+//! The search for a point of whole numbers, at a limited number of nodes. Stands on `nodes` and `path`; `weighing`, `proof_stages`,
+//! `proof_peeling`, `quota_conflicts` and `loosening_by_proof` call it.
 
 ghost use Rattle.std.specs.Prelude.{◌≡◌, ◌<◌, IfOk, IfErr, OnOk, length};
 ghost use Rattle.proof_table.specs.Sizes.{SameSizes};
@@ -17,7 +17,7 @@ use std::alloc::Global;
 pub enum Found {
     /// A point: a number for each column.
     Point(Vec<Narrow>),
-    /// There is no point, if the table was right.
+    /// No node has a point, so there is none if the table computed right. The contract of `search` says nothing of this case.
     Nothing,
     /// No point was found at the nodes that the search may look at, and further nodes are left.
     Doubt,

@@ -20,6 +20,6 @@ pub record Operation : Type 0 where
   pub x : ℤ
   pub y : ℤ
 
--- an operation passes 2^62: the absolute value of its exact result is greater
+-- an operation passes 2^62: the absolute value of its exact result is above 2^62
 abbrev pub Passes : Operation → Type 0
 Passes o = 2 ^ 62 < unsigned_abs (outcome o.op o.x o.y)

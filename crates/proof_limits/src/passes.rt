@@ -40,7 +40,7 @@ impl Model for Pass {
 }
 
 impl Pass {
-    // Returns the operation on these numbers.
+    // Makes the record of an operation on `x` and `y` that passes 2^62.
     pub(crate) fn new(op: Op, x: i128, y: i128) -> Pass
         requires { Passes (record { op = op; x = x; y = y }) }
         ensures { result ≡ record { op = op; x = x; y = y } }

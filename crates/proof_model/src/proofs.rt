@@ -12,7 +12,7 @@ use bundle_text::Bundle;
 use pool_model::Pool;
 use std::marker::Model;
 
-/// The greatest number of trees: one for each stage.
+/// The greatest number of trees: one for each stage, of which a proof has at most 400.
 const MOST_TREES: usize = 400;
 
 /// The parts of a proof.

@@ -8,9 +8,9 @@ use crate::rows::PanelRow;
 use proof_limits::{Narrow, ProveStop, Span, times};
 use std::alloc::Global;
 
-/// Spans that hold of each panel that can be peeled off a remainder. If a volunteer's part is all of the total, the volunteer is on each
-/// such panel; if it is 0, on none. If a row's sum over the remainder is an end of its span times the total, each such panel's sum is that
-/// end. `sums` has the rows' sums over the remainder.
+/// Spans that hold of every panel that can be peeled off a remainder. A volunteer whose part equals the total is on each of these
+/// panels, and one whose part is 0 is on none. If a row's sum over the remainder is an end of the row's span times the total, the row's sum
+/// over each of these panels is that end. `sums` has the rows' sums over the remainder.
 #[derive(Debug, Drop)]
 pub(crate) struct Face {
     pub(crate) columns: Vec<Span>,

@@ -43,7 +43,7 @@ const SHORT_NODES: u64 = 100;
 /// How often panels are put back for short tails: 2, then 4, and so on up to 64.
 const SHORT_TAILS: u32 = 6;
 
-/// How often panels are put back for the other tails at most.
+/// The most times that panels are put back for the other tails.
 const TAILS: u32 = 63;
 
 /// A panel with its weight.
@@ -55,14 +55,14 @@ pub struct WeightedPanel {
     pub members: Vec<usize>,
 }
 
-/// The result for a point.
+/// What `lottery_of_point` found for a point.
 #[derive(Debug, Drop)]
 pub enum Peeled {
     /// Panels with weights. A panel may come more than once.
     Found(Vec<WeightedPanel>),
     /// The point is no mix of panels.
     Outside,
-    /// All turns ended without an answer.
+    /// All turns and tails ended without an answer.
     Doubt,
 }
 
@@ -129,7 +129,7 @@ fn short_limits() -> TailLimits {
     }
 }
 
-/// Returns a number as a width, or the greatest width if the number is none.
+/// Returns a number as a width, or the greatest width if the number is too great for one.
 fn width_of(number: i64) -> Narrow {
     match Narrow::new(number) {
         Some(width) => width,
@@ -153,7 +153,7 @@ fn loaded(alloc: Global, program: &Program, rows: &PanelRows) -> Result<Table, P
     Ok(table)
 }
 
-/// Returns each volunteer's chance times the common denominator, before any panel is taken off.
+/// Returns the remainder before any panel is taken off: each volunteer's part is the chance times the common denominator, the total.
 fn remainder_of(
     alloc: Global,
     classes: &Program,
@@ -179,8 +179,8 @@ fn is_too_wide(found: &Result<Peeled, ProveStop>) -> bool {
 }
 
 impl PeelingRun<'_> {
-    /// Makes the lottery: one turn without pseudo-random shifts, then rounds of turns, with tails after each round. Before the tails of the
-    /// first round short ones are tried.
+    /// Makes the lottery: one turn without pseudo-random shifts, then rounds of turns, with tails after each round. After the first round
+    /// short tails are tried before the others.
     fn lottery(&mut self, budget: &mut Budget) -> Result<Peeled, ProveStop>
         requires run { IsPeelingRun self.old }
         requires table { HasTable self.old }
@@ -249,7 +249,8 @@ impl PeelingRun<'_> {
         )
     }
 
-    /// Prepares a turn: keeps the remainder or returns to the best one, puts some panels back, and doubles in every fourth turn.
+    /// Prepares a turn: keeps the remainder or returns to the best one, puts some panels back, and in every fourth turn doubles the
+    /// remainder.
     fn begin_turn(&mut self, turn: u64) -> Result<(), ProveStop>
         requires run { IsPeelingRun self.old }
         requires table { HasTable self.old }
@@ -292,7 +293,7 @@ impl PeelingRun<'_> {
         self.remainder.put_back(&self.seen, count)
     }
 
-    /// Doubles the remainder, unless its whole is too great.
+    /// Doubles the remainder, or does nothing if its `whole` is at least `MOST_DOUBLED`.
     fn double(&mut self) -> Result<(), ProveStop>
         requires run { IsPeelingRun self.old }
         requires table { HasTable self.old }
@@ -346,8 +347,8 @@ impl PeelingRun<'_> {
         self.return_to_best()
     }
 
-    /// Tries short tails. Returns what they found; or None if they ended in doubt or passed their width, and then begins anew with the best
-    /// remainder.
+    /// Tries short tails, and returns what they found. If they ended in doubt, or a number passed their width or 2^62, begins anew with the
+    /// best remainder and returns None.
     fn short_tails(&mut self, budget: &mut Budget) -> Result<Option<Peeled>, ProveStop>
         requires run { IsPeelingRun self.old }
         requires table { HasTable self.old }
@@ -365,8 +366,8 @@ impl PeelingRun<'_> {
         }
     }
 
-    /// Tries tails, at most `most` times. If the remainder is no mix of panels, or a tail ends in doubt, puts back 2 panels, then 4, 8 and so on, and tries
-    /// again. Once no panel is left to put back, returns `Outside` or `Doubt`; `Doubt` too after the last time.
+    /// Tries tails, at most `most` times. If the remainder is no mix of panels, or a tail ends in doubt, puts back 2 panels, then 4, 8 and
+    /// so on, and tries again. Once no panel is left to put back, returns `Outside` or `Doubt`. After `most` times, returns `Doubt`.
     fn tails(
         &mut self,
         limits: TailLimits,

@@ -1,5 +1,6 @@
-//! Peeling: panels are taken off a remainder, one after the other, until nothing is left. Each is taken off as often as possible while
-//! the rest still meets the quotas on average. Stands on `faces`, `remainders`, `seen` and `odds`; `lotteries` calls `peel`.
+//! Peeling: panels are taken off a remainder, one after the other, until nothing is left or no further panel is found. Each is taken off
+//! with the greatest weight after which the remainder still satisfies the rows on average. Stands on `faces`, `remainders`, `seen` and
+//! `odds`; `lotteries` calls `peel`.
 
 ghost use Rattle.std.specs.Prelude.{◌≡◌, length};
 ghost use Rattle.proof_table.specs.Sizes.{SameSizes};
@@ -18,7 +19,7 @@ use std::alloc::Global;
 /// How many nodes a search for a panel may look at.
 pub(crate) const MOST_NODES: u64 = 2000;
 
-/// The number of a turn of peeling. It seeds the turn's pseudo-random numbers.
+/// A turn of peeling: its number, which seeds its pseudo-random numbers, and how far these may shift wishes.
 #[derive(Clone, Copy, Debug)]
 pub(crate) struct Turn {
     pub(crate) number: u64,
@@ -61,8 +62,8 @@ pub(crate) fn peel(
     Ok(true)
 }
 
-/// Returns a wish for each volunteer; a search prefers panels with a great sum of wishes. The greater the volunteer's part of the
-/// remainder, the greater the wish, except for a pseudo-random shift.
+/// Returns a wish for each volunteer; a search prefers panels with a great sum of wishes. The wish grows with the volunteer's part of the
+/// remainder, but is 0 if the face puts the volunteer on all panels or on none. A pseudo-random number shifts each wish.
 fn wishes_of(
     alloc: Global,
     remainder: &Remainder,
@@ -85,7 +86,8 @@ fn wishes_of(
     Ok(wishes)
 }
 
-/// Returns the greatest weight by which a panel can be taken off: each part stays within the total, and the rows are satisfied on average.
+/// Returns the greatest weight by which a panel can be taken off: each part stays from 0 to the total that is left, and the remainder
+/// satisfies the rows on average.
 fn greatest_weight(
     remainder: &Remainder,
     face: &Face,

@@ -76,7 +76,7 @@ impl Remainder {
         Ok(())
     }
 
-    /// True if less is left than in `other`, each as a part of its whole.
+    /// True if the part of its whole that is left in this remainder is less than the part that is left in `other`.
     pub(crate) fn is_less_than(&self, other: &Remainder) -> bool {
         times(self.total, other.whole) < times(other.total, self.whole)
     }

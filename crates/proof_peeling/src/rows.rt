@@ -1,5 +1,5 @@
 //! The rows that each panel of a lottery satisfies: those of the quotas, and one for each stage. `faces`, `peels`, `tails` and `lotteries`
-//! use them; `proof_run` makes `PanelRows`, and uses `weights_of`. Promises: the lengths.
+//! use them; `proof_run` makes `PanelRows`, and uses `weights_of`. The contracts promise how many rows and weights there are.
 
 ghost use Rattle.std.specs.Prelude.{◌≡◌, ◌+◌, length, IfOk};
 
@@ -23,7 +23,7 @@ pub struct PanelRows {
 }
 
 impl PanelRows {
-    /// Returns the rows of the quotas over volunteers, and a row for each stage, whose cap each panel attains.
+    /// Returns the rows of the quotas over volunteers, and a row for each stage, by which each panel weighs exactly the cap.
     pub fn new(
         alloc: Global,
         program: &Program,

@@ -52,7 +52,7 @@ struct PanelMix {
     rows: Vec<Span>,
 }
 
-/// Looks for weights of panels that make up a remainder exactly. Stops if an entry of the tail's table is too wide.
+/// Looks for weights of panels that make up a remainder exactly. Stops if an entry of the tail's table passes `limits.width`.
 pub(crate) fn tail_of(
     alloc: Global,
     table: &mut Table,
@@ -233,7 +233,7 @@ impl PanelMix {
     }
 
     /// Returns a wish for each volunteer, which is minus the multiplier of their row, or 0 if they have no row; and the least sum of wishes
-    /// of a panel that helps.
+    /// that some panel of a mix must have: the average sum in the remainder, rounded up.
     fn wanted(
         &self,
         alloc: Global,

@@ -1,4 +1,4 @@
--- The constraints of the values, with one more category.
+-- What one more category adds to the constraints of the size and of the values.
 use Rattle.std.proofs.Common.{◌≡◌, ℕ, ◌+◌, ◌<◌, List, [], ◌∷◌, ◌++◌, take, length, get_or, sym, ap, ◌∙◌, arith}
 use Rattle.std.specs.List.{enumerate_from, flat_map}
 use Rattle.std.proofs.lemmas.List.{append-nil, take_more}
@@ -8,7 +8,8 @@ use Rattle.define_additions.specs.Constraints.{Constraint, category_constraints,
 use Rattle.define_pools.specs.Pool.{Category, Pool}
 use Rattle.proof_program.proofs.ListSteps.{numbered_at}
 
--- if the constraints of category `k` are appended to those of the first `k` categories, they are those of the first `k + 1`
+-- if the constraints of category `k` are appended to those of the size and of the first `k` categories, the list has those of the size
+-- and of the first `k + 1` categories
 pub category_added : (pool : Pool) (k : ℕ) (category : Category) (old new : List Constraint) → k < length pool.categories → category ≡ get_or pool.categories k category →
     old ≡ size_constraint pool ∷ flat_map (category_constraints pool) (take k (enumerate_from 0 pool.categories)) → new ≡ old ++ category_constraints pool (k, category) →
     new ≡ size_constraint pool ∷ flat_map (category_constraints pool) (take (k + 1) (enumerate_from 0 pool.categories))

@@ -31,7 +31,7 @@ pub passing_left : {X Y : Type 0} (f : X → Y) (p : X → Bool) (xs : List X) (
 passing_left f p xs k x old new l e t same so_far =
     same ∙ so_far ∙ sym (ap (λ xs. map f (filter p xs)) (taken_more xs k x l e) ∙ ap (map f) (filter_same p (take k xs) x t))
 
--- ---- a list whose mapped elements come after others
+-- ---- one more element of a list whose mapped elements come after `before`
 
 behind : {X Y : Type 0} (f : X → Y) (before here : List Y) (old new : List X) (x : X) → new ≡ old ++ x ∷ [] → map f old ≡ before ++ here → map f new ≡ before ++ (here ++ f x ∷ [])
 behind f before here old new x added so_far =

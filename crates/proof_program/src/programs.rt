@@ -123,7 +123,8 @@ impl Program {
         self.sizes[column]
     }
 
-    /// Returns the span of each column: how many of its members a panel may have. It has all of a seated column, and none of a gone one.
+    /// Returns the span of each column: how many of its members a panel may have. A panel has all members of a seated column, and none of a
+    /// gone one.
     pub fn spans(&self) -> &[Span]
         ensures value { result.now ≡ self.now.spans }
         ensures one_each { length result.now ≡ length self.now.firsts }
@@ -143,7 +144,7 @@ impl Program {
         requires { stages < 2 ^ 63 }
         ensures value { result ≡ number_after self.now row.now stages }
 
-        // In a program of a pool it is the number of the same constraint.
+        // In a program of a pool, the result is the number that the row's constraint has after these stages.
         ensures constraint { (pool : SeenPool) (earlier : List Stage) → self.now.quotas ≡ length (quota_constraints pool) → stages ≡ length earlier →
             constraint_at (constraints pool earlier) result ≡ constraint_at (constraints pool []) row.now.number }
     {

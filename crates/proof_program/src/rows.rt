@@ -69,7 +69,7 @@ impl QuotaRow {
     }
 }
 
-/// Returns the rows of the demands that can be broken. A row has the number of its demand, which counts all demands from 0.
+/// Returns the rows of the demands that can be broken. All demands are numbered from 0, and a row has the number of its demand.
 pub(crate) fn rows(
     alloc: Global,
     pool: &Pool,
@@ -123,7 +123,7 @@ fn reach(
     (least, greatest)
 }
 
-/// Returns the row of `demand`, which is the demand with this number.
+/// Returns the row of `demand`, whose number is `number`.
 fn row(
     alloc: Global,
     pool: &Pool,

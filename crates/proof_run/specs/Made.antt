@@ -1,4 +1,4 @@
--- What a proof that was made is a proof of, and why a run stops. `command_proofs` cites all of it.
+-- Which pool or bundle a proof is about, and why a run stops. `command_proofs` cites all of it.
 use Rattle.std.specs.Prelude.{◌≡◌}
 use Rattle.define_additions.specs.ProofVerdict.{OfLottery, OfNoPanel, Proof}
 use Rattle.define_bundles.specs.BundleText.{Bundle}
@@ -13,7 +13,7 @@ abbrev pub IsOfPool : Pool → Proof → Type 0
 IsOfPool pool (OfLottery own its trees) = own ≡ pool
 IsOfPool pool (OfNoPanel own lines) = own ≡ pool
 
--- the proof is of the lottery and the stages of the bundle
+-- the proof is of the bundle's pool, lottery and stages
 abbrev pub IsOfBundle : Bundle → Proof → Type 0
 IsOfBundle bundle (OfLottery own its trees) = (own ≡ bundle.pool) × (its ≡ bundle.answer)
 IsOfBundle bundle (OfNoPanel own lines) = ⊥

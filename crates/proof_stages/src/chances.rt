@@ -1,5 +1,5 @@
 //! The chances of columns, which stages settle one after the other. Stands on `fractions`; both searches for stages keep their state here,
-//! and `proof_peeling` reads it. Promises: which chances there are, exactly.
+//! and `proof_peeling` reads it. The contracts promise exactly which columns have which chances.
 
 ghost use Rattle.std.specs.Prelude.{◌≡◌, ◌↔◌, IsTrue, ◌<◌, ◌≤ℤ◌, pos, length, replicate, slice_index_or, slice_set, None, Some, IsSome, IfOk, OnErr, OnOk};
 ghost use Rattle.std.specs.List.{All};
@@ -88,8 +88,8 @@ impl Chances {
     }
 
     /// Returns the spans of the columns, times a multiple of all denominators. The members of a settled column have its chance, those of a
-    /// seated column 1, and all others at least `level`. If `level` is beyond the end of a column's span, the span is `level` alone if
-    /// `is_open` holds, else the call stops.
+    /// seated column 1, and all others at least `level`. If `level` is beyond the end of a column's span, the call stops; but if `is_open`
+    /// holds, the span is then `level` alone.
     pub(crate) fn column_spans(
         &self,
         alloc: Global,

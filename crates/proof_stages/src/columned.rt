@@ -140,8 +140,8 @@ fn raised_cap(
     }
 }
 
-/// Returns the weights by columns, minus the multipliers of their rows, in lowest terms. An unsettled column weighs 0 if it is seated or
-/// its weight would be below 0.
+/// Returns a weight for each column: minus the multiplier of the column's row. The weights are in lowest terms. An unsettled column weighs
+/// 0 if it is seated or its weight would be below 0.
 fn weights_of(
     alloc: Global,
     program: &Program,

@@ -21,7 +21,7 @@ pub(crate) struct Finder<'a> {
 }
 
 impl<'a> Finder<'a> {
-    /// Begins with no closed stage.
+    /// Returns a search with no closed stage.
     pub(crate) fn new(alloc: Global, program: &'a Program) -> Result<Finder<'a>, ProveStop>
         ensures { IfOk result (IsFinder (length program.entry.now.firsts)) }
     {
@@ -83,7 +83,7 @@ impl<'a> Finder<'a> {
         point_of(found, self.program.columns())
     }
 
-    /// Closes a stage: later searches find only compositions that weigh its cap.
+    /// Closes a stage: later searches find only compositions that weigh exactly its cap.
     pub(crate) fn close(&mut self, weights: &[Narrow], cap: Narrow) -> Result<(), ProveStop>
         requires finder { IsFinder self.old.table.columns self.old }
         requires weights { length weights.now ≡ self.old.table.columns }

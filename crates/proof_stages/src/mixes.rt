@@ -30,7 +30,7 @@ pub(crate) struct CompositionMix {
 }
 
 impl CompositionMix {
-    /// Begins with no composition. Compositions have a count for each of `columns` columns.
+    /// Returns a mix without compositions. A composition will have a count for each of `columns` columns.
     pub(crate) fn new(alloc: Global, columns: usize) -> Result<CompositionMix, ProveStop>
         ensures { IfOk result (IsCompositionMix columns) }
     {

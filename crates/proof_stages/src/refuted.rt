@@ -19,7 +19,7 @@ pub(crate) struct Shown {
 }
 
 impl Shown {
-    /// Returns these weights and this cap.
+    /// Returns these weights and this cap. They were not divided, and a panel may attain the cap.
     pub(crate) fn of_weights(weights: Vec<Narrow>, cap: Narrow) -> Shown
         ensures { result.weights ≡ weights }
     {

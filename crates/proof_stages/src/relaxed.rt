@@ -65,7 +65,8 @@ struct FoundStage {
     is_tight: bool,
 }
 
-/// Finds the stage after `earlier` earlier ones: the level falls until some point gives it to every unsettled column.
+/// Finds the stage after `earlier` earlier ones: the level falls until some point gives it to every unsettled column. But if no panel may
+/// have a member of some unsettled columns, the stage settles these columns at 0.
 fn stage(
     alloc: Global,
     program: &Program,

@@ -1,5 +1,5 @@
 //! The table of a program, and the spans of its rows. Stands on `proof_table`; `relaxed`, `finders` and `proof_run` use both calls.
-//! Promises: the sizes.
+//! The contracts promise how many rows and columns the table has, and how many spans there are.
 
 ghost use Rattle.std.specs.Prelude.{◌≡◌, length, IfOk};
 

@@ -28,7 +28,8 @@ fn ratio(goal: Narrow, entry: Narrow) -> u128
     (goal.get().unsigned_abs() as u128 * (1 << 60)) / entry.get().unsigned_abs() as u128
 }
 
-// Returns the slot as a candidate, if the row's variable moves towards its span when the slot's variable leaves its end.
+// Returns the slot as a candidate if its variable, moved off the end of `span` where it is, moves the row's variable towards the row's
+// span. Returns None if it doesn't, if the row's entry in the slot is 0, or if `span` is a point.
 fn helping(
     slot: usize,
     at: Slot,
@@ -103,7 +104,8 @@ fn need_after(need: i128, candidate: &Candidate, span: Span) -> Result<i128, Pro
     wide_sub(need, wide_mul(candidate.entry.abs().wide(), gap)?)
 }
 
-// Moves the candidates, in order, to the other ends of their spans, until one would bring the row's variable back. Returns that candidate.
+// Moves the candidates, in order, to the other ends of their spans, until one would bring the row's variable back into its span. Returns
+// that candidate, or None if none of them does.
 fn pass(
     candidates: &[Candidate],
     slots: &mut [Slot],
@@ -125,7 +127,8 @@ fn pass(
     Ok(None)
 }
 
-// Returns the candidate that enters the basis, by `rule`. If there is none, no point keeps the row's span.
+// Returns the candidate that enters the basis, by `rule`. None means that the candidates can't bring the row's variable back into its span,
+// so no point keeps this span.
 pub(crate) fn choose(
     candidates: &mut Vec<Candidate>,
     slots: &mut [Slot],

@@ -1,5 +1,5 @@
 //! Pseudo-random numbers, by a linear congruential generator. They break ties in goals here, and vary the turns of `proof_peeling`.
-//! Promises: the range of each number.
+//! The contracts promise the range of each number.
 
 ghost use Rattle.std.specs.Prelude.{◌<◌, ◌≤◌, ◌≤ℤ◌, pos, neg_ℤ};
 
@@ -7,7 +7,8 @@ const MULTIPLIER: u64 = 6364136223846793005;
 
 const INCREMENT: u64 = 1442695040888963407;
 
-/// A stream of pseudo-random numbers. One seed gives the same numbers in every run, so all runs are alike. No proof rests on their values.
+/// A stream of pseudo-random numbers. One seed gives the same numbers in every run, so that a run can be repeated. No proof rests on their
+/// values.
 #[derive(Debug, Drop)]
 pub struct PseudoRandom {
     state: u64,

@@ -1,4 +1,5 @@
-//! Slots: the places of the variables that are not basic. Each such variable is at one end of its span. `table` uses this.
+//! Slots: the places of the variables that are not basic. Each such variable is at one end of its span. `table`, `candidates` and
+//! `combining` use this.
 
 ghost use Rattle.std.specs.Prelude.{◌≤◌, length};
 

@@ -13,7 +13,7 @@ use Rattle.proof_text.specs.Answers.{Reads, stopped}
 use Rattle.proof_text.specs.Progress.{IsClosedRight}
 use Rattle.define_additions.specs.ProofVerdict.{Proof}
 
--- if reading stops in a line, the stop is the result for the whole text
+-- if reading stops in a line, the stop is a right result for the whole text
 pub stops_at : (T : Type 0) (number : ℕ) (progress : Progress) (rest line later : List ℕ) → pieces_of rest ≡ line ∷ pieces_of later → (wanted : Result Proof Fault) →
     read_lines reader number progress (pieces_of rest) ≡ wanted → (stop : BuildStop) → Tells {T = T} (line_kind progress line) (Err stop) → (told : TextStop) → told ≡ stopped number stop → Reads wanted (Err told)
 stops_at T number progress rest line later parted wanted same stop tells told e = subst (λ said. Reads wanted (Err said)) (sym e) (by stop tells)

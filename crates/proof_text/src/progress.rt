@@ -39,7 +39,7 @@ pub(crate) enum Progress {
     InBundle(BundleProgress),
     /// Lines of a pool.
     InPool(PoolProgress),
-    /// A whole pool, and the line that there is no quota panel.
+    /// A whole pool, and the line that says that there is no quota panel.
     WithoutPanel(Pool),
     /// A whole bundle, whole trees, and the lines so far of the next tree.
     InTrees(Pool, Answer, Vec<TreeLines>, TreeLines),
@@ -47,7 +47,7 @@ pub(crate) enum Progress {
     InNoPanel(Pool, TreeLines),
     /// All lines, with the trees of a bundle.
     ClosedLottery(Pool, Answer, Vec<TreeLines>),
-    /// All lines, with the tree that there is no quota panel.
+    /// All lines, with the tree that is to show that there is no quota panel.
     ClosedNoPanel(Pool, TreeLines),
 }
 

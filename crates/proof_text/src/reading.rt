@@ -34,7 +34,7 @@ pub fn read_proof(alloc: Global, bytes: &[u8]) -> Result<Proof, TextStop>
     ensures spelled { IfOk result (λ proof. IsProof proof × (bytes.now ≡ proof_spelling proof)) }
     // A proof that is spelled by these bytes is read, unless memory runs out.
     ensures read { (proof : Words) → IsProof proof → bytes.now ≡ proof_spelling proof → Reads (Ok proof) result }
-    // A fault is the one that the definitions compute.
+    // The result is the proof or the fault that the definitions compute, unless memory runs out.
     ensures exact { Reads (read bytes.now) result }
 {
     read_lines(alloc, bytes)
@@ -91,7 +91,7 @@ fn last(progress: Progress, line: usize, unread: &[u8]) -> Result<Proof, TextSto
     }
 }
 
-/// Returns the proof of the bundle of `pool` and `answer` by the trees.
+/// Returns the proof of the bundle of `pool` and `answer` that has these trees.
 fn lottery_proof(pool: Pool, answer: Answer, trees: Vec<TreeLines>) -> Proof
     requires { IsProof (OfLottery pool answer trees.items) }
     ensures { result ≡ OfLottery pool answer trees.items }

@@ -19,7 +19,7 @@ use proof_model::{Leaf, Multiplier, Node, Parts, Proof, TreeLine, TreeLines};
 use std::alloc::{AllocError, Global};
 use text_lines::{end_line, push_line, push_number, push_signed};
 
-/// Returns the text of the proof. If it is read, the result is the same proof.
+/// Returns the text of the proof. Reading this text returns the same proof.
 pub fn write_proof(alloc: Global, proof: &Proof) -> Result<Vec<u8>, AllocError>
     ensures spelled { IfOk result (λ bytes. bytes.items ≡ proof_spelling proof.now) }
     ensures read { IfOk result (λ bytes. read_proof bytes.items ≡ Ok proof.now) }

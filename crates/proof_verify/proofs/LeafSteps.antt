@@ -62,7 +62,7 @@ module _ (problem : Problem) (leaf : Leaf) where
         ltb-true m.number (length problem.constraints)
         (each_at P leaf.multipliers k m (each_from_list_all (λ it. ltb it.number (length problem.constraints)) leaf.multipliers known) below at)
 
-    -- if the problem is within reach and the leaf in its ranges, the product and the charge of multiplier `k` are below 2^127 without signs
+    -- if the problem is within reach and the leaf in its ranges, product and charge of multiplier `k` are below 2^127 by absolute value
     pub narrow_at : (i : ℕ) → is_problem_in_reach problem ≡ true → is_leaf leaf ≡ true →
         (unsigned_abs (multiplied problem.constraints i m) < 2 ^ 127) × (unsigned_abs (charge problem.constraints m) < 2 ^ 127)
     narrow_at i near is =

@@ -54,7 +54,7 @@ fn constraint_of(constraints: &[Constraint], number: usize) -> &Constraint
     &constraints[number]
 }
 
-/// True if the leaf shows the cap for the panels that keep the standings: everybody seated is in, nobody gone is.
+/// True if the leaf shows the cap for the panels that keep the standings: they have everyone who is seated and no one who is gone.
 pub(crate) fn leaf_shows(problem: &Problem, standings: &[Standing], leaf: &Leaf) -> bool
     requires near { IsTrue (is_problem_in_reach problem.now) }
     requires leaf { IsTrue (is_leaf leaf.now) }
@@ -111,7 +111,7 @@ fn charges(problem: &Problem, leaf: &Leaf) -> i128
     charges
 }
 
-/// Returns a multiplier's charge: the most that a panel's sum times the factor can be.
+/// Returns a multiplier's charge: the most that a sum within the constraint's bounds, times the factor, can be.
 fn charge(problem: &Problem, multiplier: &Multiplier) -> i128
     requires known { multiplier.now.number < length problem.now.constraints }
     requires narrow { unsigned_abs (charge_of problem.now.constraints multiplier.now) < 2 ^ 127 }

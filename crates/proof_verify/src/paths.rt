@@ -1,5 +1,5 @@
 //! A path of decisions in a tree, with the standings of all volunteers where it leads. Decisions set standings, and going back resets them.
-//! `trees` walks by this.
+//! `trees` walks through a tree along such a path.
 
 ghost use Rattle.std.specs.Prelude.{◌≡◌, [], IfOk, IsTrue, OnOk, map};
 ghost use Rattle.define_additions.specs.Trees.{is_open as is_open_one, is_undecided as is_undecided_of};
@@ -69,7 +69,7 @@ impl<'a> Model for Path<'a> {
 }
 
 impl<'a> Path<'a> {
-    /// Begins at a tree's first line.
+    /// Returns the path to a tree's first line, which has no decision.
     pub(crate) fn begin(alloc: Global, pool: &'a Pool) -> Result<Path<'a>, AllocError>
         ensures { IfOk result (λ path. path ≡ record { pool = pool.now; decisions = [] }) }
     {

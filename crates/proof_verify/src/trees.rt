@@ -1,5 +1,5 @@
-//! The walk through the lines of a tree, which finds the first that is not the next line of a tree, or whose multipliers do not show the
-//! cap. Stands on `paths` and `leaves`; `verifying` calls `tree_fault`.
+//! The walk through the lines of a tree, which finds the first fault: a line that can't come next, a leaf whose multipliers do not show the
+//! cap, or that the lines end before the tree is complete. Stands on `paths` and `leaves`; `verifying` calls `tree_fault`.
 
 ghost use Rattle.std.specs.Prelude.{◌≡◌, IfOk, IsTrue, OnOk, length, true, Ok, Err};
 ghost use Rattle.std.specs.List.{list_all};
@@ -17,10 +17,10 @@ use proof_model::{Leaf, Node, TreeLine};
 use std::alloc::{AllocError, Global};
 use std::marker::Model;
 
-/// The reason of a line that is not the next one of a tree.
+/// The reason to refuse a tree if a line can't come next in it, the lines end before it is complete, or a line follows its end.
 const NO_NEXT_LINE: u8 = 11;
 
-/// The reason of a leaf whose multipliers do not show the cap.
+/// The reason to refuse a leaf whose multipliers do not show the cap.
 const SHOWS_NO_CAP: u8 = 12;
 
 /// The number of a line, and the reason why it is refused.

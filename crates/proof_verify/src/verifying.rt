@@ -27,11 +27,11 @@ use pool_model::{Answer, Pool, Stage, Volunteer};
 use proof_model::{Parts, Proof, TreeLine, TreeLines};
 use std::alloc::{AllocError, Global};
 
-/// The greatest reach of a stage, which is the sum of its cap and weights without signs: 2^56.
+/// The greatest reach of a stage, which is the sum of the absolute values of its cap and weights: 2^56.
 const MAX_REACH: u128 = 72_057_594_037_927_936;
 
-/// Returns whether a proof is valid, or why it is refused. The lottery of a valid proof is leximin greatest, and a pool with a valid proof
-/// that it has no quota panel has none.
+/// Returns whether a proof is valid, or why it is refused. The lottery of a valid proof is leximin greatest. If a valid proof says that a
+/// pool has no quota panel, it has none.
 pub fn verify(alloc: Global, proof: &Proof) -> Result<Verdict, AllocError>
     ensures answer { IfOk result (λ verdict. verdict ≡ verdict_of proof.now) }
     ensures greatest { IfOk result (λ verdict. verdict ≡ Valid → (pool : SeenPool) (answer : SeenAnswer) (trees : List (List SeenLine)) →

@@ -1,4 +1,4 @@
--- Whether a panel keeps the standings, over volunteers or over their standings, and is a selection.
+-- An increasing list of a pool's volunteers keeps the volunteers' standings exactly if it is a selection.
 use Rattle.std.proofs.Common.{◌≡◌, ℕ, ◌+◌, true, ◌&&◌, nat_lt, List, [], ◌∷◌, length, map, refl, sym, ap, ◌∙◌}
 use Rattle.std.specs.List.{enumerate_from, list_all}
 use Rattle.std.proofs.lemmas.Bool.{and_from}

@@ -19,7 +19,7 @@ one_more f xs k d l =
 pub all_read : {X : Type 0} (f : ℕ × X → ℕ) (xs : List X) (k : ℕ) → length xs ≤ k → sum_by f (take k (enumerate_from 0 xs)) ≡ sum_by f (enumerate_from 0 xs)
 all_read f xs k l = let many = length-enumerate_from 0 xs in ap (sum_by f) (take_all k (enumerate_from 0 xs) (omega (arith, many, l)))
 
--- a sum that is returned where it fits is that sum
+-- let a call return `sum` if it fits, and else None. If it returns a number, the number is `same`, which equals `sum`
 pub sum_returned : (returned : Option ℕ) (Fits : Type 0) (sum same : ℕ) → SomeIff returned Fits sum → sum ≡ same → IfSome returned (λ n. n ≡ same)
 sum_returned None Fits sum same h e = tt
 sum_returned (Some n) Fits sum same h e = h.1 ∙ e

@@ -9,12 +9,12 @@ use Rattle.proof_limits.specs.declared.stops.ProveStop.TheVariants.{Wide, Beyond
 use Rattle.quota_conflicts.specs.declared.answers.Explanation.{Explanation}
 use Rattle.quota_conflicts.specs.declared.answers.Explanation.TheVariants.{Panel, Conflict}
 
--- a panel is a quota panel of the pool, a conflict is one of its quotas
+-- an explanation that is a panel is a quota panel of the pool; one that is a conflict is a conflict of the pool's quotas
 abbrev pub IsExplanation : Pool → Explanation → Type 0
 IsExplanation pool (Panel panel) = IsTrue (is_quota_panel pool panel)
 IsExplanation pool (Conflict conflict) = IsConflict pool conflict
 
--- the stops of a search: an operation passes 2^62, a limit is spent, so that nothing of it is left, the search is lost, or memory runs out
+-- the stops of a search: an operation passes 2^62, no pivot is left, no node is left, the search is lost, or memory runs out
 abbrev pub StopsSo : Left → ProveStop → Type 0
 StopsSo left (Wide pass) = Unit {0}
 StopsSo left BeyondWidth = ⊥

@@ -1,4 +1,4 @@
--- By how many people a tree shows that selections miss quotas: by 1 if it shows no more.
+-- By how many people at least each selection misses quotas, as a tree shows it: by `least`, or by 1 if there is no `least`.
 use Rattle.std.specs.Prelude.{◌≤◌, ℕ, List, Option, unwrap_or}
 use Rattle.define_conflicts.specs.Quotas.{MissBy}
 use Rattle.define_conflicts.specs.declared.Quota.{Quota}

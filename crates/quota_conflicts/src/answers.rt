@@ -17,7 +17,7 @@ use proof_limits::{Budget, Limit, ProveStop};
 use proof_model::TreeLine;
 use std::alloc::{AllocError, Global};
 
-/// Why a pool has no quota panel, or that it has one.
+/// A quota panel of a pool, or quotas that explain why there is none.
 #[derive(Debug, Drop)]
 pub enum Explanation {
     /// A quota panel.
@@ -27,8 +27,8 @@ pub enum Explanation {
 }
 
 /// Returns a quota panel of a pool, or quotas of it that can't be met together, within a budget. `tree` is the tree of a proof that there
-/// is no quota panel, or has no lines; if it is right, the quotas are among those that it uses. Stops if a limit is spent, an operation
-/// passes 2^62, the search is lost, or memory runs out.
+/// is no quota panel, or has no lines. If the tree is right, the quotas are among those that it uses. Stops if a limit is spent, an
+/// operation passes 2^62, the search is lost, or memory runs out.
 pub fn why(
     alloc: Global,
     pool: &Pool,
@@ -45,8 +45,8 @@ pub fn why(
     }
 }
 
-/// Returns a stop as it is reported: as lost if an entry passed a width below 2^62, or if pivots or nodes are left although the stop says
-/// that they are spent.
+/// Returns a stop as it is reported: as lost if an entry passed a width below 2^62, if pivots or nodes are left although the stop says
+/// that they are spent, or if the stop is `Spent(Lottery)`, as no lottery is sought here.
 pub fn reported(stop: ProveStop, budget: &Budget) -> ProveStop
     ensures { StopsSo budget.now result }
 {
@@ -102,7 +102,8 @@ fn all_bounds(alloc: Global, constraints: usize) -> Result<Vec<Kept>, AllocError
     Ok(all)
 }
 
-/// Returns the conflict of a tree's lines, after bounds were dropped while the rest stayed refuted.
+/// Drops bounds from those that a tree's lines use, as long as the rest is still refuted, and returns the conflict of the bounds that are
+/// left. Stops as lost if the lines don't show it.
 fn shrunk_conflict(
     alloc: Global,
     pool: &Pool,
@@ -132,7 +133,7 @@ fn shrunk_conflict(
     }
 }
 
-/// Returns the conflict of the bounds that the lines use, or None if they don't show it.
+/// Returns the conflict of the bounds that the lines use, or None if the lines don't show that it is a conflict.
 fn conflict_of(
     alloc: Global,
     pool: &Pool,

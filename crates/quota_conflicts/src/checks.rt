@@ -1,5 +1,5 @@
 //! A conflict, checked: its quotas are the pool's, a tree shows that each selection misses them, and witnesses show that each is needed.
-//! Stands on `covers`, `misses` and `needs`; `answers` and `shrinking` use this.
+//! Stands on `covers`, `misses`, `needs` and `quotas`; `answers` and `texts` use this.
 
 ghost use Rattle.std.specs.Prelude.{◌≡◌, IfOk, IfSome};
 ghost use Rattle.std.specs.List.{list_all};
@@ -50,7 +50,7 @@ impl Conflict {
         &self.quotas
     }
 
-    /// Returns by how many people each selection misses the quotas at least, if more is known than that it misses them.
+    /// Returns a number of people by which each selection misses the quotas at least, or None if it is only known that each misses them.
     pub fn least_miss(&self) -> Option<usize>
         ensures { result ≡ self.now.least_miss }
     {
@@ -92,8 +92,8 @@ fn are_quotas_of(pool: &Pool, quotas: &[Quota]) -> bool
     quotas.iter().all(|quota| is_quota_of(pool, *quota))
 }
 
-/// Returns what the tree shows: by how many people each selection misses the quotas, if it is one leaf; None inside if it shows only that
-/// each misses them; None if it doesn't show that.
+/// Returns what the tree shows: `Some(Some(n))` if it is one leaf that shows that each selection misses the quotas by at least `n` people,
+/// `Some(None)` if it is no single leaf and shows that each selection misses them, else None.
 fn shown_miss(
     alloc: Global,
     pool: &Pool,

@@ -1,5 +1,5 @@
-//! Whether a tree of splits shows that each selection misses some quotas: each split is on a volunteer, with both parts below it, and each
-//! leaf has weights of the quotas by which they ask for more than can be given. `checks` uses `covers`.
+//! Whether a tree of splits shows that each selection misses some quotas. Each split is on a volunteer, and both parts below it must show
+//! it. Each leaf has weights for the quotas, by which they ask for more than selections can give. `checks` uses `covers`.
 
 ghost use Rattle.std.specs.Bool.{OnTrue};
 ghost use Rattle.std.specs.Prelude.{◌≡◌, ◌<◌, length, slice_set, IfOk, IfSome, map};
@@ -44,8 +44,8 @@ pub fn standings(alloc: Global, volunteers: &[Volunteer]) -> Result<Vec<Standing
         .collect(alloc)
 }
 
-/// Returns the place after the tree that begins at a place, if the tree shows that each selection that keeps the standings misses the
-/// quotas.
+/// Returns the place after the tree that begins at place `at`, if this tree shows that each selection that keeps the standings misses the
+/// quotas, else None.
 fn end_of_tree(
     alloc: Global,
     pool: &Pool,
@@ -81,7 +81,7 @@ fn end_of_tree(
     }
 }
 
-/// True if by these weights each selection that keeps the standings misses the quotas.
+/// True if these weights show that each selection that keeps the standings misses the quotas.
 fn leaf_misses(
     alloc: Global,
     pool: &Pool,
@@ -96,7 +96,7 @@ fn leaf_misses(
     Ok(least_miss(pool, &weighted, standings).is_some())
 }
 
-/// Returns the quotas with their weights. If there are too few weights, the others are 0.
+/// Returns the quotas with their weights. If there are too few weights, the last quotas have weight 0.
 pub(crate) fn weighted(
     alloc: Global,
     quotas: &[Quota],
@@ -114,7 +114,7 @@ pub(crate) fn weighted(
     Ok(weighted)
 }
 
-/// Returns the standings, with another one for volunteer `i`.
+/// Returns the standings, with `standing` for volunteer `i`, if there is one.
 pub fn with_standing(
     alloc: Global,
     standings: &[Standing],

@@ -1,5 +1,6 @@
 //! The bounds that a search keeps, as numbered constraints with a side, and whom the constraints of a pool count. The numbers are those of
-//! a proof's first stage: 0 the size, then the values, then the shared households. No promise: `checks` decides.
+//! a proof's first stage: 0 the size, then the values, then the shared households. No contract promises that the bounds are a conflict:
+//! `checks` finds that out.
 
 use define_conflicts::{Counted, Quota, Side};
 use pool_model::{Category, Pool, share_household};
@@ -8,7 +9,7 @@ use std::alloc::{AllocError, Global};
 /// The number of the size's constraint.
 pub(crate) const SIZE: usize = 0;
 
-/// A side of a numbered constraint.
+/// A bound: the number of a constraint, and which of its two sides is meant.
 #[derive(Clone, Copy, Debug)]
 pub(crate) struct Kept {
     pub(crate) number: usize,
@@ -56,7 +57,7 @@ fn is_first_member(pool: &Pool, member: usize) -> bool {
     is_shared
 }
 
-/// Returns the quotas of the kept bounds. Leaves out one whose number is no constraint's.
+/// Returns the quotas of the kept bounds. Leaves out bounds whose number is that of no constraint.
 pub(crate) fn quotas_of(
     alloc: Global,
     counted: &[Counted],
@@ -74,7 +75,7 @@ pub(crate) fn quotas_of(
     Ok(quotas)
 }
 
-/// True if the side of the constraint is among the kept ones.
+/// True if the bound of constraint `number` on this side is among the kept bounds.
 pub(crate) fn is_kept(kept: &[Kept], number: usize, side: Side) -> bool {
     kept.iter().any(|own| own.number == number && is_least(own.side) == is_least(side))
 }

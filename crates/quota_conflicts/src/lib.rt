@@ -2,9 +2,10 @@
 //! `prove` (`proof_branching`, `proof_program`, `proof_stages`, `proof_table`, `proof_limits`), which searches, on `pool_model` and
 //! `proof_model`, and on the definitions of `define_conflicts`. `command_why` stands on it, and `loosening_by_proof` on its sums.
 //!
-//! Promises: what `why` returns is checked by this crate itself, by adding and comparing whole numbers (`misses`, `covers`). So a conflict
-//! is one, whatever the search did, and a panel is a quota panel. `conflict_text` writes exactly the text of a conflict. Which of several
-//! conflicts is found is no promise. `asked` and `given` are exactly the sums of the definitions if they fit.
+//! Promises: what `why` returns is checked by this crate itself, by adding and comparing whole numbers (`misses`, `covers`). So whatever
+//! the search did, a conflict is right, and a panel is a quota panel. `conflict_text` writes exactly the text of a conflict. Which of
+//! several conflicts is found is no promise. `asked` and `given` are exactly the sums of the definitions if they fit. All that is promised
+//! of `counted_by_number` and `selection_of`, which serve searches, is that they are safe.
 #![tactic(auto)]
 
 mod answers;
@@ -25,6 +26,7 @@ pub use checks::Conflict;
 pub use covers::{standings, with_standing};
 pub use define_conflicts::{Counted, Quota, Side};
 pub use kept::counted_by_number;
-pub use misses::{asked, given, greatest_weight};
+pub use misses::{asked, given, greatest_weight, times_below};
 pub use searches::selection_of;
+pub use selections::{are_below, keep_standings};
 pub use texts::conflict_text;

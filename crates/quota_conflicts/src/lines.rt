@@ -1,5 +1,5 @@
 //! The lines of a tree that refutes a pool's constraints: splits, and leaves with multipliers of numbered constraints. They come from a
-//! proof or from the steps of a search. No promise: `checks` decides.
+//! proof or from the steps of a search. No contract promises that the lines refute anything: `checks` finds that out.
 
 use crate::covers::Node;
 use crate::kept::{Kept, is_kept, is_least};
@@ -13,7 +13,7 @@ use std::alloc::{AllocError, Global};
 pub(crate) enum Line {
     /// A split on the volunteer of this number.
     Split(usize),
-    /// A leaf: numbers of constraints with their factors. A factor above 0 is of the constraint's greatest number, else of its least.
+    /// A leaf: numbers of constraints with their factors. A factor above 0 is for the constraint's upper bound, one below 0 for its lower.
     Leaf(Vec<(usize, i128)>),
 }
 
@@ -35,8 +35,8 @@ pub(crate) fn lines_of_tree(alloc: Global, tree: &[TreeLine]) -> Result<Vec<Line
     Ok(lines)
 }
 
-/// Returns the lines of a search's steps, whose columns are volunteers, with the multipliers of kept bounds alone. A bound that isn't kept
-/// is 0 or above all numbers in the search, so a leaf shows the same without its multiplier.
+/// Returns the lines of a search's steps, whose columns are volunteers, with the multipliers of kept bounds alone. In the search a bound
+/// that isn't kept is 0 or above all numbers, so a leaf shows the same without the bound's multiplier.
 pub(crate) fn lines_of_steps(
     alloc: Global,
     steps: Vec<Step>,
@@ -108,7 +108,8 @@ fn is_used(lines: &[Line], own: Kept) -> bool {
     false
 }
 
-/// Returns the weight of a bound in a leaf: the factor's absolute value, or 0 if the leaf has none for this side, or a too great one.
+/// Returns the weight of a bound in a leaf: the absolute value of its factor. Returns 0 if the leaf has no factor for this side, or if the
+/// absolute value doesn't fit `usize`.
 fn weight_of(multipliers: &[(usize, i128)], own: Kept) -> usize {
     for (number, factor) in multipliers {
         if *number == own.number && is_least(side_of(*factor)) == is_least(own.side) {

@@ -1,5 +1,5 @@
 //! What weighted quotas ask for and what can be given, and so by how many people each selection misses them at least. Whole numbers of at
-//! least 0 are multiplied, added and compared; a sum that doesn't fit its type answers None. `covers` and `checks` use `least_miss`.
+//! least 0 are multiplied, added and compared. If a sum doesn't fit its type, the result is None. `covers` and `checks` use `least_miss`.
 
 ghost use Rattle.std.specs.Prelude.{◌≡◌, ◌≤◌, ◌<◌, ◌*◌, length, nat_le, IfSome, IsTrue};
 ghost use Rattle.std.specs.List.{list_all};
@@ -10,8 +10,8 @@ use crate::quotas::{bound, counts};
 use define_conflicts::{Side, WeightedQuota, asking_more_misses};
 use pool_model::{Pool, Standing};
 
-/// Returns by how many people each selection that keeps the standings misses the quotas at least, if that is shown by the weights: what is
-/// asked for beyond what can be given, over the greatest weight, rounded up.
+/// Returns a number of people by which each selection that keeps the standings misses the quotas at least: what is asked less what can be
+/// given, over the greatest weight, rounded up. Returns None if no more is asked than can be given, or if a sum doesn't fit.
 pub(crate) fn least_miss(
     pool: &Pool,
     weighted: &[WeightedQuota],
@@ -28,11 +28,11 @@ pub(crate) fn least_miss(
         return None;
     }
     let greatest = greatest_weight(weighted);
-    Some(rounds(asked - given, greatest) + 1)
+    Some(times_below(asked - given, greatest) + 1)
 }
 
-/// Returns how many times `greatest` is less than `more`.
-fn rounds(more: usize, greatest: usize) -> usize
+/// Returns the greatest number `times` with `greatest * times < more`.
+pub fn times_below(more: usize, greatest: usize) -> usize
     requires some { 1 ≤ more }
     requires greatest { 1 ≤ greatest }
     ensures less { greatest * result < more }
@@ -41,7 +41,7 @@ fn rounds(more: usize, greatest: usize) -> usize
     (more - 1) / greatest
 }
 
-/// Returns a number from 1 on that no weight passes: the greatest weight, or 1.
+/// Returns the greatest weight, or 1 if all weights are 0.
 pub fn greatest_weight(weighted: &[WeightedQuota]) -> usize
     ensures light { IsTrue (list_all (λ it. nat_le it.weight result) weighted.now) }
     ensures some { 1 ≤ result }
@@ -66,7 +66,7 @@ pub fn asked(pool: &Pool, weighted: &[WeightedQuota], standings: &[Standing]) ->
     weighed_bounds(pool, Side::AtLeast, weighted)?.checked_add(taken)
 }
 
-/// Returns what a selection that keeps the standings can give, or None if that doesn't fit.
+/// Returns the most that a selection that keeps the standings can give, or None if that doesn't fit.
 pub fn given(pool: &Pool, weighted: &[WeightedQuota], standings: &[Standing]) -> Option<usize>
     requires { length standings.now ≡ length pool.now.volunteers }
     ensures { IfSome result (λ sum. sum ≡ given_of pool.now weighted.now standings.now) }
@@ -80,7 +80,7 @@ pub fn given(pool: &Pool, weighted: &[WeightedQuota], standings: &[Standing]) ->
     weighed_bounds(pool, Side::AtMost, weighted)?.checked_add(all)
 }
 
-/// Returns what a volunteer takes from every selection, given the weights of the quotas with greatest numbers that count them.
+/// Returns what a volunteer takes from every selection. `most` is the sum of the weights of the `AtMost` quotas that count the volunteer.
 fn taken_by(standing: Standing, most: usize) -> usize
     ensures { result ≡ taken_by_one standing most }
 {
@@ -90,7 +90,8 @@ fn taken_by(standing: Standing, most: usize) -> usize
     }
 }
 
-/// Returns the most that a volunteer gives to a selection.
+/// Returns the most that a volunteer gives to a selection. `least` and `most` are the sums of the weights of the `AtLeast` and of the
+/// `AtMost` quotas that count the volunteer.
 fn given_by(standing: Standing, least: usize, most: usize) -> usize
     ensures { result ≡ given_by_one standing least most }
 {
@@ -112,7 +113,7 @@ fn weighed_bounds(pool: &Pool, side: Side, weighted: &[WeightedQuota]) -> Option
     Some(sum)
 }
 
-/// Returns the bound of a quota of this side, times its weight; 0 for one of the other side.
+/// Returns a quota's bound times its weight, or 0 if the quota isn't of this side.
 fn weighed_bound(pool: &Pool, side: Side, it: &WeightedQuota) -> Option<usize>
     ensures { IfSome result (λ product. product ≡ weighed_bound_of pool.now side it.now) }
 {

@@ -1,5 +1,5 @@
-//! Whether each quota of a conflict is needed: for each, a witness is a selection that meets all others, and has the panel's size if no
-//! quota is of the size. `checks` uses `each_needed`.
+//! Whether each quota of a conflict is needed. A witness that a quota is needed is a selection that meets all other quotas, and has the
+//! panel's size if no quota is of the size. `checks` uses `each_needed`.
 
 ghost use Rattle.std.specs.Bool.{OnTrue};
 ghost use Rattle.std.specs.Prelude.{◌≡◌, ◌<◌, ◌==◌, ◌||◌, IfOk, IsTrue, length};
@@ -29,7 +29,8 @@ pub(crate) fn each_needed(
     Ok(true)
 }
 
-/// True if one of the witnesses meets all quotas but the one at this place, and has the panel's size if no quota is of the size.
+/// True if one of the witnesses is a selection that meets all quotas other than the one at this place, and has the panel's size if no quota
+/// is of the size.
 fn is_needed(
     alloc: Global,
     pool: &Pool,

@@ -1,5 +1,5 @@
-//! Quotas of a pool in code: whom they count, their bounds, and by how many people a selection misses them. All other modules that check
-//! use this.
+//! Quotas of a pool in code: whom they count, their bounds, and by how many people a selection misses them. `checks`, `misses`, `needs` and
+//! `texts` use this.
 
 ghost use Rattle.std.specs.Prelude.{◌≡◌, ◌<◌, count_by, length, nat_lt, IsTrue, slice_index};
 ghost use Rattle.std.specs.List.{list_all};

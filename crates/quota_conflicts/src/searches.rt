@@ -1,5 +1,5 @@
-//! Searches for a selection that meets the kept bounds, over classes of alike volunteers; or a tree that shows that there is none. Stands
-//! on the engine of `prove`. Promises: the budget that is spent, and the stops.
+//! Searches over classes of alike volunteers: for a selection that meets the kept bounds, or a tree that shows that there is none. Stands
+//! on the engine of `prove`. Promise: nothing of the budget is given back.
 
 ghost use Rattle.std.specs.Prelude.{◌≡◌, IfOk, length};
 ghost use Rattle.proof_limits.specs.Budgets.{SpendsOn};
@@ -16,7 +16,7 @@ use proof_stages::table_of;
 use proof_table::Table;
 use std::alloc::{AllocError, Global};
 
-/// The greatest number that a span has whose greatest number isn't kept. No pool has more volunteers.
+/// The greatest number of a row's span if the row's upper bound isn't kept. No pool has more volunteers.
 const MOST: u32 = 999;
 
 /// A program of a pool with its table, for one search after another.
@@ -29,11 +29,11 @@ pub(crate) struct Search {
 /// What a search found.
 #[derive(Debug, Drop)]
 pub(crate) enum Tried {
-    /// A selection that meets the kept bounds, if the table was right.
+    /// A selection that meets the kept bounds, if the table computed right.
     Met(Panel),
-    /// A tree that shows that there is none, if the table was right.
+    /// A tree that shows that no selection meets the kept bounds, if the table computed right.
     Refuted(Vec<Line>),
-    /// Neither, within the nodes that the search may look at.
+    /// Neither was found, and the search may look at no further node.
     Doubt,
 }
 
@@ -58,7 +58,8 @@ impl Search {
         Ok(Search { program, table })
     }
 
-    /// Looks for a selection that meets the kept bounds, at no more than `most` nodes.
+    /// Looks for a selection that meets the kept bounds, at no more than `most` nodes. If there is none, makes a tree that shows this; only
+    /// the budget limits the nodes at which the tree is made.
     pub(crate) fn try_kept(
         &mut self,
         alloc: Global,
@@ -86,7 +87,8 @@ impl Search {
         }
     }
 
-    /// Looks for a selection that meets the kept bounds, at no more than `most` nodes, and makes no tree if there is none.
+    /// Looks for a selection that meets the kept bounds, at no more than `most` nodes. Returns None if there is none, or if none was found
+    /// at these nodes.
     pub(crate) fn selection(
         &mut self,
         alloc: Global,
@@ -130,7 +132,7 @@ impl Search {
         single.tree(alloc, kept, budget)
     }
 
-    /// Returns the lines of the tree that shows that no point meets the kept bounds. Stops as lost if there is one.
+    /// Returns the lines of the tree that shows that no whole point meets the kept bounds. Stops as lost if one meets them.
     fn tree(
         &mut self,
         alloc: Global,
@@ -150,7 +152,7 @@ impl Search {
     }
 }
 
-/// Returns the spans of the rows: from 0 if the least number isn't kept, to `MOST` if the greatest one isn't.
+/// Returns the spans of the rows. A span begins at 0 if the row's lower bound isn't kept, and ends at `MOST` if its upper bound isn't.
 fn kept_spans(alloc: Global, program: &Program, kept: &[Kept]) -> Result<Vec<Span>, AllocError>
     ensures { IfOk result (λ spans. length spans.items ≡ length program.now.rows) }
 {

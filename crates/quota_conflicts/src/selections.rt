@@ -18,13 +18,15 @@ pub(crate) fn is_selection(pool: &Pool, panel: &Panel) -> bool
     are_below(members, pool.volunteers().len()) && keep_standings(pool.volunteers(), members)
 }
 
-fn are_below(members: &[usize], count: usize) -> bool
+/// True if each member's number is below `count`.
+pub fn are_below(members: &[usize], count: usize) -> bool
     ensures { result ≡ list_all (λ i. nat_lt i count) members.now }
 {
     members.iter().all(|i| *i < count)
 }
 
-fn keep_standings(volunteers: &[Volunteer], members: &[usize]) -> bool
+/// True if the members include everyone who is seated and no one who is gone.
+pub fn keep_standings(volunteers: &[Volunteer], members: &[usize]) -> bool
     ensures { result ≡ keeps_standings volunteers.now members.now }
 {
     volunteers.iter().enumerate().all(|(i, volunteer)| permits(

@@ -1,4 +1,5 @@
-//! Fewer quotas: each bound of a refuted list is dropped in turn while the rest stays refuted. Stands on `searches`; `answers` uses this.
+//! Fewer quotas: tries to drop each bound in turn from a list of bounds that no selection meets. A bound is dropped if a search shows that
+//! no selection meets the rest either. Stands on `searches`; `answers` uses this.
 
 ghost use Rattle.proof_limits.specs.Budgets.{SpendsOn};
 ghost use Rattle.quota_conflicts.specs.Searches.{IsSearch};
@@ -14,12 +15,12 @@ use std::alloc::{AllocError, Global};
 /// The most bounds that are tried. A pool has at most 1,401 constraints before its first stage, each with two bounds.
 const MOST_TRIES: usize = 2802;
 
-/// The most nodes at which a search for a selection without one bound looks.
+/// The most nodes at which a search looks for a selection that meets all bounds but one.
 const MOST_NODES: u64 = 400;
 
-/// Returns the lines of a tree that uses as few bounds as were found, and adds to `witnesses` selections that meet all but one of them. If
-/// the size isn't among the bounds, selections of the panel's size are looked for too.
-/// Stops early, with what it has, if the budget is spent or a search stops otherwise. The error is want of memory.
+/// Returns the lines of a tree that uses as few bounds as the searches find, and adds to `witnesses` selections that meet all of these
+/// bounds but one. If the size isn't among the bounds, also looks for selections of the panel's size.
+/// If the budget is spent or a search stops for another reason, returns the lines found so far. Fails only if memory runs out.
 pub(crate) fn shrunk(
     alloc: Global,
     pool: &Pool,
@@ -55,8 +56,8 @@ pub(crate) fn shrunk(
     Ok(lines)
 }
 
-/// Adds a selection of the panel's size that meets the kept bounds, if the size isn't among them and one is found. The error is want of
-/// memory; a search that stops otherwise adds nothing.
+/// Adds a selection of the panel's size that meets the kept bounds, if the size isn't among these and a selection is found. If the search
+/// stops early, adds nothing. Fails only if memory runs out.
 fn push_of_size(
     alloc: Global,
     search: &mut Search,

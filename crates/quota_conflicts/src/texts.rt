@@ -1,4 +1,4 @@
-//! The text of a conflict: a line for each quota, by how much they are missed, and whether each is needed.
+//! The text of a conflict: a line for each quota, then by how many people the quotas are missed, and then whether each is needed.
 
 ghost use Rattle.std.specs.Prelude.{◌≡◌, ◌<◌, ◌&&◌, ◌++◌, length, IfOk, OnOk};
 ghost use Rattle.std.specs.Fmt.{decimal};
@@ -99,7 +99,7 @@ fn push_side(text: &mut Vec<u8>, side: Side) -> Result<(), AllocError>
     }
 }
 
-/// Returns how many volunteers whom a quota counts aren't gone.
+/// Returns how many of the volunteers whom a quota counts aren't gone.
 fn available(pool: &Pool, counted: Counted) -> usize
     ensures { result ≡ available_of pool.now counted }
 {
@@ -112,7 +112,7 @@ fn available(pool: &Pool, counted: Counted) -> usize
     number
 }
 
-/// Returns how many volunteers whom a quota counts are seated.
+/// Returns how many of the volunteers whom a quota counts are seated.
 fn seated(pool: &Pool, counted: Counted) -> usize
     ensures { result ≡ seated_of pool.now counted }
 {
@@ -125,7 +125,7 @@ fn seated(pool: &Pool, counted: Counted) -> usize
     number
 }
 
-/// True if a quota counts volunteer `i`, who isn't gone.
+/// True if a quota counts volunteer `i` and the volunteer isn't gone.
 fn is_counted_available(pool: &Pool, counted: Counted, i: usize) -> bool
     requires { i < length pool.now.volunteers }
     ensures { result ≡ (counts_of pool.now counted i && is_available_one (volunteer pool.now.volunteers i).standing) }
@@ -133,7 +133,7 @@ fn is_counted_available(pool: &Pool, counted: Counted, i: usize) -> bool
     counts(pool, counted, i) && is_available(pool.volunteers()[i].standing())
 }
 
-/// True if a quota counts volunteer `i`, who is seated.
+/// True if a quota counts volunteer `i` and the volunteer is seated.
 fn is_counted_seated(pool: &Pool, counted: Counted, i: usize) -> bool
     requires { i < length pool.now.volunteers }
     ensures { result ≡ (counts_of pool.now counted i && is_seated_one (volunteer pool.now.volunteers i).standing) }

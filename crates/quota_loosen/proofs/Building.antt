@@ -22,7 +22,7 @@ new_among (first ∷ before) name later h =
     let other = same_bytes_comm name first ∙ here.0 in
     let rest = new_among before name later parts.1 in rw (other, rest) refl
 
--- a list, parted at a place
+-- a list is its elements before a place, the element at the place, and those after it
 parted : {X : Type 0} (xs : List X) (i : ℕ) (d : X) → i < length xs → take i xs ++ get_or xs i d ∷ drop (suc i) xs ≡ xs
 parted [] i d h = absurd (omega arith)
 parted (x ∷ xs) zero d h = refl
@@ -35,7 +35,7 @@ new_at f xs i d h inside =
     new_among (map f (take i xs)) (f x) (map f (drop (suc i) xs))
     (ap all_different (sym (map-append f (take i xs) (x ∷ drop (suc i) xs))) ∙ (ap (λ all. all_different (map f all)) (parted xs i d inside) ∙ h))
 
--- ---- a category
+-- ---- a category that is added has no kind of fault
 
 pub category_is_new : (size : ℕ) (categories : List Category) (i : ℕ) (d : Category) → length categories ≤ 20 → all_different (category_names categories) ≡ true → list_all is_category categories ≡ true → i < length categories →
     category_kind (record { size = size; categories = take i categories; volunteers = [] }) (get_or categories i d).name ≡ None
@@ -50,7 +50,7 @@ category_is_new size categories i d few different each inside =
     let few : leb 20 (length (take i categories)) ≡ false = lt-leb 20 (length (take i categories)) (omega (arith, length-take i categories)) in
     rw (new, limits, few) refl
 
--- ---- a value
+-- ---- a value that is added has no kind of fault, and the pool after it
 
 last_values-push : (categories : List Category) (category : Category) → last_values (categories ++ category ∷ []) ≡ category.values
 last_values-push [] category = refl

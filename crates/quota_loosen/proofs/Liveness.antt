@@ -1,4 +1,5 @@
--- What a tally says of the front that it tracks: whether the size can still be had, and what the front surely costs.
+-- What a tally says of the front that it tracks: whether the panel's size can still be reached, and the front's sure cost, which all counts
+-- that begin with it cost at least.
 use Rattle.std.proofs.Common.{suc, zero, ◌≡◌, ℕ, ◌+◌, ◌-◌, ◌*◌, ◌≤◌, ◌<◌, Bool, true, ◌&&◌, leb, List, [], ◌∷◌, length, drop, sum_by, get_or, refl, sym, ap, ◌∙◌, arith, subst}
 use Rattle.std.specs.Prelude.{slice_index, slice_index_or}
 use Rattle.std.specs.List.{enumerate_from, AllByRecursion}
@@ -21,7 +22,7 @@ pub size_of_front : (all : Classes) (front : List ℕ) (tally : FrontTally) → 
     size_reachable all front ≡ (leb tally.taken all.size && leb all.size (tally.taken + tally.later_taken))
 size_of_front all front tally tracks = reach_equal all.size _ _ _ _ (sym tracks.taken) (sym tracks.later_taken)
 
--- two sums over a list with places, if the terms are equal at each place
+-- two sums over a numbered list are equal if their terms are equal at each place
 terms_equal : {X : Type 0} (f g : ℕ × X → ℕ) (first : ℕ) (xs : List X) (d : X) → ((i : ℕ) → i < length xs → f (first + i, get_or xs i d) ≡ g (first + i, get_or xs i d)) →
     total f (enumerate_from first xs) ≡ total g (enumerate_from first xs)
 terms_equal f g first [] d h = refl
@@ -38,7 +39,7 @@ sums_equal f g xs d h =
     ∙ terms_equal f g 0 xs d (λ i l. let s : i ≡ 0 + i = omega arith in subst (λ k. f (k, get_or xs i d) ≡ g (k, get_or xs i d)) s (h i l))
     ∙ sym (sum_by-is-total g (enumerate_from 0 xs))
 
--- what the cells miss is what the front surely costs
+-- how far the cells surely miss the bounds is the front's sure cost
 pub missed_is_cost : (all : Classes) (front : List ℕ) (tally : FrontTally) → KeepsLimits all → Tracks all front (drop (length front) all.classes) tally →
     missed_in_all all.bounds tally.held tally.later ≡ sure_cost all front
 missed_is_cost all front tally limits tracks =
@@ -60,7 +61,7 @@ missed_is_cost all front tally limits tracks =
         ap (λ n. surely_missed (get_or (get_or all.bounds c []) v no_bound) n (slice_index tally.later (cell c v))) held
         ∙ ap (surely_missed (get_or (get_or all.bounds c []) v no_bound) (taken_of (has_value c v) all.classes front)) later)
 
--- a front of all classes surely costs what it costs
+-- the sure cost of a front of all classes is its cost
 pub whole_cost : (all : Classes) (front : List ℕ) → length front ≡ length all.classes → sure_cost all front ≡ cost all front
 whole_cost all front whole =
     sums_equal (λ (c, values). sum_by (λ (v, bound). surely_missed bound (taken_of (has_value c v) all.classes front) (most_given (has_value c v) (later_than front all.classes))) (enumerate_from 0 values))

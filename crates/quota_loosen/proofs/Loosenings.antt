@@ -1,4 +1,4 @@
--- What the cheapest counts say of a pool's least loosening.
+-- A pool's least loosening, from the cheapest counts that a search keeps.
 use Rattle.std.proofs.Common.{◌≡◌, ℕ, true, List, Option, Some, None, refl, sym, ap, ◌∙◌, subst}
 use Rattle.std.specs.Prelude.{option_map}
 use Rattle.define_loosenings.specs.Costs.{cheapest_team, cost}
@@ -31,7 +31,8 @@ pub no_loosening : (pool : Pool) (all : Classes) → all ≡ classes_of pool →
 no_loosening pool all e n =
     ap (option_map (λ counts. loosening_for pool (first_panel (classes_of pool) counts))) (sym (kept_is pool) ∙ (ap (λ k. (cheapest_search k).kept) (sym e) ∙ n))
 
--- if it keeps counts, these are the cheapest, and the least loosening is that for their first members
+-- `cheapest_from` and `loosening_from`: if the search over a pool's classes keeps counts, these are the cheapest team's, and the least
+-- loosening is that for the panel of the classes' first members with these counts
 pub cheapest_from : (pool : Pool) (all : Classes) (counts : List ℕ) → all ≡ classes_of pool → (cheapest_search all).kept ≡ Some counts → cheapest_team (classes_of pool) ≡ Some counts
 cheapest_from pool all counts e n = sym (kept_is pool) ∙ (ap (λ k. (cheapest_search k).kept) (sym e) ∙ n)
 
@@ -50,7 +51,7 @@ loosening_is pool all counts total made panel e f g h k =
     build : ℕ → Pool → List ℕ → Loosening
     build total pool panel = record { total = total; pool = pool; panel = panel }
 
--- what was kept, from the answer of a search
+-- if a search answers counts with their cost, these are the counts that it kept
 pub kept_some : (all : Classes) (kept : Option (List ℕ)) (found : Option (List ℕ × ℕ)) (counts : List ℕ) (total : ℕ) → IsKept all kept found → found ≡ Some (counts, total) → kept ≡ Some counts
 kept_some all kept None counts total h e = absurd cc
 kept_some all kept (Some (others, least)) counts total h e = let pairs : (others, least) ≡ (counts, total) = cc in

@@ -164,7 +164,7 @@ kept_now all depth rest before after least stands whole f g v =
     told : ℕ → Option (List ℕ) → CostSearch
     told visits kept = record { visits = visits; kept = kept }
 
--- the front surely costs less than the least cost exactly if it may cost less than what is kept
+-- the front's sure cost is below the least cost exactly if the front may cost less than the kept counts
 pub less_is : (all : Classes) (found : Option ℕ) (kept front : List ℕ) (least sure : ℕ) → found ≡ Some least → IsLeastCost all found kept → sure ≡ sure_cost all front → ltb sure least ≡ may_cost_less all (kept_of found kept) front
 less_is all None kept front least sure e is s = absurd cc
 less_is all (Some n) kept front least sure e is s =

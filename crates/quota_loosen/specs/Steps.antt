@@ -1,4 +1,4 @@
--- One step of the search for the cheapest team, and what it answers. For `searching`.
+-- One step of the search for the cheapest team, and what the search answers. The contracts of `searching` cite it.
 use Rattle.std.specs.Prelude.{◌≡◌, ◌≤◌, ◌<◌, ℕ, if◌then◌else◌, List, [], ◌∷◌, ◌++◌, length, take, fold, Option, Some, None, Result, Ok, Err}
 use Rattle.define_loosenings.specs.Costs.{cost}
 use Rattle.define_loosenings.specs.CostSearch.{CostSearch, enter_cheapest, is_live_below}
@@ -55,7 +55,7 @@ abbrev pub IsKept : Classes → Option (List ℕ) → Option (List ℕ × ℕ) �
 IsKept all kept None = kept ≡ None
 IsKept all kept (Some (counts, least)) = (kept ≡ Some counts) × (least ≡ cost all counts)
 
--- what a search answers if its memory is there already: what it kept if its visits are at most `nodes`, else that the budget is spent
+-- what a search answers if its memory is allocated already: what it kept if its visits are at most `nodes`, else that the budget is spent
 abbrev pub AnswersWithin : Classes → CostSearch → ℕ → Result (Option (List ℕ × ℕ)) BudgetSpent → Type 0
 AnswersWithin all search nodes (Ok found) = (search.visits ≤ nodes) × IsKept all search.kept found
 AnswersWithin all search nodes (Err spent) = nodes < search.visits

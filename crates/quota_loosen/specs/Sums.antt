@@ -1,4 +1,5 @@
--- How far the numbers in cells surely miss the bounds, value by value. For `tallies`.
+-- The least number of people by which a team will miss the bounds, given how many of its members have each value so far, and how many more
+-- may at most be added. Both are kept in cells, one for each value. The contracts of `tallies` cite it.
 use Rattle.std.specs.Prelude.{ℕ, ◌≤◌, ◌<◌, All, List, slice_index, sum_by}
 use Rattle.std.specs.List.{enumerate_from}
 use Rattle.define_loosenings.specs.Costs.{surely_missed}
@@ -13,11 +14,11 @@ AreLimited bounds = All (λ values. All (λ bound. (bound.lower ≤ bound.upper)
 abbrev pub AreSmallIn : ℕ → List ℕ → Type 0
 AreSmallIn category cells = (v : ℕ) → v < 50 → slice_index cells (cell category v) ≤ 1000000
 
--- how far the values of a category surely miss their bounds, with the numbers in `held` and the most that is still to come in `later`
+-- how far the values of a category miss their bounds at least, with the numbers in `held` and the most that is still to come in `later`
 abbrev pub missed_in : List Bounds → List ℕ → List ℕ → ℕ → ℕ
 missed_in values held later category =
     sum_by (λ (v, bound). surely_missed bound (slice_index held (cell category v)) (slice_index later (cell category v))) (enumerate_from 0 values)
 
--- how far all values surely miss their bounds
+-- how far all values miss their bounds at least
 abbrev pub missed_in_all : List (List Bounds) → List ℕ → List ℕ → ℕ
 missed_in_all bounds held later = sum_by (λ (c, values). missed_in values held later c) (enumerate_from 0 bounds)

@@ -1,4 +1,4 @@
-//! Makes the pool whose bounds are moved just so far that a team meets them.
+//! Makes a pool whose bounds are moved only as far as a team needs to meet them.
 
 ghost use Rattle.std.specs.Prelude.{◌≡◌, ◌<◌, ◌++◌, [], ◌∷◌, IsTrue, None, IfOk, OnOk, length, nat_lt};
 ghost use Rattle.std.specs.List.{list_all};
@@ -9,7 +9,7 @@ ghost use Rattle.define_pools.specs.Pool.{IsPool, is_category, members_with};
 use pool_model::{Category, Panel, Pool, Volunteer};
 use std::alloc::{AllocError, Global};
 
-// Returns the pool with each bound moved just so far that the team meets it.
+// Returns the pool with each bound moved only as far as the team needs to meet it.
 pub(crate) fn loosened(alloc: Global, pool: &Pool, team: &Panel) -> Result<Pool, AllocError>
     requires { IsTrue (is_team pool.now team.now) }
     ensures { IfOk result (λ made. made ≡ loosened_for pool.now team.now) }
@@ -21,7 +21,7 @@ pub(crate) fn loosened(alloc: Global, pool: &Pool, team: &Panel) -> Result<Pool,
     Ok(Pool::from_parts(pool.size(), categories, volunteers))
 }
 
-// Returns the loosened pool without its volunteers: only without volunteers can categories and values be added.
+// Returns the loosened pool without its volunteers, since categories and values can be added only to a pool without volunteers.
 fn quotas(alloc: Global, pool: &Pool, team: &[usize]) -> Result<Pool, AllocError>
     requires pool { IsPool pool.now }
     requires team { IsTrue (is_team pool.now team.now) }
@@ -37,7 +37,7 @@ fn quotas(alloc: Global, pool: &Pool, team: &[usize]) -> Result<Pool, AllocError
     Ok(made)
 }
 
-// Appends the category at `place` to `made`, with its bounds moved just so far that the team meets them.
+// Appends the category at `place` to `made`, with its bounds moved only as far as the team needs to meet them.
 fn add_category(
     made: &mut Pool,
     volunteers: &[Volunteer],
@@ -62,7 +62,7 @@ fn add_category(
     Ok(())
 }
 
-// Returns how many members of the team have the value at `value` of the category at `category`.
+// Returns how many members of the team have value `value` of category `category`, both counted from 0.
 pub fn number_with(volunteers: &[Volunteer], team: &[usize], category: usize, value: usize) -> usize
     requires { IsTrue (list_all (λ i. nat_lt i (length volunteers.now)) team.now) }
     ensures { result ≡ members_with volunteers.now team.now category value }

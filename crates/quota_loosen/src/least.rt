@@ -32,7 +32,7 @@ impl Model for Loosened {
 }
 
 impl Loosened {
-    /// Returns the loosening for a team, which costs `total`: each bound moves just so far that the team meets it.
+    /// Returns the loosening for a team that costs `total`: each bound is moved only as far as the team needs to meet it.
     pub fn for_team(
         alloc: Global,
         pool: &Pool,
@@ -73,9 +73,10 @@ impl Loosened {
     }
 }
 
-/// Returns the pool's least loosening: bounds move as little as will do in all, so that there is a quota panel. None means that the pool
-/// has no team: its size, standings and households alone can't be met. Fails with `Spent` if the search takes more than `nodes` visits.
-/// `define_loosenings` has the laws: nothing but bounds changes, the panel is a quota panel of the new pool, and no smaller move will do.
+/// Returns the pool's least loosening: the bounds are moved by as little as possible in all so that there is a quota panel. None means that
+/// the pool has no team: its size, standings and households alone can't be met. Fails with `Spent` if the search takes more than `nodes`
+/// visits. `define_loosenings` has the laws: nothing but bounds changes, the panel is a quota panel of the new pool, and no pool whose
+/// bounds are moved by less has a quota panel.
 pub fn loosen(alloc: Global, pool: &Pool, nodes: u64) -> Result<Option<Loosened>, LoosenStop>
     ensures { Loosens pool.now nodes result }
 {

@@ -22,9 +22,9 @@ pub enum LoosenStop {
     OutOfMemory,
 }
 
-// Returns the cheapest counts of a team, the first in order of classes with the greater count first, and what they cost; or None if there
-// is no team. Fails with `Spent` if the search takes more than `nodes` visits. Each front that is entered counts one visit, also the empty
-// front.
+// Returns the counts of the cheapest team, and what they cost, or None if there is no team. Of equally cheap counts it is the first, in
+// the order of classes with the greater count first. Fails with `Spent` if the search takes more than `nodes` visits. Each front that is
+// entered counts one visit, also the empty front.
 pub(crate) fn cheapest(
     alloc: Global,
     classes: &Classes,
@@ -58,7 +58,7 @@ impl From<BudgetSpent> for LoosenStop {
     }
 }
 
-// The error of a search that needs a visit more than its budget.
+// The error of a search that needs more visits than its budget allows.
 #[derive(Debug, Clone, Copy)]
 pub(crate) struct BudgetSpent;
 
@@ -137,7 +137,7 @@ impl Search {
             && self.tally.homes_alive(classes, front)
     }
 
-    // True if nothing is kept yet, or the front of the first `depth` classes surely costs less than what is kept.
+    // True if nothing is kept yet, or the sure cost of the front of the first `depth` classes is less than what the kept counts cost.
     fn may_cost_less(&self, classes: &Classes, depth: usize) -> bool
         requires small { taken_by classes.now (take depth self.now.counts.items) ≤ 1000 }
         requires stands { StandsAt classes.now depth (drop depth classes.now.classes) self.now }
@@ -163,7 +163,7 @@ impl Search {
         Ok(())
     }
 
-    // Keeps the front of the first `depth` classes, which are all.
+    // Keeps the front of the first `depth` classes, which are all classes.
     fn keep(&mut self, classes: &Classes, depth: usize)
         requires whole { depth ≡ length classes.now.classes }
         requires small { taken_by classes.now (take depth self.old.counts.items) ≤ 1000 }
@@ -177,7 +177,7 @@ impl Search {
         self.store(least);
     }
 
-    // Copies the counts to those that are kept, which cost `least`.
+    // Keeps a copy of the counts, which cost `least`.
     fn store(&mut self, least: usize)
         requires { length self.old.kept.items ≡ length self.old.counts.items }
         ensures kept { self.new.kept.items ≡ self.old.counts.items }

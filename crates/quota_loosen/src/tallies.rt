@@ -1,4 +1,4 @@
-//! Counters for values, 50 places for each category, and how far they surely miss the bounds. A helper of `tally`.
+//! Counters for values, 50 places for each category, and how far they miss the bounds at least. A helper of `tally`.
 
 ghost use Rattle.std.specs.Prelude.{◌≡◌, ◌≤◌, ◌<◌, ◌+◌, ◌*◌, All, length};
 ghost use Rattle.define_loosenings.specs.Costs.{surely_missed};
@@ -39,7 +39,7 @@ pub(crate) fn take_from(cells: &mut [usize], values: &[usize], count: usize)
     }
 }
 
-// Returns the sum over all values of how far they surely miss their bounds.
+// Returns the sum over all values of how far they miss their bounds at least, whatever later classes give.
 pub(crate) fn missed_by_all(bounds: &[ValueBounds], held: &[usize], later: &[usize]) -> usize
     requires few { length bounds.now ≤ 20 }
     requires limits { AreLimited bounds.now }
@@ -56,7 +56,7 @@ pub(crate) fn missed_by_all(bounds: &[ValueBounds], held: &[usize], later: &[usi
     missed
 }
 
-// Returns the sum over the values of a category of how far they surely miss their bounds.
+// Returns the sum over the values of a category of how far they miss their bounds at least, whatever later classes give.
 fn missed_by(values: &[Bounds], held: &[usize], later: &[usize], category: usize) -> usize
     requires few { length values.now ≤ 50 }
     requires category { category < 20 }
@@ -76,7 +76,7 @@ fn missed_by(values: &[Bounds], held: &[usize], later: &[usize], category: usize
     missed
 }
 
-// Returns how far `number`, which grows by at most `more`, will at least be below the lower or above the upper bound.
+// Returns how far `number` will miss the bounds at least, if it still grows by at most `more`.
 fn surely(bound: Bounds, number: usize, more: usize) -> usize
     requires lower { bound.lower ≤ 999 }
     requires number { number ≤ 1000000 }

@@ -44,7 +44,7 @@ impl Tally {
         })
     }
 
-    // Takes the class after the front from those that are still to come.
+    // Takes the class after the front out of the classes that are still to come.
     pub(crate) fn begin_class(&mut self, classes: &Classes, front: &[usize])
         requires below { length front.now < length classes.now.classes }
         requires stands { Tracks classes.now front.now (drop (length front.now) classes.now.classes) self.old }
@@ -92,7 +92,7 @@ impl Tally {
         self.taken -= count;
     }
 
-    // True if the size can still be had.
+    // True if the panel's size can still be reached, and isn't exceeded.
     pub(crate) fn size_in_reach(&self, classes: &Classes, front: &[usize]) -> bool
         requires small { taken_by classes.now front.now ≤ 1000 }
         requires stands { Tracks classes.now front.now (drop (length front.now) classes.now.classes) self.now }
@@ -127,7 +127,7 @@ impl Tally {
         missed_by_all(classes.bounds(), &self.held, &self.later)
     }
 
-    // True if at most the size is taken, and the size can be reached.
+    // True if at most `size` members are taken, and later classes can give the rest.
     fn size_allows(&self, size: usize) -> bool
         requires { self.now.taken + self.now.later_taken < 2 ^ 64 }
         ensures { result ≡ (nat_le self.now.taken size && nat_le size (self.now.taken + self.now.later_taken)) }

@@ -1,4 +1,4 @@
--- Numbers of volunteers, and groups of them. For `report_quotas` and `report_heads`.
+-- Numbers of volunteers, and groups of these. The contracts of `report_quotas` and `report_heads` cite it.
 use Rattle.std.specs.Prelude.{ℕ, nat_lt, IsTrue, List}
 use Rattle.std.specs.List.{list_all}
 

@@ -1,4 +1,5 @@
--- What the steps of a report need of a round and find in it. Over Report of `define_reports`. For `reports`.
+-- What the steps of a report need of a round and find in it. Builds on Report of `define_reports`. The contracts of `reports` and of
+-- `command_stores` cite it.
 use Rattle.std.specs.Prelude.{◌≡◌, ℕ, IsTrue, List, [], ◌∷◌, length, Option, Some, None, is_ok, Result, Ok, Err, Vec, ⊤}
 use Rattle.std.specs.Global.{Global}
 use Rattle.std.specs.Option.{ForSome}
@@ -37,7 +38,7 @@ HasTicket (Solved bundle) = ⊤
 HasTicket (Sealed bundle) = ⊤
 HasTicket (Drawn bundle digits dropped) = IsTrue (is_ok (name_ticket bundle.answer.lottery.total digits))
 
--- the weights of the round's bundle sum to its total, and its digits name a ticket
+-- if the round has a bundle, its weights sum to its total; if the round was drawn, its digits name a ticket
 pub record KeepsDraw (round : Round) : Type 0 where
   pub agrees : WeightsAgree (bundle_of round)
   pub named : HasTicket round
@@ -55,7 +56,7 @@ abbrev pub IsOfPool : Pool → Option Draw → Type 0
 IsOfPool pool None = ⊤
 IsOfPool pool (Some drawn) = AreBelow (length pool.volunteers) drawn.panel
 
--- the groups that are counted: who isn't gone, and the panel that was drawn
+-- the groups that are counted: the volunteers who aren't gone and, if a panel was drawn, its members
 abbrev pub counted_with : Pool → Option Draw → List (List ℕ)
 counted_with pool None = not_gone pool ∷ []
 counted_with pool (Some drawn) = not_gone pool ∷ drawn.panel ∷ []

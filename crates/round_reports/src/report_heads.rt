@@ -1,4 +1,4 @@
-//! The lines of a report that need no bundle: the head of each report, and the draw. A helper of `reports`.
+//! The lines that each report begins with, and those of the lottery and of the draw. A helper of `reports`.
 
 ghost use Rattle.std.specs.Prelude.{◌≡◌, ◌≤ℤ◌, ◌++◌, ◌∷◌, [], length, map, pos, unsigned_abs, OnOk};
 ghost use Rattle.define_lines.specs.Lines.{text_of};

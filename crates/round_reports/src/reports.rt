@@ -16,11 +16,12 @@ use sealed_draw::{Draw, seal};
 use std::alloc::{AllocError, Global};
 use text_lines::push_line;
 
-/// Returns the report of a round: lines of fields, parted by TAB and each ended by LF. They are the round's number, the title, the phase,
-/// the size of a panel and the number of volunteers; past `Open` the number of the lottery's panels and its total; from the seal on the
-/// seal; of a round that was drawn the digits, the ticket with how many digits were read, and the members; for each value its bounds, how
-/// many have it who aren't gone, and how many members; past `Open` each volunteer's chance in lowest terms; and `end`. Stops exactly if the
-/// round has no pool, for the same reason. Running out of memory is allowed at any time.
+/// Returns the report of a round: lines that end with LF, of fields with a TAB between two. They have the round's number, the title, the
+/// phase, the size of a panel and the number of volunteers; if the round is past `Open`, the number of the lottery's panels and its total;
+/// if it is sealed or drawn, the seal; if it is drawn, the digits, the ticket with how many digits were read, and the members; for each
+/// value its bounds, how many of the volunteers who aren't gone have it, and, if a panel was drawn, how many of its members; if the round
+/// is past `Open`, each volunteer's chance in lowest terms; and `end`. Stops exactly if the round has no pool, for the same reason. Running
+/// out of memory is allowed at any time.
 pub fn round_report(alloc: Global, tables: &Tables, round: usize) -> Result<Vec<u8>, PoolStop>
     ensures { TellsReport (report_of tables.now round) result }
 {
@@ -71,7 +72,7 @@ fn drawn_in(alloc: Global, round: &Round) -> Result<Option<Draw>, AllocError>
     }
 }
 
-/// Appends what a round shows of its bundle, in which this was drawn.
+/// Appends what the report shows of the round's bundle. `drawn` is what was drawn in the round.
 fn push_bundle(
     alloc: Global,
     text: &mut Vec<u8>,
@@ -111,8 +112,8 @@ fn push_seal(alloc: Global, text: &mut Vec<u8>, bundle: &Bundle) -> Result<(), A
     push_line(text, b"seal", &[kept.as_bytes()])
 }
 
-/// Appends a line for each value of a pool: its bounds, how many have it who aren't gone, and, if a panel was drawn, how many of its
-/// members.
+/// Appends a line for each value of a pool: its bounds, how many of the volunteers who aren't gone have it, and, if a panel was drawn, how
+/// many of its members have it.
 fn push_quotas(
     alloc: Global,
     text: &mut Vec<u8>,
@@ -129,7 +130,7 @@ fn push_quotas(
     }
 }
 
-/// Appends a line for each volunteer of a bundle's pool, if there is a bundle.
+/// Appends the line of the chance of each volunteer of a bundle's pool, if there is a bundle.
 fn push_chances_in(
     alloc: Global,
     text: &mut Vec<u8>,

@@ -8,7 +8,7 @@ use Rattle.define_offices.specs.Tables.{Entry}
 use Rattle.define_offices.specs.Pools.{after_withdrawals, has_withdrawn, restood, restood_pool, standing_of}
 use Rattle.rounds.specs.Next.{standing_marked}
 
--- volunteers, numbered from `i`. The first `count` have the standing that `other` returns for their number and standing so far
+-- volunteers, numbered from `i`, of whom the first `count` have the standing that `other` returns for their number and old standing
 abbrev pub restood_to : (ℕ → Standing → Standing) → ℕ → ℕ → List Volunteer → List Volunteer
 restood_to other i zero volunteers = volunteers
 restood_to other i (suc count) [] = []

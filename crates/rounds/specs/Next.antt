@@ -1,4 +1,4 @@
--- What `next_pool` returns, and the standings after withdrawals by marks. Over Pools of `define_offices`.
+-- What `next_pool` returns, and the standings after withdrawals by marks. Builds on Pools of `define_offices`.
 use Rattle.std.specs.Prelude.{◌≡◌, ℕ, Bool, false, List, slice_index_or, Some, None, Result, Ok, Err, ⊤}
 use Rattle.define_pools.specs.declared.Standing.{Standing}
 use Rattle.define_pools.specs.declared.Standing.TheVariants as standing

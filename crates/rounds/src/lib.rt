@@ -64,8 +64,8 @@ pub fn pool_after(pool: &Pool, panel: &Panel, drops: &[usize]) -> Result<Pool, A
     Ok(next)
 }
 
-/// Makes each open volunteer gone who has withdrawn, and changes nothing else. `withdrawn` has, for each row of the register in order,
-/// whether its volunteer has withdrawn. A volunteer past the last row hasn't.
+/// Sets the standing of each open volunteer who has withdrawn to gone, and changes nothing else. `withdrawn` has, for each row of the
+/// register in order, whether its volunteer has withdrawn. A volunteer past the last row counts as not withdrawn.
 pub fn withdraw(pool: &mut Pool, withdrawn: &[bool])
     ensures { (register : List Entry) → map (λ entry. entry.withdrawn) register ≡ withdrawn.now → pool.new ≡ restood_pool (after_withdrawals register) pool.old }
 {

@@ -1,4 +1,4 @@
--- The right answers of a draw. Over Draw of `define_draws`. The promise of `draw` cites it.
+-- The right answers of a draw. Builds on Draw of `define_draws`. The promise of `draw` cites it.
 use Rattle.std.specs.Prelude.{◌≡◌, ◌≤ℤ◌, ℕ, pos, List, Result, Ok, Err, string_bytes, unsigned_abs, ⊤}
 use Rattle.define_pools.specs.Lottery.{Lottery}
 use Rattle.define_draws.specs.declared.DiceStop.TheVariants as dice

@@ -1,4 +1,4 @@
-//! The draw: the panel of the ticket that the digits name, under the seal that is kept.
+//! The draw: compares the given seal with the kept one, then returns the panel of the ticket that the digits name.
 
 ghost use Rattle.std.specs.Prelude.{◌≡◌, ◌<◌, ◌≤ℤ◌, pos, sum, unsigned_abs, IfOk, IsTrue};
 ghost use Rattle.define_pools.specs.Lottery.{TotalAgrees};
@@ -31,7 +31,7 @@ pub fn draw(
     draw_from(alloc, bundle.answer().lottery(), kept, given, digits)
 }
 
-/// Does what `draw` does, for the lottery of a bundle.
+/// Draws from a lottery, as `draw` does from the lottery of a bundle.
 fn draw_from(
     alloc: Global,
     lottery: &Lottery,

@@ -1,6 +1,7 @@
 //! A public draw from a bundle: the seal of its text, and the panel of the ticket that the digits of dice name, drawn only under the seal
-//! that is kept. Stands on `define_draws`, `tickets`, and the bundles of `bundle_text`. Above: the commands `draw` and `seal`,
-//! `office_reports`, whose summary has a seal, and `office_tables` and `office_steps`, whose rounds are sealed and drawn.
+//! that is kept. Stands on `define_draws`, `tickets`, and the bundles of `bundle_text`. Used by the commands `draw`, `seal`, `page` and
+//! those of `command_questions`; by `short_draws`; by `office_reports`, whose summary has a seal; and by the office, whose rounds are
+//! sealed and drawn.
 //!
 //! Promises: `seal`, `draw` and `total_agrees`.
 #![tactic(auto)]

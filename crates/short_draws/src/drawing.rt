@@ -10,9 +10,9 @@ use bundle_text::Bundle;
 use sealed_draw::{Draw, DrawStop, draw};
 use std::alloc::Global;
 
-/// Draws from the lottery of a bundle in a number of tickets, from 1 to 10^9. The weights of the bundle sum to its total. Returns the panel
-/// whose range has the ticket that the digits name. Fails with `SealDiffers` unless the given seal is the kept one, capitals aside; else
-/// with `BadDigit` or `MoreDigits` if the digits name no ticket. The seal to keep is that of the bundle itself.
+/// Draws from the lottery of a bundle, shortened to `tickets` tickets, from 1 to 10^9. The weights of the bundle sum to its total. Returns
+/// the panel whose range has the ticket that the digits name. Fails with `SealDiffers` unless the given seal is the kept one, capitals
+/// aside; else with `BadDigit` or `MoreDigits` if the digits name no ticket. `kept` should be the seal of the bundle itself.
 pub fn draw_short(
     alloc: Global,
     bundle: &Bundle,

@@ -1,4 +1,4 @@
--- The line from the remainders in rising order, and what the next row gets by it.
+-- The line is found in the remainders in rising order, and decides whether a row gets a ticket that is left.
 use Rattle.std.proofs.Common.{◌≡◌, ℕ, zero, suc, ◌+◌, ◌-◌, ◌<◌, ◌≤◌, max, Bool, true, false, ◌&&◌, ◌||◌, eqb, leb, ltb, List, [], ◌∷◌, drop, get_or, length, take, refl, sym, ap, ◌∙◌, arith, inl, inr, ◌⊎◌}
 use Rattle.std.specs.Prelude.{count_by}
 use Rattle.std.specs.List.Sorted.{IsNonDecreasingBy, IsPermutation}
@@ -22,8 +22,8 @@ all_counted p [] h = refl
 all_counted p (x ∷ xs) h =
     omega (arith, sum_by-cons (λ x. one_if (p x)) x xs, ap one_if (h 0 (omega arith)), all_counted p xs (λ k l. h (suc k) (omega arith)))
 
--- if `k` numbers come before a place of a rising list, at most all behind it are above the number there, and at least it and all behind it
--- are not below
+-- in a rising list, at most the numbers after place `k` are above the number at place `k`, and at least this number and those after it are
+-- not below it
 module _ (xs : List ℕ) (k : ℕ) (rise : IsNonDecreasingBy (λ (x : ℕ). x) xs) (inside : k < length xs) where
   few_above : above (get_or xs k 0) xs ≤ length xs - (k + 1)
   few_above =
@@ -62,7 +62,7 @@ is_line_for left remainders line is ties =
 pub line_is : (left : ℕ) (remainders : List ℕ) (line : Line) → IsLineFor left remainders line → IsLine left remainders line.remainder
 line_is left remainders line is = record { few = omega (arith, is.all); enough = omega (arith, is.all, is.ties, at_least-split line.remainder remainders) }
 
--- what the line gives to the row at `place`, if its ties were counted so far
+-- if `ties` are the ties that rows before `place` left, the line gives the row at `place` a ticket exactly if the definition does
 pub gives_is : (left : ℕ) (remainders : List ℕ) (line : Line) → IsLineFor left remainders line → (place own ties : ℕ) → place < length remainders →
     own ≡ get_or remainders place 0 → ties ≡ line.ties - on line.remainder (take place remainders) →
     (ltb line.remainder own || (eqb own line.remainder && ltb 0 ties)) ≡ is_among_first left remainders place

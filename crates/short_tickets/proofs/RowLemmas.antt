@@ -17,7 +17,7 @@ weight_within total rows place row within inside at =
     leb-true row.weight total
     (each_at (λ (row : LotteryRow). leb row.weight total ≡ true) rows place row (each_from_list_all (λ (row : LotteryRow). leb row.weight total) rows within) inside at)
 
--- no weight is above a total that is at least the sum
+-- if the weights sum to at most `total`, no weight is above `total`
 pub within_sum : (total : ℕ) (rows : List LotteryRow) → sum_by (λ (row : LotteryRow). row.weight) rows ≤ total → AreWithin total rows
 within_sum total [] h = refl
 within_sum total (row ∷ rows) h =
@@ -28,7 +28,7 @@ within_sum total (row ∷ rows) h =
 abbrev pub with_count : LotteryRow → ℕ → LotteryRow
 with_count row count = record { panel = row.panel; weight = count }
 
--- one row more
+-- the row at `place` is appended to the rows with tickets, with its tickets as weight, or left out if it gets none
 pub rows_more : (rows : List LotteryRow) (counts : List ℕ) (place : ℕ) (row : LotteryRow) → place < length rows → place < length counts → row ≡ get_or rows place row →
     rows_with_tickets (take (place + 1) rows) (take (place + 1) counts)
     ≡ cond (eqb (get_or counts place 0) 0) (rows_with_tickets (take place rows) (take place counts))
@@ -53,7 +53,7 @@ rows_more (first ∷ rows) (count ∷ counts) (suc place) row l m at =
     by false true rest = ap (λ kept. with_count first count ∷ kept) rest
     by false false rest = ap (λ kept. with_count first count ∷ kept) rest
 
--- the number of tickets of the row at `place`
+-- the number at `place` in the list of tickets is the number of tickets of the row at `place`
 pub tickets_are : (total tickets : ℕ) (weights : List ℕ) (place : ℕ) → place < length weights →
     get_or (tickets_by_weight total tickets weights) place 0 ≡ tickets_at total tickets weights place
 tickets_are total tickets weights place l = get_or-map-range_with_len (tickets_at total tickets weights) 0 (length weights) place place 0 l (omega arith)
@@ -61,12 +61,12 @@ tickets_are total tickets weights place l = get_or-map-range_with_len (tickets_a
 pub length-tickets : (total tickets : ℕ) (weights : List ℕ) → length (tickets_by_weight total tickets weights) ≡ length weights
 length-tickets total tickets weights = length-map-range_with_len (tickets_at total tickets weights) 0 (length weights)
 
--- rows that were all read
+-- if `place` is past all rows and counts, the rows with tickets up to it are all of them
 pub all_rows : (rows : List LotteryRow) (counts : List ℕ) (place : ℕ) → length rows ≤ place → length counts ≤ place →
     rows_with_tickets (take place rows) (take place counts) ≡ rows_with_tickets rows counts
 all_rows rows counts place l m = ap₂ (λ (rs : List LotteryRow) (cs : List ℕ). rows_with_tickets rs cs) (take_all place rows l) (take_all place counts m)
 
--- what is made of the rows that are kept is the shortened lottery, which agrees
+-- the lottery that is made of the kept rows is the shortened lottery, so its weights sum to its total if those of `lottery` do
 pub made_agrees : (lottery made : Lottery) (rows kept : List LotteryRow) (total count tickets : ℕ) → total ≡ lottery.total → rows ≡ lottery.rows → count ≡ tickets →
     kept ≡ rows_with_tickets rows (tickets_by_weight total count (weights_in rows)) → made ≡ record { total = tickets; rows = kept } →
     TotalAgrees lottery → 1 ≤ lottery.total → TotalAgrees made

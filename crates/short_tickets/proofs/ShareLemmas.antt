@@ -12,12 +12,12 @@ whole_is total product share is = sym (div-mul-add share.whole total share.remai
 pub remainder_is : (total product : ℕ) (share : Share) → IsShare total product share → share.remainder ≡ product % total
 remainder_is total product share is = sym (mod-mul-add share.whole total share.remainder is.below) ∙ ap (λ n. n % total) is.parts
 
--- a weight of at most the total gives at most all tickets
+-- if a weight is at most the total, its share, rounded down, is at most the number of tickets
 pub whole_within : (total tickets weight : ℕ) (share : Share) → 1 ≤ total → weight ≤ total → IsShare total (weight * tickets) share → share.whole ≤ tickets
 whole_within total tickets weight share some within is =
     le_unscaled share.whole tickets total some (let most : weight * tickets ≤ total * tickets = mul-le-mul_right tickets within in omega (arith, is.parts, most))
 
--- twice the share of half the tickets is the share of the tickets, if they are even
+-- if the number of tickets is even, the share is twice the share of half of them
 pub doubled : (total tickets weight : ℕ) (half double : Share) → tickets % 2 ≡ 0 → IsShare total (weight * (tickets / 2)) half →
     IsShare total (half.whole * 2 * total + half.remainder * 2) double → IsShare total (weight * tickets) double
 doubled total tickets weight half double even first second =
@@ -25,7 +25,7 @@ doubled total tickets weight half double even first second =
     let e : weight * tickets ≡ weight * (2 * n) = ap (λ t. weight * t) (let t : tickets ≡ 2 * n = omega arith in t) in
     record { parts = omega (arith, e, first.parts, second.parts); below = second.below }
 
--- and with the weight once more if they are odd
+-- if the number of tickets is odd, the share is twice the share of half of them, rounded down, with the weight added once
 pub doubled_more : (total tickets weight : ℕ) (half double share : Share) → tickets % 2 ≡ 1 → IsShare total (weight * (tickets / 2)) half →
     IsShare total (half.whole * 2 * total + half.remainder * 2) double → IsShare total (double.whole * total + (double.remainder + weight)) share →
     IsShare total (weight * tickets) share

@@ -11,7 +11,7 @@ pub record IsShare (total product : ℕ) (share : Share) : Type 0 where
   pub parts : share.whole * total + share.remainder ≡ product
   pub below : share.remainder < total
 
--- the rows above the line and the earliest `ties` on it are `left` rows
+-- the rows above the line and the earliest `ties` rows on it are `left` rows in all
 pub record IsLineFor (left : ℕ) (remainders : List ℕ) (line : Line) : Type 0 where
   pub all : count_by (λ other. nat_lt line.remainder other) remainders + line.ties ≡ left
   pub ties : line.ties ≤ count_by (λ other. other == line.remainder) remainders

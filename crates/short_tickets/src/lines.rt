@@ -15,7 +15,7 @@ pub(crate) struct Line {
 }
 
 impl Line {
-    /// True if the next row, with this remainder, gets a ticket. Counts it if it is on the line.
+    /// True if the next row, with this remainder, gets a ticket. If the row is on the line, one tie fewer is left.
     pub(crate) fn gives(&mut self, remainder: u128) -> bool
         ensures given { result ≡ (nat_lt self.old.remainder remainder || ((remainder == self.old.remainder) && nat_lt 0 self.old.ties)) }
         ensures remainder { self.new.remainder ≡ self.old.remainder }

@@ -29,7 +29,7 @@ pub(crate) fn remainders_of(
     Ok(remainders)
 }
 
-/// Returns how many tickets are left when each row has its share rounded down. There are at most as many as rows.
+/// Returns how many tickets are left when each row has its share rounded down: at most as many as there are rows.
 pub(crate) fn left_of(rows: &[LotteryRow], total: u128, tickets: u128) -> usize
     requires total { total ≡ sum (weights_in rows.now) }
     requires within { AreWithin total rows.now }
@@ -69,7 +69,7 @@ pub(crate) fn rows_with_tickets(
     Ok(kept)
 }
 
-/// Returns the tickets of the next row, which has this share.
+/// Returns how many tickets the next row gets, which has this share.
 fn tickets_by(share: Share, line: &mut Line) -> u128
     requires { share.whole ≤ 10 ^ 9 }
     ensures count { result ≡ share.whole + (if nat_lt line.old.remainder share.remainder || ((share.remainder == line.old.remainder) && nat_lt 0 line.old.ties) then 1 else 0) }

@@ -53,7 +53,7 @@ fn share_of_weight(total: u128, tickets: u128, weight: u128) -> Share
     }
 }
 
-/// Returns the share of `whole` tickets and `parts`, which are below two totals.
+/// Returns the share of `whole + parts / total` tickets. `parts` is below twice the total.
 fn carried(total: u128, whole: u128, parts: u128) -> Share
     requires parts { parts < 2 * total }
     requires most { total ≤ 10 ^ 38 }

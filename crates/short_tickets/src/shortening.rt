@@ -9,9 +9,9 @@ use crate::rows::{left_of, remainders_of, rows_with_tickets};
 use pool_model::Lottery;
 use std::alloc::{AllocError, Global};
 
-/// Returns the lottery in a round number of tickets, from 1 to 10^9: each panel's tickets are its share, rounded down or up. The panels of
-/// which most would be cut off are rounded up, the earlier first where they tie. Panels without a ticket are left out. The weights of the
-/// lottery are at least 1 and sum to its total, from 1 to 10^38.
+/// Returns the lottery in a round number of tickets, from 1 to 10^9: each panel's tickets are its share, rounded down or up. The shares
+/// that would lose most by rounding down are rounded up; of equal ones, the earlier ones. Panels without a ticket are left out. The weights
+/// of the lottery are at least 1 and sum to its total, from 1 to 10^38.
 pub fn shorten(alloc: Global, lottery: &Lottery, tickets: i128) -> Result<Lottery, AllocError>
     requires agrees { TotalAgrees lottery.now }
     requires some { 1 ≤ lottery.now.total }

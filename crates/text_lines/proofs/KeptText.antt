@@ -13,7 +13,7 @@ kept_before text more middle after is kept =
     sym (take-append-drop (length middle) after) ∙ (ap (λ front. front ++ rest) (kept ∙ is) ∙ append_assoc text more rest) in
     ap (take (length text)) whole ∙ take-append_seam text (more ++ rest)
 
--- If `after` begins with `text ++ more`, then, should a call's result be an error, `after` begins with `text`.
+-- If `after` begins with `text ++ more`, and the result of a call is an error, `after` begins with `text`.
 pub kept_at_err : {A E : Type 0} (text more middle after : List ℕ) (result : Result A E) → middle ≡ text ++ more → StartsWith after middle →
     OnErr result (StartsWith after text)
 kept_at_err text more middle after (Ok value) is kept = tt

@@ -24,7 +24,7 @@ not_text limit field fits h =
 parsed : {E : Type 0} (n : ℕ) (field : List ℕ) (r : Result ℕ E) → n < 2 ^ 64 → decimal n ≡ field → ParsesUnsigned 64 10 field r → r ≡ Ok n
 parsed n field r fits e h = parse-decimal_wide 64 n field r fits (omega arith) (sym e) h
 
--- If parsing a field fails, it spells no number.
+-- If parsing a field fails, the field spells no number.
 pub not_parsed : {E : Type 0} (limit : ℕ) (field : List ℕ) (error : E) → limit < 2 ^ 64 → ParsesUnsigned 64 10 field (Err error) → None ≡ number_up_to limit field
 not_parsed limit field error fits h = sym (no_number limit field (λ n l e. let is = parsed n field (Err error) (omega arith) e h in cc))
 
@@ -49,7 +49,7 @@ not_signed_text field h = sym (no_signed (2 ^ 127 - 1) field (λ z l e. h (subst
     ascii (negsuc n) small zero = omega arith
     ascii (negsuc n) small (suc i) = IsAscii-decimal_wide (suc n) small i
 
--- If parsing a field as a signed number fails, it spells no signed number of up to 2^127 - 1 by absolute value.
+-- If parsing a field as a signed number fails, the field spells no signed number of up to 2^127 - 1 by absolute value.
 pub not_signed_parsed : {E : Type 0} (field : List ℕ) (error : E) → ParsesSigned w128 10 field (Err error) → None ≡ signed_up_to (2 ^ 127 - 1) field
 not_signed_parsed field error h =
     sym (no_signed (2 ^ 127 - 1) field (λ z l e.

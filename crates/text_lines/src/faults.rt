@@ -12,10 +12,10 @@ pub struct TextFault {
     pub kind: u8,
 }
 
-/// Why a reader returned no text.
+/// Why a reader of a text returned no value.
 #[derive(Debug, Drop, Error)]
 pub enum TextStop {
-    /// The bytes are no text of this kind.
+    /// The bytes are no text of the form that the reader reads.
     #[error("line {}: kind {}", .0.line, .0.kind)]
     Fault(TextFault),
     /// No memory was left.

@@ -1,4 +1,4 @@
-//! The words for what is wrong with a line of a bundle behind its pool, or of a proof.
+//! The words for what is wrong with a line of a bundle after its pool, or of a proof.
 
 use crate::flaws::{Cause, Flaw, Wanted};
 use crate::reading::{Place, Reading};
@@ -40,7 +40,7 @@ pub(crate) fn cause_words(
     }
 }
 
-/// Returns the words for a line that isn't awaited where it is.
+/// Returns the words for a line whose first word isn't allowed where it is.
 fn awaited_words(
     alloc: Global,
     reading: &Reading,
@@ -48,13 +48,13 @@ fn awaited_words(
     fields: &[&[u8]],
 ) -> Result<String, AllocError> {
     let awaited = match flaw {
-        Flaw::Row(_) if reading.panels == 0 => "a line \"panel\" comes behind the total",
-        Flaw::Row(_) => "behind a panel comes a line \"panel\" or \"stage\"",
-        Flaw::Stage(_) => "behind a stage comes a line \"stage\", or \"done\" without a field",
+        Flaw::Row(_) if reading.panels == 0 => "a line \"panel\" comes after the total",
+        Flaw::Row(_) => "after a panel comes a line \"panel\" or \"stage\"",
+        Flaw::Stage(_) => "after a stage comes a line \"stage\", or \"done\" without a field",
         _ => "in a tree come lines \"split\" and \"bound\", then the next \"tree\" or \"close\"",
     };
     let first = shown_at(alloc, fields, 0)?;
-    format!(in alloc; "{first} isn't awaited here: {awaited}")
+    format!(in alloc; "{first} isn't expected here: {awaited}")
 }
 
 /// Returns the words for a line with too many or too few fields.
@@ -62,17 +62,17 @@ fn count_words(alloc: Global, reading: &Reading, fields: &[&[u8]]) -> Result<Str
     let words = match fields.first().and_then(|field| word_of(field)) {
         Some(Word::Panel) => "a panel has a weight and the numbers of its members",
         Some(Word::Stage) => "a stage has a cap and a weight for each volunteer",
-        Some(Word::Split) => "\"split\" has one field behind it, the number of a volunteer",
+        Some(Word::Split) => "\"split\" has one field after it, the number of a volunteer",
         Some(Word::Bound) =>
             "\"bound\" has a scale, and then pairs of a constraint and a multiplier",
         Some(Word::Tree) => return tree_words(alloc, reading),
         _ =>
-            "\"close\" has no field behind it, and comes in the last tree: there is one tree for each stage",
+            "\"close\" has no field after it, and comes in the last tree: there is one tree for each stage",
     };
     String::from_str(alloc, words)
 }
 
-/// Returns the words for a line `tree` that may not come.
+/// Returns the words for a line `tree` that isn't allowed where it is.
 fn tree_words(alloc: Global, reading: &Reading) -> Result<String, AllocError> {
     let stages = reading.stages;
     if reading.has_bundle {
@@ -113,7 +113,7 @@ fn number_words(
     format!(in alloc; "{field} (field {place}) is no {wanted}")
 }
 
-/// Returns the words for a line that isn't the total.
+/// Returns the words for a line after the pool's `end` that should be the total, but is faulty or another line.
 pub(crate) fn total_words(alloc: Global, fields: &[&[u8]]) -> Result<String, AllocError> {
     match fields {
         [first, _] if word_of(first) == Some(Word::Total) => {
@@ -124,7 +124,7 @@ pub(crate) fn total_words(alloc: Global, fields: &[&[u8]]) -> Result<String, All
         }
         _ => String::from_str(
             alloc,
-            "behind the pool's \"end\" comes \"total\", a TAB and a number from 1 to 10^38",
+            "after the pool's \"end\" comes \"total\", a TAB and a number from 1 to 10^38",
         ),
     }
 }
@@ -147,15 +147,15 @@ pub(crate) fn end_words(alloc: Global, place: Place) -> Result<String, AllocErro
     format!(in alloc; "the file ends here, and {missing}")
 }
 
-/// Returns the words for a line of a proof that begins a part of it.
+/// Returns the words for a line that should begin the next part of a proof, but doesn't, or for a line after the last one of the text.
 pub(crate) fn part_words(alloc: Global, flaw: Flaw) -> Result<String, AllocError> {
     let words = match flaw {
         Flaw::ProofSecond => {
             "the second line of a proof is \"bundle\" or \"pool\", a TAB and the version, 1 or 2"
         }
-        Flaw::FirstTree => "behind the bundle's \"done\" comes \"tree\", a TAB and 1",
-        Flaw::NoneAwaited => "behind the pool's \"end\" comes \"none\"",
-        Flaw::NoPanelTree => "behind \"none\" comes \"tree\", a TAB and 0",
+        Flaw::FirstTree => "after the bundle's \"done\" comes \"tree\", a TAB and 1",
+        Flaw::NoneAwaited => "after the pool's \"end\" comes \"none\"",
+        Flaw::NoPanelTree => "after \"none\" comes \"tree\", a TAB and 0",
         _ => "nothing may follow the last line of the text",
     };
     String::from_str(alloc, words)

@@ -15,12 +15,12 @@ const MOST_SCALE: u128 = 72_057_594_037_927_936;
 /// The greatest number of a constraint.
 const LAST_CONSTRAINT: usize = 1800;
 
-/// Returns the number of a total or of the weight of a panel.
+/// Returns the number that the field spells, or None if it spells none from 1 to 10^38, as a total and the weight of a panel are.
 pub(crate) fn weight_of(field: &[u8]) -> Option<u128> {
     number(field).filter(|weight| 1 <= *weight && *weight <= MOST_WEIGHT)
 }
 
-/// Returns what is wrong with the fields behind `panel`, in a bundle of a pool with this many volunteers.
+/// Returns what is wrong with the fields after `panel`, in a bundle whose pool has `volunteers` volunteers.
 pub(crate) fn panel_cause(volunteers: usize, rest: &[&[u8]]) -> Option<Cause> {
     let Some((weight, members)) = rest.split_first() else {
         return Some(Cause::Count);
@@ -34,7 +34,7 @@ pub(crate) fn panel_cause(volunteers: usize, rest: &[&[u8]]) -> Option<Cause> {
     members_cause(volunteers, members)
 }
 
-/// Returns what is wrong with the members of a panel: the first that is no volunteer, or doesn't come behind the one before.
+/// Returns what is wrong with the members of a panel: the first number that is no volunteer's, or isn't above the number before it.
 fn members_cause(volunteers: usize, members: &[&[u8]]) -> Option<Cause> {
     let mut least = 0;
     for (i, field) in members.iter().enumerate() {
@@ -51,7 +51,7 @@ fn members_cause(volunteers: usize, members: &[&[u8]]) -> Option<Cause> {
     None
 }
 
-/// Returns what is wrong with the fields behind `stage`, in a bundle of a pool with this many volunteers.
+/// Returns what is wrong with the fields after `stage`, in a bundle whose pool has `volunteers` volunteers.
 pub(crate) fn stage_cause(volunteers: usize, rest: &[&[u8]]) -> Option<Cause> {
     let Some((_, weights)) = rest.split_first() else {
         return Some(Cause::Count);
@@ -72,7 +72,7 @@ pub(crate) fn stage_cause(volunteers: usize, rest: &[&[u8]]) -> Option<Cause> {
     }
 }
 
-/// Returns what is wrong with the fields behind `split`, in a proof about a pool with this many volunteers.
+/// Returns what is wrong with the fields after `split`, in a proof about a pool with `volunteers` volunteers.
 pub(crate) fn split_cause(volunteers: usize, rest: &[&[u8]]) -> Option<Cause> {
     match rest {
         [field] => match number_up_to(usize::MAX, field) {
@@ -83,7 +83,7 @@ pub(crate) fn split_cause(volunteers: usize, rest: &[&[u8]]) -> Option<Cause> {
     }
 }
 
-/// Returns what is wrong with the fields behind `bound`.
+/// Returns what is wrong with the fields after `bound`.
 pub(crate) fn bound_cause(rest: &[&[u8]]) -> Option<Cause> {
     let Some((scale, pairs)) = rest.split_first() else {
         return Some(Cause::Count);

@@ -1,5 +1,5 @@
-//! What the lines of a pool gave so far. Lines with a fault are taken too, as far as they say something, so that a fault isn't told again
-//! at each line that rests on it. `entries` fills a draft, and the words and hints read it.
+//! What the lines of a pool gave so far. Lines with a fault are taken too, as far as they can be understood, so that later lines that
+//! depend on them aren't called faulty as well. `entries` fills a draft, and the words and hints read it.
 
 use std::alloc::{AllocError, Global};
 use std::collections::HashMap;
@@ -13,7 +13,7 @@ pub(crate) const MOST_VALUES: usize = 50;
 /// The most volunteers of a pool.
 pub(crate) const MOST_VOLUNTEERS: usize = 400;
 
-/// How many times its limit a table may hold. What comes later isn't kept, so that a long file wants little memory.
+/// How many times its limit a list may hold. What comes after that isn't kept, so that a long file needs little memory.
 const KEPT_TIMES: usize = 3;
 
 /// A value of a category.
@@ -30,7 +30,7 @@ pub(crate) struct Category {
     pub(crate) name: Vec<u8>,
     pub(crate) values: Vec<Value>,
     pub(crate) places: HashMap<Vec<u8>, usize>,
-    /// How many values came, also those that aren't kept.
+    /// How many values were read, also those that aren't kept.
     pub(crate) all_values: usize,
 }
 
@@ -48,7 +48,7 @@ pub(crate) struct Volunteer {
     pub(crate) id: Vec<u8>,
     /// The number of the volunteer's line.
     pub(crate) line: usize,
-    /// For each category the place of the volunteer's value, if it is one.
+    /// For each category the place of the volunteer's value, or None if the category has no such value.
     pub(crate) values: Vec<Option<usize>>,
     pub(crate) household: Option<Vec<u8>>,
     pub(crate) standing: Standing,
@@ -57,20 +57,20 @@ pub(crate) struct Volunteer {
 /// What the lines of a pool gave so far.
 #[derive(Drop)]
 pub(crate) struct Draft {
-    /// True if the text is of version 2.
+    /// True if the text is read as one of version 2.
     pub(crate) second: bool,
     pub(crate) size: Option<usize>,
     pub(crate) categories: Vec<Category>,
     pub(crate) category_places: HashMap<Vec<u8>, usize>,
     /// The place of the category to which values are added.
     pub(crate) current: Option<usize>,
-    /// How many categories came, also those that aren't kept.
+    /// How many categories were read, also those that aren't kept.
     pub(crate) all_categories: usize,
     pub(crate) volunteers: Vec<Volunteer>,
     pub(crate) volunteer_numbers: HashMap<Vec<u8>, usize>,
-    /// How many volunteers came, also those that aren't kept.
+    /// How many volunteers were read, also those that aren't kept.
     pub(crate) all_volunteers: usize,
-    /// How many volunteers the household lines have passed, and how many the lines of standings.
+    /// The number of the volunteer of the last household line, plus 1, or 0 if there is none yet. The next field is this for standings.
     pub(crate) passed_households: usize,
     pub(crate) passed_standings: usize,
 }
@@ -112,7 +112,7 @@ impl Draft {
         Ok(())
     }
 
-    /// Returns the category to which values are added.
+    /// Returns the category to which values are added, if there is one.
     pub(crate) fn current_category(&self) -> Option<&Category> {
         match self.current {
             Some(place) => self.categories.get(place),
@@ -163,7 +163,7 @@ impl Draft {
         Ok(())
     }
 
-    /// Returns the number of the volunteer of this id.
+    /// Returns the number of the volunteer of this id, if there is one.
     pub(crate) fn number_of(&self, id: &[u8]) -> Option<usize> {
         self.volunteer_numbers.get(id).copied()
     }
@@ -191,7 +191,7 @@ impl Draft {
 }
 
 impl Category {
-    /// Returns the place of the value of this name.
+    /// Returns the place of the value of this name, if there is one.
     pub(crate) fn place_of(&self, name: &[u8]) -> Option<usize> {
         self.places.get(name).copied()
     }

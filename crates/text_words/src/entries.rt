@@ -13,7 +13,7 @@ const MAX_BOUND: usize = 999;
 /// The most bytes of a name.
 const LONGEST_NAME: usize = 200;
 
-/// Takes a line of this word, with these fields behind it. `number` is the number of the line.
+/// Takes line `number`, which has this word and these fields after it, and returns what is wrong with it.
 pub(crate) fn take_entry(
     alloc: Global,
     draft: &mut Draft,
@@ -33,7 +33,8 @@ pub(crate) fn take_entry(
     }
 }
 
-/// Takes a line with too many or too few fields. If it has the name of a category or value, that is taken.
+/// Takes a line with too many or too few fields. If it has the name of a category or value, and no volunteer came before, adds this
+/// category or value.
 fn take_named(
     alloc: Global,
     draft: &mut Draft,
@@ -132,7 +133,8 @@ fn take_volunteer(
     Ok(flaw)
 }
 
-/// Returns the place of each value in its category, if it is one, as far as there are both names and categories.
+/// Returns for each name the place of the value of this name in its category, or None if there is none. Names past the last category are
+/// left out.
 fn places_of(
     alloc: Global,
     draft: &Draft,
@@ -217,7 +219,7 @@ fn take_standing(draft: &mut Draft, standing: Standing, id: &[u8]) -> Option<Fla
     flaw
 }
 
-/// Returns a flaw if a household should have come by now. Then the text is read on as one of version 1.
+/// Returns a flaw if the text is of version 2 and no household came before. The rest of the text is then read as one of version 1.
 fn awaited_household(draft: &mut Draft) -> Option<Flaw> {
     if draft.second && draft.passed_households == 0 {
         draft.second = false;
@@ -227,7 +229,7 @@ fn awaited_household(draft: &mut Draft) -> Option<Flaw> {
     }
 }
 
-/// Returns what is wrong with the id of a line, if `passed` volunteers have been passed by the lines of its sort.
+/// Returns what is wrong with the id of a line, if earlier lines of the same sort have passed `passed` volunteers.
 fn id_flaw(draft: &Draft, passed: usize, id: &[u8]) -> Option<Flaw> {
     match draft.number_of(id) {
         None => Some(Flaw::IdUnknown),

@@ -10,30 +10,31 @@ use crate::words::{Word, word_of};
 use std::alloc::{AllocError, Global};
 use text_lines::{TextFault, fields};
 
-/// The most faulty lines that are told.
+/// The most faulty lines that the words describe.
 const MOST_TOLD: usize = 40;
 
 const LINE_FEED: u8 = b'\n';
 
 const TAB: u8 = b'\t';
 
-/// What is told so far, and what is still to be told.
+/// The words so far, and what the words to come depend on.
 #[derive(Drop)]
 struct Telling {
     text: String,
-    /// The first fault, as the exact readers tell it.
+    /// The first fault, as the exact readers found it.
     fault: TextFault,
     /// The number of the line that is read.
     number: usize,
-    /// How many lines with a flaw there were.
+    /// How many lines so far have a flaw, from the first fault on.
     faulty: usize,
-    /// How many lines end with a carriage return, and how many with a TAB.
+    /// How many lines so far end with a carriage return, and, in the next field, how many others with a TAB too many.
     returns: usize,
     tabs: usize,
 }
 
-/// Says in words what the bytes are. `fault` is their first fault, as the reader of their form tells it, or None if they are a right text.
-/// The words are plain sentences, one a line. Those about a faulty text begin with the first fault.
+/// Says in words what the bytes are. `fault` is their first fault, as the reader of their form found it, or None if they are a right text.
+/// The words are plain sentences, one a line. If the fault is in line 1 or of the whole text, and the file is of another known kind, they
+/// say what it is. The words about any other faulty text begin with the first fault.
 pub fn words_about(
     alloc: Global,
     bytes: &[u8],
@@ -87,7 +88,7 @@ fn fault_words(alloc: Global, bytes: &[u8], fault: TextFault) -> Result<String, 
     close(alloc, &reading, telling)
 }
 
-/// Takes a line and tells what is wrong with it.
+/// Takes a line, and adds words on what is wrong with it.
 fn take_line(
     alloc: Global,
     reading: &mut Reading,
@@ -117,7 +118,7 @@ fn take_line(
     tell(alloc, reading, telling, habit, flaw, &fields)
 }
 
-/// Returns the line without the TABs at its end that begin more fields than the line may have.
+/// Returns the line without the TABs at its end that are more than a line of its word needs.
 fn without_end_tabs<'a>(reading: &Reading, line: &'a [u8]) -> &'a [u8] {
     let mut line = line;
     if !line.ends_with(b"\t") {
@@ -141,7 +142,7 @@ fn without_end_tabs<'a>(reading: &Reading, line: &'a [u8]) -> &'a [u8] {
     line
 }
 
-/// Returns how many TABs a line of this word has at least.
+/// Returns how many TABs a line of this word needs at least.
 fn least_tabs(reading: &Reading, word: Word) -> usize {
     match word {
         Word::End | Word::Done | Word::None | Word::Close => 0,
@@ -153,7 +154,7 @@ fn least_tabs(reading: &Reading, word: Word) -> usize {
     }
 }
 
-/// Takes the end of the text: what is behind the last LF, and what is missing.
+/// Takes the end of the text: the bytes after the last LF, and what is missing.
 fn take_end(
     alloc: Global,
     reading: &mut Reading,
@@ -179,7 +180,9 @@ fn take_end(
     }
 }
 
-/// Tells what is wrong with the line that was read last. Up to the first fault nothing is told, and of that line what fits its kind.
+/// Adds words on what is wrong with the line that was read last, unless it comes before the line of the first fault, or 40 faulty lines
+/// have words already. If the line of the first fault has neither a `habit` nor a `flaw` of this fault's kind, the words are those of the
+/// kind.
 fn tell(
     alloc: Global,
     reading: &Reading,
@@ -209,7 +212,7 @@ fn tell(
     Ok(())
 }
 
-/// Tells the first fault by its kind alone.
+/// Adds words on the first fault that depend on its kind alone.
 fn tell_kind(alloc: Global, telling: &mut Telling) -> Result<(), AllocError> {
     let heading = heading(alloc, telling.fault.line, &[])?;
     telling.text.push_str(&heading)?;
@@ -217,7 +220,7 @@ fn tell_kind(alloc: Global, telling: &mut Telling) -> Result<(), AllocError> {
     telling.text.push_str(".\n")
 }
 
-/// Tells a flaw of the line that was read last.
+/// Adds words on a flaw of the line that was read last.
 fn tell_flaw(
     alloc: Global,
     reading: &Reading,
@@ -232,7 +235,8 @@ fn tell_flaw(
     telling.text.push_str(".\n")
 }
 
-/// Returns all words, with the last sentences: how many lines are faulty, and what is so of many of them.
+/// Returns all words, with the last sentences: how many lines end with a carriage return or a TAB, if more than one does; whether more than
+/// one line is faulty, and how many; and whether the text wasn't read to its end.
 fn close(alloc: Global, reading: &Reading, telling: Telling) -> Result<String, AllocError> {
     let mut telling = telling;
     if telling.faulty == 0 {

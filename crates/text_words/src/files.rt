@@ -1,4 +1,4 @@
-//! Knows files that are no text of this program by how they begin, and says what they are and what to do.
+//! Recognizes files that are no text of this program, mostly by how they begin, and says what they are and what to do.
 
 use crate::words::{Word, word_like};
 use std::str;
@@ -16,7 +16,7 @@ const UTF16: &str =
     "This file is text in UTF-16, as some editors save \"Unicode\". Save it as UTF-8 without a byte order mark.\n";
 
 const STORE: &str =
-    "This file is a database of SQLite, such as the store of an office. Commands over a store take its name behind --store, and read it \
+    "This file is a database of SQLite, such as the store of an office. Commands over a store take its name after --store, and read it \
 themselves: ./sortition report --store STORE\n";
 
 const WORKBOOK: &str =
@@ -58,10 +58,11 @@ const RETURNS: &str =
 const BLANKS: &str = "This file has only blanks and empty lines.\n";
 
 const NO_TAB: &str =
-    "No line of this file has a TAB, and fields are parted by one TAB each. Blanks are in their place; some editors write them for the TAB \
-key, and they are what one gets from a web page. Make the file again, or put TABs in.\n";
+    "No line of this file has a TAB, and fields are separated by one TAB each. Blanks are in their place; some editors write them for the \
+TAB key, and they are what one gets from a web page. Make the file again, or put TABs in.\n";
 
-/// Says what the file is and what to do, if it is no text of this program but of a kind that is known.
+/// Says what the file is and what to do, or returns None if it isn't known here. Known are empty and blank files, files of other programs,
+/// the files and stores of an office, what other commands print, and texts of this program with blanks in place of TABs.
 pub(crate) fn other_file(bytes: &[u8]) -> Option<&'static str> {
     if bytes.is_empty() {
         return Some(NOTHING);
@@ -88,7 +89,8 @@ fn first_line(bytes: &[u8]) -> &[u8] {
     }
 }
 
-/// Knows files of other programs that are no plain text.
+/// Returns the words for a file that is no plain text in UTF-8: a text in UTF-16, a store, a workbook, a PDF, a picture, a compressed file,
+/// or another file with a byte 0 near its beginning.
 fn document(bytes: &[u8]) -> Option<&'static str> {
     if bytes.starts_with(b"\xff\xfe") || bytes.starts_with(b"\xfe\xff") {
         Some(UTF16)
@@ -115,7 +117,7 @@ fn document(bytes: &[u8]) -> Option<&'static str> {
     }
 }
 
-/// True if the bytes begin as a picture's do.
+/// True if the bytes begin as those of a picture do.
 fn is_picture(bytes: &[u8]) -> bool {
     bytes.starts_with(b"\x89PNG")
         || bytes.starts_with(b"\xff\xd8\xff")
@@ -126,12 +128,12 @@ fn is_picture(bytes: &[u8]) -> bool {
         || bytes.starts_with(b"BM") && bytes.iter().take(20).any(|byte| *byte == 0)
 }
 
-/// True if every second of the first eight bytes is 0, beginning with the byte at `start`, and the others aren't.
+/// True if, of the first eight bytes, exactly every second one is 0, beginning with the byte at `start`.
 fn has_zeros(bytes: &[u8], start: usize) -> bool {
     8 <= bytes.len() && (0..8).all(|i| (bytes[i] == 0) == (i % 2 == start))
 }
 
-/// Knows a text whose lines end with a carriage return alone.
+/// Returns the words for a text whose lines end with a carriage return alone.
 fn old_lines(content: &[u8]) -> Option<&'static str> {
     if content.contains(&b'\r') && !content.contains(&b'\n') {
         Some(RETURNS)
@@ -140,7 +142,7 @@ fn old_lines(content: &[u8]) -> Option<&'static str> {
     }
 }
 
-/// Knows texts in languages for documents and data.
+/// Returns the words for a document in RTF, HTML or XML, or for data in JSON.
 fn markup(content: &[u8]) -> Option<&'static str> {
     let content = content.trim_ascii_start();
     if content.starts_with(b"{\\rtf") {
@@ -158,7 +160,8 @@ fn markup(content: &[u8]) -> Option<&'static str> {
     }
 }
 
-/// Knows a table by its first line: the files of an office, and any other whose fields are parted by commas, semicolons or TABs.
+/// Returns the words for a table, known by its first line: a file of an office, or any other whose fields are separated by commas or
+/// semicolons.
 fn table(first: &[u8]) -> Option<&'static str> {
     let commas = first.iter().filter(|byte| **byte == b',').count();
     let semicolons = first.iter().filter(|byte| **byte == b';').count();
@@ -190,20 +193,20 @@ fn table(first: &[u8]) -> Option<&'static str> {
 }
 
 const REGISTER_OTHERWISE: &str =
-    "This file looks like the register of an office, but its fields aren't parted by commas. Save it as CSV with commas, in UTF-8; \
+    "This file looks like the register of an office, but its fields aren't separated by commas. Save it as CSV with commas, in UTF-8; \
 then it is read by: ./sortition import-register --store STORE < FILE\n";
 
 const RULES_OTHERWISE: &str =
-    "This file looks like the rules of an office, but its fields aren't parted by commas. Save it as CSV with commas, in UTF-8; \
+    "This file looks like the rules of an office, but its fields aren't separated by commas. Save it as CSV with commas, in UTF-8; \
 then it is read by: ./sortition import-rules --store STORE < FILE\n";
 
 const SEMICOLONS: &str =
-    "This file is a table whose fields are parted by semicolons (CSV). If it is a sheet of people, tools/prepare.py makes the files of an \
-office from it. If it is to be a pool, bundle or proof, its fields are parted by one TAB each.\n";
+    "This file is a table whose fields are separated by semicolons (CSV). If it is a sheet of people, tools/prepare.py makes the files of \
+an office from it. If it is to be a pool, bundle or proof, its fields are separated by one TAB each.\n";
 
 const COMMAS: &str =
-    "This file is a table whose fields are parted by commas (CSV). If it is a sheet of people, tools/prepare.py makes the files of an office \
-from it. If it is to be a pool, bundle or proof, its fields are parted by one TAB each.\n";
+    "This file is a table whose fields are separated by commas (CSV). If it is a sheet of people, tools/prepare.py makes the files of an \
+office from it. If it is to be a pool, bundle or proof, its fields are separated by one TAB each.\n";
 
 /// True if the line names all these columns, in any order and whatever their capitals, blanks and quotes.
 fn has_columns(line: &[u8], separator: u8, names: &[&str]) -> bool {
@@ -221,7 +224,7 @@ fn is_column(field: &[u8], name: &[u8]) -> bool {
     field.eq_ignore_ascii_case(name)
 }
 
-/// Knows a charter by a line that sets its title or its size.
+/// Returns the words for a charter, known by a line that sets its title or its size.
 fn charter(content: &[u8]) -> Option<&'static str> {
     let is_charter = content
         .split(|byte| *byte == b'\n')
@@ -230,7 +233,7 @@ fn charter(content: &[u8]) -> Option<&'static str> {
     if is_charter { Some(CHARTER) } else { None }
 }
 
-/// True if the line is this key, blanks, and `=`.
+/// True if the line begins with this key and `=`, whatever the blanks before them and between them.
 fn sets_key(line: &[u8], key: &[u8]) -> bool {
     match line.trim_ascii_start().strip_prefix(key) {
         Some(rest) => rest.trim_ascii_start().starts_with(b"="),
@@ -238,7 +241,7 @@ fn sets_key(line: &[u8], key: &[u8]) -> bool {
     }
 }
 
-/// Knows what other commands print, by the first field.
+/// Returns the words for what other commands print, known by the first field.
 fn printed(first: &[u8]) -> Option<&'static str> {
     let field = match first.iter().position(|byte| *byte == b'\t') {
         Some(end) => &first[..end],
@@ -273,7 +276,7 @@ fn printed(first: &[u8]) -> Option<&'static str> {
     }
 }
 
-/// Knows a text of this program that has blanks in the place of all TABs.
+/// Returns the words for a text of this program that has blanks where TABs should be, and no TAB.
 fn without_tab(content: &[u8], first: &[u8]) -> Option<&'static str> {
     let word = match first.iter().position(|byte| *byte == b' ') {
         Some(end) => word_like(&first[..end]),

@@ -68,7 +68,7 @@ pub(crate) fn flaw_words(
     }
 }
 
-/// Returns the words for what many lines of a file may have.
+/// Returns the words for a flaw that many lines of a file often have.
 fn habit_words(alloc: Global, flaw: Flaw) -> Result<String, AllocError> {
     let words = match flaw {
         Flaw::ByteOrderMark => {
@@ -90,11 +90,11 @@ fn first_words(alloc: Global, fields: &[&[u8]]) -> Result<String, AllocError> {
     match (word, fields) {
         (Some(Word::Pool) | Some(Word::Bundle), [_, version]) => {
             let version = shown(alloc, version)?;
-            format!(in alloc; "{version} is no version: behind {first} comes 1 or 2")
+            format!(in alloc; "{version} is no version: after {first} comes 1 or 2")
         }
         (Some(Word::Proof), [_, version]) => {
             let version = shown(alloc, version)?;
-            format!(in alloc; "{version} is no version: behind {first} comes 1")
+            format!(in alloc; "{version} is no version: after {first} comes 1")
         }
         _ => {
             let number = fields.len();
@@ -106,7 +106,7 @@ fn first_words(alloc: Global, fields: &[&[u8]]) -> Result<String, AllocError> {
     }
 }
 
-/// Returns the words for a line that isn't UTF-8, with the first field that isn't.
+/// Returns the words for a line that isn't UTF-8, with its first field that isn't UTF-8.
 fn utf8_words(alloc: Global, fields: &[&[u8]]) -> Result<String, AllocError> {
     for field in fields {
         if str::from_utf8(field).is_err() {
@@ -120,7 +120,7 @@ fn utf8_words(alloc: Global, fields: &[&[u8]]) -> Result<String, AllocError> {
     String::from_str(alloc, "the line isn't UTF-8: save the file as UTF-8")
 }
 
-/// Returns the field as it is in Latin-1, in quotes.
+/// Returns the field, read as Latin-1, in quotes.
 fn latin(alloc: Global, field: &[u8]) -> Result<String, AllocError> {
     let mut text = String::new(alloc);
     for byte in field.iter().take(60) {
@@ -129,7 +129,7 @@ fn latin(alloc: Global, field: &[u8]) -> Result<String, AllocError> {
     shown(alloc, text.as_bytes())
 }
 
-/// Returns words for a fault of this kind, if the lines were read otherwise than the exact reader reads them.
+/// Returns the words for a fault of this kind, for a line in which the reading of this crate found no flaw of this kind.
 pub(crate) fn kind_words(kind: u8) -> &'static str {
     match kind {
         1 => "the line is of no form that may stand here",

@@ -1,13 +1,13 @@
-//! What can be wrong with a line, with the kind of fault that the readers of texts tell for it.
+//! What can be wrong with a line, with the kind of fault that the readers of texts return for it.
 
-/// What a field that should be a number has to be.
+/// The number that is wanted in a field.
 #[derive(Clone, Copy, Debug, PartialEq, Eq)]
 pub(crate) enum Wanted {
     /// A total or the weight of a panel: 1 to 10^38.
     Weight,
     /// The number of a volunteer.
     Volunteer,
-    /// A cap or the weight of a volunteer in a stage: any whole number of at most 2^127 - 1.
+    /// A cap or the weight of a volunteer in a stage: any whole number of at most 2^127 - 1 by absolute value.
     Whole,
     /// A scale: 0 to 2^56.
     Scale,
@@ -22,15 +22,15 @@ pub(crate) enum Wanted {
 pub(crate) enum Cause {
     /// The word of the line isn't allowed there.
     Word,
-    /// The line needs more or fewer fields.
+    /// The line needs more or fewer fields, or it is a line `tree` or `close` that isn't allowed there.
     Count,
-    /// A field isn't the number that is wanted. Fields are counted from 1, behind the word.
+    /// The field at this place isn't the number that is wanted. The fields after the word are counted from 1.
     Number(usize, Wanted),
-    /// A number isn't above the one of its sort before it.
+    /// The number of a member or a constraint, in the field at this place, isn't above the one before it.
     Order(usize),
     /// A panel has no member.
     NoMember,
-    /// A stage has this many weights.
+    /// A stage has this number of weights, which isn't the number of volunteers.
     Weights(usize),
     /// The absolute values of a stage sum to more than 2^127 - 1.
     Sum,
@@ -45,7 +45,7 @@ pub(crate) enum Flaw {
     CarriageReturn,
     /// The line ends with a TAB.
     EndTab,
-    /// The last line isn't ended by LF. The lines end before it with a fault of this kind.
+    /// The last line isn't ended by LF. The kind of fault is that of a text that ends before this line.
     NoLineFeed(u8),
     /// The first line of the file isn't that of a text of this program: kind 1, 13 or 21.
     FirstLine(u8),
@@ -53,25 +53,25 @@ pub(crate) enum Flaw {
     PoolOfBundle,
     /// The second line of a pool isn't its size.
     Size,
-    /// The line begins with no word that is known.
+    /// The line begins with no known word.
     Word,
-    /// A blank is behind the word, in the place of a TAB.
+    /// A blank follows the word, where a TAB should be.
     BlankForTab,
     /// The word isn't spelt in small letters, or has blanks around it.
     WordSpelling,
-    /// The line needs another number of fields behind the word.
+    /// The line has too many or too few fields after the word.
     FieldCount,
-    /// A line of a category or value comes behind a volunteer.
+    /// The line of a category or value comes after a volunteer.
     CategoryLate,
     /// A value comes before any category.
     NoCategory,
-    /// A volunteer comes behind a household or a standing.
+    /// A volunteer comes after a household or a standing.
     VolunteerLate,
-    /// A household comes in a text of version 1.
+    /// There is a household in a text of version 1.
     HouseholdVersion,
-    /// A household comes behind a standing.
+    /// A household comes after a standing.
     HouseholdLate,
-    /// The text is of version 2, and has no household.
+    /// A standing or the end comes in a text of version 2 before any household.
     HouseholdAwaited,
     /// The line of the next part of a bundle or proof comes before the pool's `end`.
     EndBefore,
@@ -79,7 +79,7 @@ pub(crate) enum Flaw {
     CategoryRepeated,
     /// The value's name is that of an earlier one of its category.
     ValueRepeated,
-    /// A field isn't a bound.
+    /// The field at this place isn't a bound.
     Bound(usize),
     /// The lower bound is above the upper one.
     BoundsCrossed,
@@ -87,46 +87,46 @@ pub(crate) enum Flaw {
     UnknownValue(usize),
     /// The volunteer has more or fewer values than there are categories.
     ValueCount,
-    /// The id is that of the volunteer in this line.
+    /// The id is that of an earlier volunteer, whose line has this number.
     IdRepeated(usize),
     /// The id is no volunteer's.
     IdUnknown,
-    /// The volunteer comes before the one of the line before.
+    /// The line's volunteer doesn't come after the volunteer of the last line of the same sort.
     IdBehind,
-    /// A name or id in this field isn't within the limits.
+    /// The name or id in the field at this place isn't within the limits.
     Name(usize),
-    /// It is the 21st category.
+    /// The category comes after the 20th one.
     ManyCategories,
-    /// It is the 51st value of its category.
+    /// The value comes after the 50th one of its category.
     ManyValues,
-    /// It is the 401st volunteer.
+    /// The volunteer comes after the 400th one.
     ManyVolunteers,
     /// The line isn't UTF-8.
     NotUtf8,
-    /// The line behind the pool of a bundle isn't its total.
+    /// The line after the pool of a bundle isn't the bundle's total.
     Total,
-    /// The line behind the total or a panel isn't right.
+    /// The line after the total or after a panel isn't right.
     Row(Cause),
-    /// The line of a stage, or behind one, isn't right.
+    /// The line of a stage, or the line after one, isn't right.
     Stage(Cause),
     /// The second line of a proof is wrong.
     ProofSecond,
-    /// The line behind a proof's bundle isn't `tree`, `1`.
+    /// The line after a proof's bundle isn't `tree`, `1`.
     FirstTree,
-    /// The line behind a proof's pool isn't `none`.
+    /// The line after a proof's pool isn't `none`.
     NoneAwaited,
-    /// The line behind `none` isn't `tree`, `0`.
+    /// The line after `none` isn't `tree`, `0`.
     NoPanelTree,
     /// A line in a tree isn't right.
     Tree(Cause),
-    /// The lines end before the last line of the text.
+    /// The text ends too early: a line is missing. The fault is of this kind.
     Ends(u8),
-    /// Something follows the last line of the text.
+    /// Something follows the last line of the text, which is a fault of this kind.
     Follows(u8),
 }
 
 impl Flaw {
-    /// Returns the kind of fault, or 0 for what has no kind of its own: the ends of lines and a byte order mark.
+    /// Returns the kind of fault, or 0 for a flaw that has none: a byte order mark, or a carriage return or a TAB at a line's end.
     pub(crate) fn kind(self) -> u8 {
         match self {
             Flaw::ByteOrderMark | Flaw::CarriageReturn | Flaw::EndTab => 0,

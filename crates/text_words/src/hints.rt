@@ -1,4 +1,4 @@
-//! Hints about a right text: what is allowed, and yet is often a mistake.
+//! Hints about a right text, on what is allowed but often a mistake.
 
 use crate::drafts::{Category, Draft, Standing};
 use crate::reading::Reading;
@@ -7,7 +7,7 @@ use crate::summaries::{number_having, number_with};
 use std::alloc::{AllocError, Global};
 use std::collections::HashMap;
 
-/// A household from this number of members on gets a hint.
+/// A household with this number of members or more gets a hint.
 const LARGE_HOUSEHOLD: usize = 10;
 
 /// Appends the hints, one a line.

@@ -1,7 +1,7 @@
-//! Which characters are shown by their numbers: those that nobody sees, or that look like others.
+//! Which characters are shown by their numbers: those that are invisible, or look like others.
 
-/// True if the character is a control character, a blank other than the common one, a mark on the letter before it, punctuation of a
-/// typesetter, or a character without a picture.
+/// True if the character is a control character, a blank other than the space, a combining mark, typographic punctuation, the minus sign
+/// U+2212, or a character that fonts have no picture for, such as one for private use.
 pub(crate) fn is_unseen(character: char) -> bool {
     matches!(
         u32::from(character),

@@ -1,8 +1,8 @@
-//! Says in plain words what a file is: what a pool, a bundle or a proof holds, or each line that is wrong with it, what is there and what may
-//! be; and what a file is that is none of these, and what to do. Stands on `text_lines`. The command `explain` stands on it.
+//! Says in plain words what a file is: what a right pool, bundle or proof holds; else, for each faulty line of such a text, what is there
+//! and what may be there; or what any other file is, and what to do. Stands on `text_lines`. The command `explain` stands on it.
 //!
-//! Promises: `words_about` ends for all bytes. What its words are is no promise of a contract; `tests/explain` shows them. It finds what is
-//! wrong behind the first fault by a reading of its own, which goes on behind a fault. The first fault is given, by the exact readers.
+//! Promises: `words_about` ends for all bytes. No contract promises what its words are; `tests/explain` shows them. The exact readers give
+//! it the first fault. It finds what is wrong after that by a reading of its own, which goes on after a fault.
 #![tactic(auto)]
 
 mod answer_words;

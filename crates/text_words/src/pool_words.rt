@@ -9,7 +9,7 @@ use std::alloc::{AllocError, Global};
 /// The most names that are listed.
 const MOST_LISTED: usize = 12;
 
-/// Returns the words for a flaw of kind 1: a line that may not be where it is.
+/// Returns the words for a flaw of kind 1: a line that isn't allowed where it is.
 pub(crate) fn form_words(
     alloc: Global,
     flaw: Flaw,
@@ -21,7 +21,7 @@ pub(crate) fn form_words(
         Flaw::WordSpelling => return spelling_words(alloc, fields),
         Flaw::FieldCount => return count_words(alloc, fields),
         Flaw::CategoryLate => "all categories and values come before the first volunteer",
-        Flaw::NoCategory => "a value comes behind its category, and no category came yet",
+        Flaw::NoCategory => "a value comes after its category, and no category came yet",
         Flaw::VolunteerLate =>
             "all volunteers come before the lines of households, seated and gone",
         Flaw::HouseholdVersion => {
@@ -53,11 +53,11 @@ fn word_words(alloc: Global, fields: &[&[u8]]) -> Result<String, AllocError> {
     )
 }
 
-/// Returns the words for a blank in the place of a TAB.
+/// Returns the words for a blank where a TAB should be.
 fn blank_words(alloc: Global, fields: &[&[u8]]) -> Result<String, AllocError> {
     let first = shown_at(alloc, fields, 0)?;
     format!(in alloc;
-        "{first} has a blank in the place of a TAB: fields are parted by one TAB each"
+        "{first} has a blank in the place of a TAB: fields are separated by one TAB each"
     )
 }
 
@@ -73,12 +73,12 @@ fn spelling_words(alloc: Global, fields: &[&[u8]]) -> Result<String, AllocError>
 fn count_words(alloc: Global, fields: &[&[u8]]) -> Result<String, AllocError> {
     let word = fields.first().and_then(|field| word_like(field));
     let wanted = match word {
-        Some(Word::Category) => "one field behind it, a name",
-        Some(Word::Value) => "three fields behind it: a name, a lower bound and an upper bound",
-        Some(Word::Volunteer) => "an id behind it, and a value for each category",
-        Some(Word::Household) => "two fields behind it: a volunteer's id and the household's name",
-        Some(Word::Seated) | Some(Word::Gone) => "one field behind it, a volunteer's id",
-        _ => "no field behind it",
+        Some(Word::Category) => "one field after it, a name",
+        Some(Word::Value) => "three fields after it: a name, a lower bound and an upper bound",
+        Some(Word::Volunteer) => "an id after it, and a value for each category",
+        Some(Word::Household) => "two fields after it: a volunteer's id and the household's name",
+        Some(Word::Seated) | Some(Word::Gone) => "one field after it, a volunteer's id",
+        _ => "no field after it",
     };
     let right = word.map_or("", |word| word.spelling());
     let given = fields.len().saturating_sub(1);
@@ -101,7 +101,7 @@ pub(crate) fn size_words(alloc: Global, fields: &[&[u8]]) -> Result<String, Allo
     }
 }
 
-/// Returns the words for a category or value whose name was there before, or whose bounds are wrong.
+/// Returns the words for a category or value that repeats an earlier name, or whose bounds are wrong.
 pub(crate) fn value_words(
     alloc: Global,
     draft: &Draft,
@@ -132,7 +132,7 @@ pub(crate) fn value_words(
     }
 }
 
-/// Returns the field as text, without quotes. It is digits.
+/// Returns a field that is digits as text, without quotes.
 fn number_at(alloc: Global, fields: &[&[u8]], place: usize) -> Result<String, AllocError> {
     match fields.get(place) {
         Some(field) => String::from_utf8_lossy(alloc, field),
@@ -140,7 +140,7 @@ fn number_at(alloc: Global, fields: &[&[u8]], place: usize) -> Result<String, Al
     }
 }
 
-/// Returns the words for a value that its category hasn't.
+/// Returns the words for a value that isn't one of its category.
 pub(crate) fn unknown_words(
     alloc: Global,
     draft: &Draft,
@@ -160,7 +160,7 @@ pub(crate) fn unknown_words(
     format!(in alloc; "{value} is no value of {name} ({listed}){meant}")
 }
 
-/// Returns the names of the category's values, with commas between them.
+/// Returns the names of the category's first 12 values, with commas between them, then how many more it has. Says so if it has none.
 fn listed_values(alloc: Global, category: &Category) -> Result<String, AllocError> {
     let mut text = String::new(alloc);
     for (i, value) in category.values.iter().take(MOST_LISTED).enumerate() {
@@ -178,7 +178,8 @@ fn listed_values(alloc: Global, category: &Category) -> Result<String, AllocErro
     Ok(text)
 }
 
-/// Returns which value is meant, if one is alike, or else of which other category it is one.
+/// Returns words on what may be wrong: that the field is empty; else which of the category's first 12 values has the same ASCII letters and
+/// digits, in whatever case; else which other category has the value. Returns no words if none of these is so.
 fn meant_words(
     alloc: Global,
     draft: &Draft,
@@ -206,7 +207,7 @@ fn meant_words(
     Ok(String::new(alloc))
 }
 
-/// Returns the letters and digits of ASCII in a name, in small letters.
+/// Returns the ASCII letters and digits of a name, in lower case.
 fn plain_letters(alloc: Global, name: &[u8]) -> Result<Vec<u8>, AllocError> {
     let mut letters = Vec::new(alloc);
     for byte in name {
@@ -270,7 +271,7 @@ pub(crate) fn other_words(alloc: Global, flaw: Flaw) -> Result<String, AllocErro
         }
         Flaw::IdUnknown => "no volunteer has this id",
         Flaw::IdBehind => {
-            "this volunteer doesn't come behind the one of the line before: such lines are in the order of the volunteers, at most one for each"
+            "this volunteer doesn't come after the one of the line before: such lines are in the order of the volunteers, at most one for each"
         }
         Flaw::ManyCategories => "this is one category too many: 20 are the most",
         Flaw::ManyValues => "this is one value too many: a category has at most 50",

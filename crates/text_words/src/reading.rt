@@ -1,5 +1,5 @@
-//! Reads a text line by line and goes on behind a fault. Where a text goes wrong first is the business of the exact readers; this reading
-//! finds what is wrong with the lines behind, and the words for each.
+//! Reads a text line by line and goes on after a fault. The exact readers find where a text first goes wrong; this reading finds what is
+//! wrong with that line and the later ones.
 
 use crate::answers::{bound_cause, panel_cause, split_cause, stage_cause, weight_of};
 use crate::drafts::Draft;
@@ -55,25 +55,25 @@ pub(crate) enum Place {
     Size,
     /// A line between the size and the pool's end, or that end.
     Entries,
-    /// The line behind the pool's end.
+    /// The line after the pool's end.
     PoolEnded,
-    /// The line behind the total or a panel.
+    /// The line after the total or a panel.
     Rows,
-    /// The line behind a stage.
+    /// The line after a stage.
     Stages,
-    /// The line behind `done`.
+    /// The line after `done`.
     Done,
-    /// The line behind `none`.
+    /// The line after `none`.
     NoneSaid,
     /// A line in a tree.
     Trees,
-    /// The line behind `close`.
+    /// The line after `close`.
     Closed,
-    /// Nothing is read any more: it isn't known what the lines are.
+    /// No further line is read, since it isn't known what the lines are.
     Lost,
 }
 
-/// How far a text is read.
+/// How far a text has been read, and what its lines gave.
 #[derive(Drop)]
 pub(crate) struct Reading {
     pub(crate) form: Form,
@@ -136,7 +136,7 @@ impl Reading {
         }
     }
 
-    /// Takes the first line. If it isn't right, goes on by what it is meant to be.
+    /// Takes the first line. If it isn't right, reads on by what it seems meant to be.
     fn take_first(&mut self, line: &[u8], fields: &[&[u8]]) -> Option<Flaw> {
         let kind = match self.form {
             Form::Pool => 1,
@@ -257,7 +257,8 @@ impl Reading {
         self.take_blank_for_tab(alloc, number, first, rest)
     }
 
-    /// Takes a line whose first field is no word. If a blank is in the place of a TAB behind the word, takes what is meant.
+    /// Takes a line whose first field is no word. If the field is a word with a blank after it where a TAB should be, takes the line as if
+    /// it had this TAB.
     fn take_blank_for_tab<'a>(
         &mut self,
         alloc: Global,
@@ -301,7 +302,7 @@ impl Reading {
         Ok(flaw)
     }
 
-    /// Takes the line behind the pool's end: nothing in a pool, the total in a bundle, `none` in a proof about a pool alone.
+    /// Takes the line after the pool's end: a pool has none, a bundle has the total there, and a proof about a pool alone has `none`.
     fn take_after_pool(&mut self, line: &[u8], fields: &[&[u8]]) -> Option<Flaw> {
         if self.has_bundle {
             return match fields.split_first() {
@@ -337,7 +338,7 @@ impl Reading {
         }
     }
 
-    /// Takes a line behind the total.
+    /// Takes a line after the total.
     fn take_row(&mut self, fields: &[&[u8]]) -> Option<Flaw> {
         let Some((first, rest)) = fields.split_first() else {
             return Some(self.row_flaw(Cause::Word));
@@ -385,7 +386,7 @@ impl Reading {
         }
     }
 
-    /// Returns the flaw of a line behind the total, by where it is.
+    /// Returns the flaw of a line after the total: `Stage` after a stage, else `Row`.
     fn row_flaw(&self, cause: Cause) -> Flaw {
         if self.place == Place::Stages {
             Flaw::Stage(cause)
@@ -394,7 +395,7 @@ impl Reading {
         }
     }
 
-    /// Takes the line behind `done`: nothing in a bundle, the first tree in a proof.
+    /// Takes the line after `done`: a bundle has none, and a proof has the line of the first tree there.
     fn take_after_done(&mut self, line: &[u8]) -> Option<Flaw> {
         if self.form == Form::Bundle {
             self.place = Place::Lost;
@@ -409,7 +410,7 @@ impl Reading {
         }
     }
 
-    /// Takes the line behind `none`.
+    /// Takes the line after `none`.
     fn take_none_tree(&mut self, line: &[u8]) -> Option<Flaw> {
         self.place = Place::Trees;
         if line == NO_PANEL_TREE {
@@ -463,7 +464,7 @@ impl Reading {
         }
     }
 
-    /// Returns what is missing if the text ends here: nothing if it is whole.
+    /// Returns the flaw of a text that ends here, or None if the text is complete, or if no further line is read.
     pub(crate) fn end_flaw(&self) -> Option<Flaw> {
         match (self.form, self.place) {
             (_, Place::Lost) => None,

@@ -1,4 +1,4 @@
-//! Shows a name, an id or any field in quotes, so that blanks at its ends, look-alikes and bytes that are no text are seen.
+//! Shows a name, an id or any field in quotes, so that a reader sees blanks at its ends, look-alikes and bytes that are no text.
 
 use crate::letters::{is_look_alike, is_unseen};
 use std::alloc::{AllocError, Global};
@@ -7,8 +7,8 @@ use std::str;
 /// The most characters that are shown of a field.
 const MOST_SHOWN: usize = 60;
 
-/// Returns the field in quotes. A character that nobody sees, or that looks like another, is shown by its number as `\u{a0}`, and a byte
-/// that is no text as `\xe9`. A long field is cut.
+/// Returns the field in quotes. A character that is invisible is shown by its number, for instance as `\u{a0}`, and so is one that looks
+/// like a Latin letter, if the field has Latin letters. A byte that is no text is shown for instance as `\xe9`. A long field is cut.
 pub(crate) fn shown(alloc: Global, field: &[u8]) -> Result<String, AllocError> {
     let mut text = String::new(alloc);
     text.push('"')?;
@@ -27,7 +27,7 @@ pub(crate) fn shown(alloc: Global, field: &[u8]) -> Result<String, AllocError> {
     Ok(text)
 }
 
-/// Appends the first character of `left`, and returns what is behind it; or None if nothing is left.
+/// Appends the first character of `left`, and returns the bytes after it, or None if `left` is empty.
 fn push_first<'a>(
     text: &mut String,
     is_latin: bool,
@@ -61,7 +61,7 @@ fn push_character(text: &mut String, is_latin: bool, character: char) -> Result<
     }
 }
 
-/// Returns the first character of the bytes and what is behind it, or None if they don't begin with a character.
+/// Returns the first character of the bytes and the bytes after it, or None if they don't begin with a character.
 fn first_character(bytes: &[u8]) -> Option<(char, &[u8])> {
     for length in 1..=4 {
         if bytes.len() < length {
@@ -89,7 +89,7 @@ pub(crate) fn shown_at(
     }
 }
 
-/// Returns the word for one thing, or that for several.
+/// Returns the word `one` for one thing, else the word `several`.
 pub(crate) fn by_number(number: usize, one: &'static str, several: &'static str) -> &'static str {
     if number == 1 { one } else { several }
 }

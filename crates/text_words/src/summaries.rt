@@ -76,7 +76,7 @@ pub(crate) fn number_with(draft: &Draft, standing: Standing) -> usize {
         .count()
 }
 
-/// Says what the bounds of a category are, and how many have each value.
+/// Says what the bounds of a category's values are, and how many volunteers who aren't gone have each value.
 fn push_category(
     alloc: Global,
     text: &mut String,
@@ -113,7 +113,7 @@ pub(crate) fn number_having(draft: &Draft, place: usize, value_place: usize) -> 
         .count()
 }
 
-/// Says what a bundle or a proof holds besides its pool.
+/// Says what a bundle or a proof holds apart from its pool.
 fn push_answer(text: &mut String, reading: &Reading) -> Result<(), AllocError> {
     let panels = reading.panels;
     let total = reading.total.unwrap_or(0);

@@ -66,7 +66,7 @@ impl Word {
         )
     }
 
-    /// True for the words of the lines of a bundle behind its pool.
+    /// True for the words of the lines of a bundle after its pool.
     pub(crate) fn is_of_answer(self) -> bool {
         matches!(self, Word::Total | Word::Panel | Word::Stage | Word::Done)
     }
@@ -95,12 +95,12 @@ const ALL: [Word; 20] = [
     Word::Close,
 ];
 
-/// True if the field is as long as some word: that spares most comparisons.
+/// True if the field is no shorter than the shortest word and no longer than the longest, which spares most comparisons.
 fn has_length(field: &[u8]) -> bool {
     3 <= field.len() && field.len() <= 9
 }
 
-/// Returns the word that the field is in its one spelling.
+/// Returns the word whose one spelling the field is, if there is one.
 pub(crate) fn word_of(field: &[u8]) -> Option<Word> {
     if !has_length(field) {
         return None;
@@ -110,7 +110,7 @@ pub(crate) fn word_of(field: &[u8]) -> Option<Word> {
         .find(|word| word.spelling().as_bytes() == field)
 }
 
-/// Returns the word that the field is, whatever its capitals and the blanks around it.
+/// Returns the word that the field spells, if there is one, whatever its capitals and the blanks around it.
 pub(crate) fn word_like(field: &[u8]) -> Option<Word> {
     let field = field.trim_ascii();
     if !has_length(field) {

@@ -49,7 +49,7 @@ parted from ends ticket h i j d l m e =
     let below = leb-true (get_or ends j d) ticket e in
     le-leb (get_or ends i d) ticket (omega (arith, rises from ends i j d h l m))
 
--- the first range that ends after the ticket holds it
+-- the first range that ends after the ticket contains the ticket
 pub held : (from : ℕ) (ends : List ℕ) (i ticket : ℕ) → Rise from ends → from ≤ ticket → ticket < from + sum (gaps from ends) →
     ((k d : ℕ) → k < i → get_or ends k d ≤ ticket) → ((k d : ℕ) → i ≤ k → k < length ends → ticket < get_or ends k d) → HoldsTicket (gaps from ends) i (ticket - from)
 held from [] i ticket rise l h below above = absurd (omega arith)

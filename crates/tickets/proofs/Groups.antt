@@ -56,11 +56,9 @@ next_small value i digit small few = let e : i + 1 ≡ suc i = omega arith in rw
 pub small-power : (i : ℕ) → i < 38 → 10 ^ i ≤ 10 ^ 37
 small-power i l = pow-le-pow_right {n = 10} (omega arith) {i = i} {j = 37} (omega arith)
 
--- ---- the first group that is accepted
-
 -- ---- the ticket that digits name
 
--- if no byte is found that isn't a digit, all are digits
+-- if a search for a byte that is no digit finds none, all bytes are digits
 pub digits_alone : (digits : List ℕ) → position (λ byte. not (is_ascii_digit byte)) digits ≡ None → AreDigits digits
 digits_alone digits e = record { each = λ place l. not-false (is_ascii_digit (get_or digits place 0)) (position-None (λ byte. not (is_ascii_digit byte)) digits place 0 e l) }
 

@@ -1,7 +1,7 @@
 //! The tickets of a lottery: a table that finds the row of a ticket by binary search, and a call that reads which ticket the digits of dice
-//! name. Stands on `define_draws`, and on the lotteries of `pool_model`. Above: `sealed_draw`.
+//! name. Stands on `define_draws`, and on the lotteries of `pool_model`. Used by `sealed_draw`.
 //!
-//! Promises: `table` and `pick`, and `name_ticket`, each exactly the definition's.
+//! Promises: `table`, `pick` and `name_ticket` return exactly what the definitions say.
 #![tactic(auto)]
 
 mod dice;

@@ -1,4 +1,4 @@
--- The examples compute once the definition of digits is unfolded.
+-- The examples are proved by computation, with the definition of digits unfolded.
 use Rattle.std.proofs.Common.{refl}
 use Rattle.std.specs.Fmt.{digits}
 use Rattle.define_lines.proofs.worked_numbers.Goals as goal

@@ -1,4 +1,4 @@
--- The states compute once they are unfolded.
+-- The examples are proved by computation, with the definition of `state` unfolded.
 use Rattle.std.proofs.Common.{refl}
 use Rattle.define_made_pools.specs.Generator.{state}
 use Rattle.define_made_pools.proofs.first_numbers.Goals as goal

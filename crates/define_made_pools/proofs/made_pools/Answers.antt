@@ -1,4 +1,4 @@
--- The states and the digits compute once they are unfolded.
+-- The examples are proved by computation, with the definitions of `state` and of digits unfolded.
 use Rattle.std.proofs.Common.{refl}
 use Rattle.std.specs.Fmt.{digits}
 use Rattle.define_made_pools.specs.Generator.{state}

@@ -1,4 +1,4 @@
--- The digits and the common divisors compute once they are unfolded.
+-- The examples are proved by computation, with the definitions of digits and of common divisors unfolded.
 use Rattle.std.proofs.Common.{refl}
 use Rattle.std.specs.Fmt.{digits}
 use Rattle.frac128.specs.Divisors.{common_divisor_up_to, gcd_of}

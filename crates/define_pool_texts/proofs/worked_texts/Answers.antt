@@ -1,4 +1,4 @@
--- The examples are computed, for which the definitions of digits and of UTF-8 are unfolded.
+-- The examples are proved by computation, with the definitions of digits and of UTF-8 unfolded.
 use Rattle.std.proofs.Common.{refl}
 use Rattle.std.specs.Fmt.{digits}
 use Rattle.std.specs.Str.{is_utf8, chars}

@@ -1,4 +1,5 @@
--- The tests of UTF-8 compute once their definitions are unfolded.
+-- The example follows from the worked run by `found_certified`. That `four` is a pool is proved by computation, with the definitions of
+-- the tests of UTF-8 unfolded.
 use Rattle.std.proofs.Common.{arith, refl}
 use Rattle.std.specs.Str.{is_utf8, chars}
 use lib.Utf8.{encode}

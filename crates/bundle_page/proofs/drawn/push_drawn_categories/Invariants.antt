@@ -4,7 +4,7 @@ use Rattle.define_lines.specs.Lines.{text_of}
 use Rattle.bundle_page.specs.Drawn.{drawn_value_lines}
 use Rattle.bundle_page.proofs.drawn.push_drawn_categories.Given as goal
 
--- the rows of the categories so far
+-- `text` gained the rows of the first `place` categories
 abbrev pub invariant-loop-place : goal.invariant-loop-place
 invariant-loop-place l = l.text.items ≡ l.fn.text.items
     ++ text_of (flat_map (λ (place, category). drawn_value_lines l.pool.volunteers l.panel place category) (enumerate_from 0 (take l.place l.pool.categories)))

@@ -2,7 +2,7 @@ use Rattle.std.proofs.Common.{◌≡◌, ◌++◌, ◌≤◌, drop, length, map}
 use Rattle.bundle_page.specs.Markup.{filled}
 use Rattle.bundle_page.proofs.markup.put_values.Given as goal
 
--- what was appended so far, and the rest of the template with the values that are left, are the whole
+-- `text`, and after it the rest of the template filled with the values that are left, is the old text with the whole template filled
 abbrev pub invariant-loop-byte : goal.invariant-loop-byte
 invariant-loop-byte l = record {
   few : l.next ≤ length l.values;

@@ -2,6 +2,6 @@ use Rattle.std.proofs.Common.{◌≡◌, ◌-◌, ◌++◌}
 use Rattle.chance_numbers.specs.Decimals.{last_digits}
 use Rattle.chance_numbers.proofs.decimals.push_last_digits.Given as goal
 
--- the digits so far and those that are left are all of them
+-- `text` with the digits that are left to write is the old text with all `count` digits
 abbrev pub invariant-loop-place : goal.invariant-loop-place
 invariant-loop-place l = l.text.items ++ last_digits (l.count - l.place) l.number ≡ l.fn.text.items ++ last_digits l.count l.number

@@ -1,7 +1,7 @@
 use Rattle.std.proofs.Common.{◌+◌, ◌*◌, ◌-◌, ◌<◌, ◌≤◌}
 use Rattle.chance_numbers.proofs.decimals.ten_thousandths.Given as goal
 
--- `low` is reached, and `high` isn't
+-- rounded, `part / whole` has at least `low` ten-thousandths and fewer than `high`
 abbrev pub invariant-loop-low : goal.invariant-loop-low
 invariant-loop-low l = record {
   apart : l.low < l.high;

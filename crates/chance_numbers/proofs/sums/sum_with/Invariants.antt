@@ -4,7 +4,7 @@ use Rattle.std.specs.Prelude.{slice_index}
 use Rattle.define_pools.specs.Pool.{volunteer}
 use Rattle.chance_numbers.proofs.sums.sum_with.Given as goal
 
--- the counts of those volunteers so far who have the value, added up
+-- `sum` is the sum of the counts of those of the first `i` volunteers who have the value
 abbrev pub invariant-loop-i : goal.invariant-loop-i
 invariant-loop-i l = record {
   value : l.sum.whole * l.total + l.sum.rest

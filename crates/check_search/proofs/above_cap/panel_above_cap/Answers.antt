@@ -9,7 +9,8 @@ pub new-requires : goal.new-requires
 new-requires c =
     turned_in_ranges (is_stage (length c.args.pool.now.volunteers)) c.args.earlier.now c.deref.result.now c.args.stage.now c.requires.earlier c.requires.stage (c.deref.ensures.value ∙ c.in_ok-latest_first.ensures)
 
--- The code reverses the earlier stages, so that the latest is first. If its search makes at most `nodes` visits, so does the definition's.
+-- The code reverses the earlier stages, so that the latest is first. If its search makes at most `nodes` visits, so does the search of the
+-- definition.
 module _ (c : After-first_above) where
   same : c.deref.result.now ≡ reverse c.args.earlier.now
   same = c.deref.ensures.value ∙ c.in_ok-latest_first.ensures

@@ -1,17 +1,23 @@
 use Rattle.office_http.specs.Visits.{kept, link_told}
-use Rattle.command_desk.proofs.Turned.{not_opened, opened}
+use Rattle.command_desk.specs.DeskTold.{door_told}
+use Rattle.command_desk.proofs.Turned.{at_port, not_opened, opened}
 use Rattle.command_desk.proofs.serving.serve_door.Goals as goal
 
 pub returns-in-Ok-clause-served : goal.returns-in-Ok-clause-served
 returns-in-Ok-clause-served g c =
     let sees = λ (link : g.row.D-Link.Denot). link_told (g.D.Link.Link.left link) (g.D.Link.Link.written link) (g.D.Link.Link.faults link) in
-    opened sees c.args.serve.connections (g.D.Door.links c.args.door.now) (g.D.Door.links c.listen.new.self) (g.D.Door.links c.serve_links.new.door)
+    let before = kept (g.K.Keeper.tables c.args.keeper.now) (g.K.Keeper.faults c.args.keeper.now) in
+    let after = kept (g.K.Keeper.tables c.serve_links.new.keeper) (g.K.Keeper.faults c.serve_links.new.keeper) in
+    let served = opened sees c.args.serve.connections (g.D.Door.links c.args.door.now) (g.D.Door.links c.listen.new.self) (g.D.Door.links c.serve_links.new.door)
     (g.D.Door.faults c.args.door.now) (g.D.Door.faults c.listen.new.self) (g.D.Door.faults c.serve_links.new.door)
-    (kept (g.K.Keeper.tables c.args.keeper.now) (g.K.Keeper.faults c.args.keeper.now)) (kept (g.K.Keeper.tables c.serve_links.new.keeper) (g.K.Keeper.faults c.serve_links.new.keeper))
-    c.serve_links.result c.in-Ok.ensures.same c.in-Ok.ensures.none c.serve_links.ensures.served
+    before after c.serve_links.result c.in-Ok.ensures.same c.in-Ok.ensures.none c.serve_links.ensures.served in
+    at_port c.args.serve.port c.args.serve.connections
+    (door_told sees (g.D.Door.links c.args.door.now) (g.D.Door.links c.serve_links.new.door) (g.D.Door.faults c.args.door.now) (g.D.Door.faults c.serve_links.new.door))
+    (g.D.Door.opened_at c.listen.new.self) (g.D.Door.opened_at c.serve_links.new.door) before after c.serve_links.result c.in-Ok.ensures.port c.serve_links.ensures.port served
 
 pub returns-in-Err-clause-served : goal.returns-in-Err-clause-served
 returns-in-Err-clause-served g c =
     let sees = λ (link : g.row.D-Link.Denot). link_told (g.D.Link.Link.left link) (g.D.Link.Link.written link) (g.D.Link.Link.faults link) in
-    not_opened sees c.args.serve.connections (g.D.Door.links c.args.door.now) (g.D.Door.links c.listen.new.self) (g.D.Door.faults c.args.door.now) (g.D.Door.faults c.listen.new.self)
+    not_opened sees c.args.serve.port c.args.serve.connections (g.D.Door.links c.args.door.now) (g.D.Door.links c.listen.new.self) (g.D.Door.faults c.args.door.now)
+    (g.D.Door.faults c.listen.new.self) (g.D.Door.opened_at c.listen.new.self)
     (kept (g.K.Keeper.tables c.args.keeper.now) (g.K.Keeper.faults c.args.keeper.now)) c.in-Err.failed c.in-Err.ensures.same c.in-Err.ensures.cause

@@ -4,6 +4,6 @@ use Rattle.define_lines.specs.Lines.{text_of}
 use Rattle.command_loosen.specs.Lines.{moved_in}
 use Rattle.command_loosen.proofs.lines.push_categories.Given as goal
 
--- the lines of the categories so far were appended
+-- `text` gained the lines of the categories read so far
 abbrev pub invariant-loop-category : goal.invariant-loop-category
 invariant-loop-category l = l.text.items ≡ l.fn.text.items ++ text_of (flat_map moved_in (take (length l.yielded) (zip l.categories l.loosened)))

@@ -4,6 +4,6 @@ use Rattle.define_lines.specs.Lines.{text_of}
 use Rattle.command_loosen.specs.Lines.{moved_line}
 use Rattle.command_loosen.proofs.lines.push_values.Given as goal
 
--- the lines of the values so far were appended
+-- `text` gained the lines of the values read so far
 abbrev pub invariant-loop-value : goal.invariant-loop-value
 invariant-loop-value l = l.text.items ≡ l.fn.text.items ++ text_of (flat_map (moved_line l.category) (take (length l.yielded) (zip l.values l.loosened)))

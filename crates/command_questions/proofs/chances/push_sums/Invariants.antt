@@ -4,7 +4,7 @@ use Rattle.define_lines.specs.Lines.{text_of}
 use Rattle.command_questions.specs.Chances.{value_lines}
 use Rattle.command_questions.proofs.chances.push_sums.Given as goal
 
--- the lines of the categories so far
+-- `text` gained the lines of the first `place` categories
 abbrev pub invariant-loop-place : goal.invariant-loop-place
 invariant-loop-place l = l.text.items ≡ l.fn.text.items
     ++ text_of (flat_map (λ (place, category). value_lines l.pool.volunteers l.counts l.total place category) (enumerate_from 0 (take l.place l.pool.categories)))

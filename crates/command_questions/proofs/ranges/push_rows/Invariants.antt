@@ -5,7 +5,7 @@ use Rattle.define_draws.specs.Tickets.{first_ticket, weights_of}
 use Rattle.command_questions.specs.Tickets.{row_line}
 use Rattle.command_questions.proofs.ranges.push_rows.Given as goal
 
--- the lines of the rows so far, and the first ticket after them
+-- `text` gained the lines of the first `place` rows, and `first` is the first ticket after them
 abbrev pub invariant-loop-place : goal.invariant-loop-place
 invariant-loop-place l = record {
   first : l.first ≡ first_ticket (weights_of l.lottery) l.place;

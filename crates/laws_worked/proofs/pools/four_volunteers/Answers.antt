@@ -1,4 +1,4 @@
--- The tests of UTF-8 compute once they are unfolded.
+-- Proved by computation, with the definitions of the tests of UTF-8 unfolded.
 use Rattle.std.proofs.Common.{refl}
 use Rattle.std.specs.Str.{is_utf8, chars}
 use lib.Utf8.{encode}

@@ -1,6 +1,6 @@
 use Rattle.std.proofs.Common.{◌-◌, length}
 use Rattle.loosening_by_proof.proofs.covers.+end_of_tree.Given as goal
 
--- the nodes from the tree's first on
+-- how many nodes there are from the tree's first node on
 abbrev pub decreases-end_of_tree : goal.decreases-end_of_tree
 decreases-end_of_tree l = length l.nodes.now - l.at

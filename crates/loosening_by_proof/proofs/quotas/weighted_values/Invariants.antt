@@ -4,6 +4,6 @@ use Rattle.define_conflicts.specs.LeastMisses.{quotas_of}
 use Rattle.define_cost_bounds.specs.CostBounds.{quotas_of_category}
 use Rattle.loosening_by_proof.proofs.quotas.weighted_values.Given as goal
 
--- the quotas of the categories read so far
+-- the list has the quotas of the categories read so far
 abbrev pub invariant-loop-place : goal.invariant-loop-place
 invariant-loop-place l = quotas_of l.weighted.items ≡ flat_map quotas_of_category (take l.place (enumerate_from 0 l.pool.categories))

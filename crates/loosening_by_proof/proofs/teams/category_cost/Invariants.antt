@@ -4,6 +4,6 @@ use Rattle.define_loosenings.specs.Teams.{missed_by}
 use Rattle.define_pools.specs.Pool.{members_with}
 use Rattle.loosening_by_proof.proofs.teams.category_cost.Given as goal
 
--- what the members miss of the values read so far
+-- the sum so far is the number of people by which the members miss the bounds of the values read so far
 abbrev pub invariant-loop-v : goal.invariant-loop-v
 invariant-loop-v l = l.sum ≡ sum_by (λ (v, value). missed_by value.lower value.upper (members_with l.volunteers l.members l.category v)) (take l.v (enumerate_from 0 l.values))

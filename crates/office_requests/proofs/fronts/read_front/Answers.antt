@@ -67,6 +67,7 @@ loop-room-preserved g c =
       headless = search_resumed c.loop-room.bytes.items more _ c.deref.result.now c.saturating_sub-from.result c.head_size.result c.loop-room.invariant.headless all from c.deref.ensures.value c.head_size.ensures
           ∙ ap (further c.saturating_sub-from.result) none;
       within = omega (arith, within, c.extend_from_slice.new.self.ok);
+      reads = omega (arith, c.loop-room.invariant.reads, c.read.ensures.one, ap length all, length-append c.loop-room.bytes.items more, length-take-le c.in-Ok.count c.read.new.room c.in-Ok.ensures.fits.0, c.loop-room.bytes.ok, c.extend_from_slice.new.self.ok);
       written = search rules;
       none = search rules;
     }

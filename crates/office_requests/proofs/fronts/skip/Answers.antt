@@ -13,6 +13,7 @@ loop-left-preserved g c =
         Consumes-trans _ _ _ _ _ c.loop-left.invariant.read.1 c.in_ok-taken.ensures.given.0,
         count_after c.loop-left.invariant.read.0 c.read.new.room c.in_ok-taken.taken c.loop-left.left c.args.count c.in_ok-taken.ensures.fits.0 few c.loop-left.invariant.read.2,
       );
+      reads = omega (arith, c.loop-left.invariant.reads, c.read.ensures.one, few);
       written = search rules;
       none = search rules;
     }

@@ -1,11 +1,12 @@
-use Rattle.std.proofs.Common.{◌≡◌, ◌+◌, ℕ, List, length}
+use Rattle.std.proofs.Common.{◌≡◌, ◌+◌, ◌≤◌, ℕ, List, length}
 use Rattle.std.specs.Io.KnownBytes.{Consumes}
 use Rattle.office_requests.proofs.fronts.skip.Given as goal
 
--- the bytes that were read, and those that are still to be read, are `count`
+-- the bytes that were read and those still to be read are `count` in all; each read so far took at least one byte
 abbrev pub invariant-loop-left : goal.invariant-loop-left
 invariant-loop-left g l = record {
   read : (bytes : List ℕ) × Consumes (g.L.Link.left l.fn.link) (g.L.Link.left l.link) bytes × (length bytes + l.left ≡ l.count);
+  reads : g.L.Link.reads l.link + l.left ≤ g.L.Link.reads l.fn.link + l.count;
   written : g.L.Link.written l.link ≡ g.L.Link.written l.fn.link;
   none : g.L.Link.faults l.link ≡ g.L.Link.faults l.fn.link;
 }

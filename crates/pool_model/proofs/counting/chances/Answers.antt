@@ -43,7 +43,7 @@ stored z n fits e = to_z-of_z w128 z fits ∙ e
 fits : (n : ℕ) → n < 2 ^ 127 → SFits w128 (pos n)
 fits n h = record { sfits = h }
 
--- if x is m and w is n, then x, plus w if `b` holds, is m, plus n if `b` holds
+-- if `x` is `m` and `w` is `n`, adding `w` to `x` if `b` holds gives the same as adding `n` to `m` if `b` holds
 more : (x w : ℤ) (b : Bool) (m n : ℕ) → x ≡ pos m → w ≡ pos n → cond b (x +ℤ w) x ≡ pos (m + cond b n 0)
 more x w true m n e f = ap (λ z. z +ℤ w) e ∙ ap (λ z. pos m +ℤ z) f
 more x w false m n e f = e ∙ (let g : m ≡ m + 0 = omega arith in ap pos g)

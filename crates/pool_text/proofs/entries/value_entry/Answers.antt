@@ -17,7 +17,7 @@ returns-then-rest-ne3 c =
     let same = length-map c.args.rest.now (λ field. field.now) in
     not_three (map (λ field. field.now) c.args.rest.now) (λ e. omega (arith, same))
 
--- if a value line has three fields after its word, the entry is a value of them
+-- if a value line has three fields after its word, the entry is the value made of these fields
 three : (fields : List (Bor (List ℕ))) (none : Bor (List ℕ)) (lower upper : ℕ) → length fields ≡ 3 →
     lower ≡ bound_of (get_or fields 1 none).now → upper ≡ bound_of (get_or fields 2 none).now →
     OfValue (record { name = (get_or fields 0 none).now; lower = lower; upper = upper }) ≡ entry_of_word ValueWord (map (λ field. field.now) fields)

@@ -1,6 +1,6 @@
 use Rattle.std.proofs.Common.{◌-◌, length}
 use Rattle.quota_conflicts.proofs.covers.+end_of_tree.Given as goal
 
--- the nodes from the tree's first on
+-- how many nodes there are from place `at` on: fewer in each inner call
 abbrev pub decreases-end_of_tree : goal.decreases-end_of_tree
 decreases-end_of_tree l = length l.nodes.now - l.at

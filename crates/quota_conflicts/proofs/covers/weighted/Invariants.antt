@@ -2,6 +2,6 @@ use Rattle.std.proofs.Common.{◌≡◌, take}
 use Rattle.define_conflicts.specs.LeastMisses.{quotas_of}
 use Rattle.quota_conflicts.proofs.covers.weighted.Given as goal
 
--- the quotas read so far
+-- `weighted` has the quotas read so far
 abbrev pub invariant-loop-k : goal.invariant-loop-k
 invariant-loop-k l = quotas_of l.weighted.items ≡ take l.k l.quotas

@@ -10,8 +10,8 @@ use Rattle.define_conflicts.specs.declared.Side.TheVariants.{AtLeast}
 use Rattle.define_conflicts.specs.declared.WeightedQuota.{WeightedQuota}
 use Rattle.quota_conflicts.proofs.misses.greatest_weight.Goals as goal
 
--- if no weight of the first `k` passes `some`, and neither `some` nor the next weight passes `more`, no weight of the first `k + 1` passes
--- it
+-- if none of the first `k` weights is above `some`, and neither `some` nor weight `k` is above `more`, none of the first `k + 1` weights is
+-- above `more`
 one_lighter : (weighted : List WeightedQuota) (k some more : ℕ) (d : WeightedQuota) → k < length weighted → some ≤ more → (get_or weighted k d).weight ≤ more →
     list_all (λ it. leb it.weight some) (take k weighted) ≡ true → list_all (λ it. leb it.weight more) (take (k + 1) weighted) ≡ true
 one_lighter weighted k some more d l grows next light =

@@ -3,7 +3,7 @@ use Rattle.std.specs.Prelude.{IsTrue}
 use Rattle.std.specs.List.{list_all}
 use Rattle.quota_conflicts.proofs.misses.greatest_weight.Given as goal
 
--- no weight read so far passes `greatest`
+-- no weight read so far is above `greatest`
 abbrev pub invariant-loop-it : goal.invariant-loop-it
 invariant-loop-it l = record {
   light : IsTrue (list_all (λ it. leb it.weight l.greatest) (take l.it-index l.weighted));

@@ -2,6 +2,6 @@ use Rattle.std.proofs.Common.{◌≡◌, take}
 use Rattle.define_conflicts.specs.LeastMisses.{weighed_bounds}
 use Rattle.quota_conflicts.proofs.misses.weighed_bounds.Given as goal
 
--- the sum of the bounds of the quotas read so far
+-- `sum` is the sum of the bounds of the quotas read so far, each times its weight
 abbrev pub invariant-loop-it : goal.invariant-loop-it
 invariant-loop-it l = l.sum ≡ weighed_bounds l.pool l.side (take l.it-index l.weighted)

@@ -2,6 +2,6 @@ use Rattle.std.proofs.Common.{◌≡◌, take, count_by}
 use Rattle.define_conflicts.specs.Quotas.{counts}
 use Rattle.quota_conflicts.proofs.quotas.number_counted.Given as goal
 
--- how many of the members read so far are counted
+-- `number` is how many of the members read so far are counted
 abbrev pub invariant-loop-i : goal.invariant-loop-i
 invariant-loop-i l = l.number ≡ count_by (counts l.pool l.counted) (take l.i-index l.members)

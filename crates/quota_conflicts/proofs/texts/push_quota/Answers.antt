@@ -6,7 +6,7 @@ use Rattle.define_conflicts.specs.Quotas.{bound}
 use Rattle.quota_conflicts.proofs.Added.{added_if_ok}
 use Rattle.quota_conflicts.proofs.texts.push_quota.Goals as goal
 
--- what is added in eight steps is added as one text
+-- parts that are added one after the other are added as one text
 regrouped : (text a b c d e f g h end : List ℕ) →
     (((((((text ++ a) ++ b) ++ c) ++ d) ++ e) ++ f) ++ g) ++ (h ++ end) ≡ text ++ ((((((((a ++ b) ++ c) ++ d) ++ e) ++ f) ++ g) ++ h) ++ end)
 regrouped text a b c d e f g h end = simp append_assoc

@@ -5,7 +5,7 @@ use Rattle.define_conflicts.specs.ConflictText.{is_seated}
 use Rattle.define_conflicts.specs.Quotas.{counts}
 use Rattle.quota_conflicts.proofs.texts.seated.Given as goal
 
--- the number among the first `i` volunteers
+-- `number` is how many of the first `i` volunteers are counted and seated
 abbrev pub invariant-loop-i : goal.invariant-loop-i
 invariant-loop-i l = record {
   number : l.number ≡ count_by (λ i. counts l.pool l.counted i && is_seated (volunteer l.pool.volunteers i).standing) (range_with_len 0 l.i);

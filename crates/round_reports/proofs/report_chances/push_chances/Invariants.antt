@@ -5,6 +5,6 @@ use Rattle.define_pools.specs.Pool.{volunteer}
 use Rattle.define_reports.specs.Report.{chance_line, chance_of}
 use Rattle.round_reports.proofs.report_chances.push_chances.Given as goal
 
--- the chances of the volunteers so far
+-- the lines of the chances of the first `i` volunteers are appended
 abbrev pub invariant-loop-i : goal.invariant-loop-i
 invariant-loop-i l = l.text.items ≡ l.fn.text.items ++ text_of (map (λ i. chance_line (volunteer l.pool.volunteers i).id (chance_of l.lottery i)) (range_with_len 0 l.i))

@@ -34,7 +34,7 @@ loop-row-preserved c =
     let this : c.share_of-left.result.whole ≡ whole (get_or weights j 0) = c.share_of-left.ensures.whole ∙ ap whole (sym here) in
     omega (arith, this, overflow_sub-left c, c.loop-row.invariant, sum_by_more whole weights j 0 room)
 
--- what is left when all rows were read
+-- after all rows were read, `left` is the number of tickets that the definition leaves
 left_at_end : (total tickets left j : ℕ) (weights : List ℕ) → length weights ≤ j →
     left + sum_by (whole_tickets total tickets) (take j weights) ≡ tickets → left ≡ tickets_left total tickets weights
 left_at_end total tickets left j weights l e =

@@ -4,6 +4,6 @@ use Rattle.define_short_draws.specs.Short.{whole_tickets}
 use Rattle.short_tickets.specs.Parts.{weights_in}
 use Rattle.short_tickets.proofs.rows.left_of.Given as goal
 
--- what is left and the whole tickets of the rows read so far are all tickets
+-- `left` and the whole tickets of the rows read so far sum to all tickets
 abbrev pub invariant-loop-row : goal.invariant-loop-row
 invariant-loop-row l = l.left + sum_by (whole_tickets l.total l.tickets) (take l.row-index (weights_in l.rows)) ≡ l.tickets

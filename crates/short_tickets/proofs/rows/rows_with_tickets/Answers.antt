@@ -11,7 +11,7 @@ use Rattle.short_tickets.proofs.LineLemmas.{gives_is}
 use Rattle.short_tickets.proofs.RowLemmas.{all_rows, length-tickets, rows_more, tickets_are, with_count}
 use Rattle.short_tickets.proofs.rows.rows_with_tickets.Goals as goal
 
--- one row on the line less to come
+-- after row `j` one tie fewer is left if the row is on the line, else the same number
 counted : (line : ℕ) (xs : List ℕ) (j ties own : ℕ) → j < length xs → own ≡ get_or xs j 0 →
     (ties - on line (take j xs)) - one_if (eqb own line) ≡ ties - on line (take (j + 1) xs)
 counted line xs j ties own l at = omega (arith, sum_by_more (λ x. one_if (eqb x line)) xs j 0 l, ap (λ x. one_if (eqb x line)) at)

@@ -4,7 +4,7 @@ use Rattle.define_short_draws.proofs.Ranks.{on}
 use Rattle.short_tickets.specs.Parts.{weights_in}
 use Rattle.short_tickets.proofs.rows.rows_with_tickets.Given as goal
 
--- the rows read so far that have a ticket, and how many rows on the line may still get one
+-- `kept` are the rows read so far that have a ticket, and the ties of `line` are how many rows on the line may still get one
 abbrev pub invariant-loop-row : goal.invariant-loop-row
 invariant-loop-row l = record {
   kept : l.kept.items ≡ rows_with_tickets (take l.row-index l.rows) (take l.row-index (tickets_by_weight l.total l.tickets (weights_in l.rows)));

@@ -6,7 +6,7 @@ use Rattle.check_reasons.specs.Courses.{Course, Keeps}
 use Rattle.check_reasons.proofs.Kept.{before_cap_is}
 use Rattle.check_reasons.proofs.courses.Course.before_cap.Goals as goal
 
--- If the list is that of the volunteers whom `kept` doesn't mark, it is that of the volunteers whom `marks` doesn't mark.
+-- If `kept` equals `marks`, the list of the volunteers whom `kept` doesn't mark is that of the volunteers whom `marks` doesn't mark.
 same_marks : (numbers : List ℕ) (kept marks : List Bool) → kept ≡ marks → numbers ≡ filter (λ i. not (get_or kept i false)) (range_with_len 0 (length kept)) → numbers ≡ filter (λ i. not (get_or marks i false)) (range_with_len 0 (length marks))
 same_marks numbers kept marks e f = f ∙ ap (λ (xs : List Bool). filter (λ i. not (get_or xs i false)) (range_with_len 0 (length xs))) e
 

@@ -6,7 +6,7 @@ use Rattle.check_reasons.specs.Courses.{Course, Keeps}
 use Rattle.check_reasons.proofs.Kept.{left_with, many_passed}
 use Rattle.check_reasons.proofs.courses.Course.left.Goals as goal
 
--- If the volunteer is the first whom `kept` doesn't mark, it is the first whom `marks` doesn't mark.
+-- If `kept` equals `marks`, the first volunteer whom `kept` doesn't mark, if there is one, is the first whom `marks` doesn't mark.
 same_marks : (found : Option ℕ) (kept marks : List Bool) → kept ≡ marks → found ≡ find (λ i. not (get_or kept i false)) (range_with_len 0 (length kept)) → found ≡ find (λ i. not (get_or marks i false)) (range_with_len 0 (length marks))
 same_marks found kept marks e f = f ∙ ap (λ (xs : List Bool). find (λ i. not (get_or xs i false)) (range_with_len 0 (length xs))) e
 

@@ -45,7 +45,7 @@ enter-returns-in_err-spend t c =
     steps_err all closed row c.args.depth _ _ self _ c.spend.new.self c.from_residual.ensures.0
     (omega (arith, c.in_err-spend.ensures.err, enter_visits all closed row (drop c.args.depth all.classes) (take c.args.depth self.counts.items)))
 
--- If the front has no counts for the last classes, entering it takes one visit, and then the visits of its children.
+-- If classes come after those of the front, entering the front takes one visit, and then the visits of its children.
 module _ (t : ℕ) (c : enter-Else-depth-classes t) where
   below : c.args.depth < length c.args.terms.now.classes.classes
   below = omega (arith, c.requires.stands.within, c.if-depth-classes.false, ap length c.classes.ensures)

@@ -7,7 +7,7 @@ use Rattle.define_searches.specs.Fronts.{greatest_sum, optimistic}
 use Rattle.laws_of_fronts.proofs.WeightLaws.{front_narrow}
 use Rattle.check_search.proofs.weighing.Weights.optimistic.Goals as goal
 
--- The sum that the code makes is the front's weight plus the greatest sum of the classes after it.
+-- The sum that the code makes is the front's weight plus the greatest sum of units of the classes after the front.
 module _ (c : goal.After-weight) where
   weighs : c.weight.result +ℤ c.greatest_of-rest.result ≡ weight_in c.args.row.now.a c.args.front.now +ℤ greatest_sum c.args.lack (drop (length c.args.front.now) c.args.classes.now.classes) (drop (length c.args.front.now) c.args.row.now.a)
   weighs = ap (λ z. z +ℤ c.greatest_of-rest.result) c.weight.ensures ∙ ap (λ z. weight_in c.args.row.now.a c.args.front.now +ℤ z) c.greatest_of-rest.ensures

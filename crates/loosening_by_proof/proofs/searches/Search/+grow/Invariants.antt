@@ -1,5 +1,5 @@
 use Rattle.loosening_by_proof.proofs.searches.Search.+grow.Given as goal
 
--- the nodes that are left
+-- how many nodes the budget has left
 abbrev pub decreases-grow : goal.decreases-grow
 decreases-grow l = l.budget.now.nodes

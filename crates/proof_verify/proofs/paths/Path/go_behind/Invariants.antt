@@ -2,7 +2,7 @@ use Rattle.std.proofs.Common.{◌≡◌, length}
 use Rattle.define_additions.specs.TreeLines.{path_behind}
 use Rattle.proof_verify.proofs.paths.Path.go_behind.Given as goal
 
--- the decisions that are left have the same path after the leaf as all decisions
+-- the path of the next line, computed from the decisions that are left, is the one computed from all decisions
 abbrev pub invariant-loop-latest : goal.invariant-loop-latest
 invariant-loop-latest l = record {
   pool : l.self.pool ≡ l.initial.self.pool;
