@@ -54,8 +54,8 @@ map-take_more f (x ∷ xs) (suc k) d l = ap (λ rest. f x ∷ rest) (map-take_mo
 
 -- ---- the weight of one place of a dial, and the rows that it gives
 
--- bounds by the total: `den * places` is at most the total, and so is what all places weigh together, and what one place
--- weighs, `num * (total / (den * places))`
+-- three numbers are at most the total: `den * places`; the sum of the weights of all places; and the weight of one place, which is
+-- `num * (total / (den * places))`
 pub record PlaceWeight (num den places total : ℕ) : Type 0 where
   pub product : den * places ≤ total
   pub whole : places * (num * (total / (den * places))) ≤ total

@@ -34,7 +34,8 @@ take-both c xs ys = ⊎_elim beyond within (cases_lt (length xs) c)
         ∙ ap (λ zs. zs ++ take (c - length xs) ys) (sym (take_all (length xs) xs (omega arith)))
         ∙ ap (λ zs. take (length xs) xs ++ zs) (sym (cut (c - length xs) ys)))
 
--- if the first piece of a window, up to the end of the members, is marked, and then the second, from their beginning, the window is marked
+-- the first piece of a window ends at the end of the members, and the second begins at their beginning. If the first is marked, and then
+-- the second, the whole window is marked
 pub window_marked : (before mid after : List Bool) (start count : ℕ) (members first second : List ℕ) → first ≡ take (min count (length (drop start members))) (drop start members) →
     second ≡ take (min (length (take start members)) (count - min count (length (drop start members)))) (take start members) →
     AreMarked before mid (includes first) → AreMarked mid after (includes second) → AreMarked before after (includes (turned start count members))

@@ -1,4 +1,5 @@
--- What spreading returns with a common total, and where it stops.
+-- If there is a common total, the lottery that is made of it is the one that `spread` returns. If not, `IsStop` allows the same stops for
+-- `spread` as for the common total.
 use Rattle.std.proofs.Common.{◌≡◌, ℕ, List, Ok, sym, ap, ◌∙◌}
 use Rattle.std.specs.List.{flat_map}
 use Rattle.frac128.specs.Fractions.{Fraction}

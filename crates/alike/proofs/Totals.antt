@@ -27,8 +27,8 @@ next_so_far all parts place total next part within at low e so_far =
     ∙ ap (λ n. total_from all (place + 1) (lcm_of total (part.1.den * dial all part.0)) (drop n parts)) more
     ∙ ap (λ n. total_from all (place + 1) n (drop (place + 1) parts)) (sym e)
 
--- if the common total passes 10 ^ 38 at part `place`, the definition returns a `TotalPass` with this place, the total of the parts before
--- it, and its denominator
+-- if the common total passes 10 ^ 38 at part `place`, the definition returns a `TotalPass` with this place, the common total of the parts
+-- before it, and the denominator of this part's fraction
 pub passes_here : (all : Classes) (parts : List (List ℕ × Fraction)) (place total : ℕ) (part : List ℕ × Fraction) → place < length parts → part ≡ get_or parts place part →
     greatest_total < lcm_of total (part.1.den * dial all part.0) → total_from all 0 1 parts ≡ total_from all place total (drop place parts) →
     total_from all 0 1 parts ≡ Err (record { place = place; total = total; den = part.1.den })

@@ -1,4 +1,5 @@
--- What the helpers of spreading require of the total of one part, the row of an arc, and which places of a list are marked.
+-- Terms of the contracts of src/spreading.rt and src/arcs.rt: a total that suits a part, the row of an arc, and a list in which places are
+-- marked.
 use Rattle.std.specs.Prelude.{◌≡◌, ℕ, ◌*◌, ◌/◌, ◌<◌, ◌≤◌, Bool, false, ◌||◌, List, length, slice_index_or}
 use Rattle.std.specs.Int.{◌∣◌}
 use Rattle.frac128.specs.Fractions.{Fraction}

@@ -92,7 +92,7 @@ fn turns(size: usize, places: u128, at: u128) -> usize
     (at / (places / size as u128)) as usize
 }
 
-// Marks `count` members from `start` on, and goes on at the first member after the last one.
+// Marks `count` members, beginning with the one at place `start`. After the last member it goes on with the first.
 fn mark_window(given: &mut [bool], members: &[usize], start: usize, count: usize)
     requires start { start ≤ length members.now }
     requires members { All (λ i. i < length given.old) members.now }

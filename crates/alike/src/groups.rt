@@ -145,9 +145,9 @@ impl ValueBounds {
 }
 
 /// The classes of a pool, in the order of their first members, with the size of a panel and the bounds of each category's values. They
-/// are within the limits of a pool: a size from 1 to 200; at most 20 categories of at most 50 values, with bounds in order and at most
-/// 999; at most 400 classes with at most 400 members in all, each class with a member and with a value of each category. Each volunteer
-/// is in exactly one class.
+/// are within the limits of a pool: a size from 1 to 200; at most 20 categories of at most 50 values, each with a lower bound that is at
+/// most the upper one, which is at most 999; at most 400 classes with at most 400 members in all, each class with a member and with a value
+/// of each category. Each volunteer is in exactly one class.
 #[derive(Debug, Drop)]
 pub struct Classes {
     size: usize,
@@ -193,7 +193,7 @@ impl Classes {
         &self.bounds
     }
 
-    /// Returns the classes, in order.
+    /// Returns the classes, in the order of their first members.
     pub fn classes(&self) -> &[Class]
         ensures { result.now ≡ self.now.classes }
     {

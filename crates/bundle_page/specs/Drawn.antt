@@ -1,5 +1,5 @@
 -- The part of the page about a draw: the digits and the ticket that they name, the members of its panel, and for each value how many of
--- them have it, beside its bounds. Builds on Markup.
+-- them have it, beside its bounds. Builds on Markup, and on Draw of `define_draws`.
 use Rattle.std.specs.Prelude.{ℕ, ◌==◌, if◌then◌else◌, List, [], ◌∷◌, ◌++◌, map, unsigned_abs}
 use Rattle.std.specs.Fmt.{decimal}
 use Rattle.std.specs.List.{enumerate_from, flat_map}

@@ -1,4 +1,4 @@
--- Templates with their values, and the HTML of names and numbers.
+-- How a template is filled with values, and how names and numbers in per cent are written in HTML. Drawn and Page build on it.
 use Rattle.std.specs.Prelude.{ℕ, ◌==◌, if◌then◌else◌, List, [], ◌∷◌, ◌++◌, codes}
 use Rattle.std.specs.List.{flat_map}
 use Rattle.chance_numbers.specs.Decimals.{fixed_point}

@@ -1,4 +1,4 @@
-//! Templates that are filled with values, and the HTML of names and of fractions in per cent.
+//! Fills templates with values, and writes names, and numbers in per cent, as HTML.
 
 ghost use Rattle.std.specs.Prelude.{◌≡◌, ◌++◌, ◌∷◌, [], map, IfOk, OnOk};
 ghost use Rattle.define_lines.specs.Lines.{text_of};

@@ -1,4 +1,4 @@
-//! The page, made of its parts.
+//! Writes the page: its head, the words below the heading, the part about a draw if there is one, and the parts of the other modules.
 
 ghost use Rattle.std.specs.Prelude.{◌≡◌, ◌≤◌, ◌^◌, ◌++◌, ◌∷◌, [], length, slice_index, EachIndex, IfOk, OnOk};
 ghost use Rattle.define_lines.specs.Lines.{text_of};

@@ -1,4 +1,5 @@
--- The pieces of a text, one line at a time.
+-- Reading a bundle's text one line at a time: a stop at a line is the stop of the whole reading. Also what `IsRight` says of the last
+-- progress.
 use Rattle.std.proofs.Common.{◌≡◌, ℕ, List, ◌∷◌, Result, Err, sym, subst}
 use Rattle.define_lines.specs.Lines.{Fault, pieces_of}
 use Rattle.define_lines.specs.Reading.{read_lines}
@@ -22,7 +23,7 @@ stops_at T number progress rest line later parted wanted same stop tells told e 
     by OutOfMemory h = tt
     by (Kind kind) h = reading.stops_at reader number progress rest line later parted wanted same kind h
 
--- if the progress after the last line is right, the answer's numbers are in the ranges
+-- if `IsRight` holds of a progress, so does `IsDoneRight`
 pub done_right : (progress : Progress) → IsRight progress → IsDoneRight progress
 done_right Begun right = tt
 done_right (InPool second progress) right = tt

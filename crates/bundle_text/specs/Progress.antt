@@ -21,7 +21,7 @@ seen (InRows pool lottery) = words.InRows pool lottery
 seen (InStages pool lottery stages) = words.InStages pool (record { lottery = lottery; stages = stages })
 seen (Done pool answer) = words.Done (record { pool = pool; answer = answer })
 
--- after the last line, the answer's numbers are in the ranges
+-- if the progress is `Done`, the numbers of its answer are in the ranges of a bundle
 abbrev pub IsDoneRight : words.Progress → Type 0
 IsDoneRight words.Begun = Unit {0}
 IsDoneRight (words.InPool second progress) = Unit {0}

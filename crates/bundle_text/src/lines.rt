@@ -1,4 +1,4 @@
-//! Reads the lines after the pool.
+//! Reads the lines of a bundle's text after those of the pool.
 
 ghost use Rattle.std.specs.Prelude.{◌≡◌, ◌≤◌, ◌-◌, ◌^◌, ◌≤ℤ◌, pos, map, Some, IfOk, IfSome, option_map, unsigned_abs};
 ghost use Rattle.define_lines.specs.Lines.{fields_of};
@@ -30,7 +30,7 @@ pub(crate) enum AnswerLine {
     Unknown,
 }
 
-/// Reads a line after the total, in a bundle of a pool with this many `volunteers`.
+/// Reads a line after the total, in a bundle of a pool with `volunteers` volunteers.
 pub(crate) fn answer_line(
     alloc: Global,
     volunteers: usize,
@@ -119,7 +119,7 @@ fn right_stage(volunteers: usize, stage: Stage) -> AnswerLine
     }
 }
 
-/// Returns the numbers up to `limit` that the fields spell, or `None` if a field spells none.
+/// Returns the numbers that the fields spell, or `None` if a field spells no number up to `limit`.
 fn numbers_up_to(
     alloc: Global,
     limit: usize,
@@ -137,7 +137,7 @@ fn numbers_up_to(
     Ok(Some(numbers))
 }
 
-/// Returns the numbers with a sign that the fields spell, or `None` if a field spells none.
+/// Returns the numbers with a sign that the fields spell, or `None` if a field spells no number from -(2^127 - 1) to 2^127 - 1.
 fn signed_numbers(alloc: Global, fields: &[&[u8]]) -> Result<Option<Vec<i128>>, AllocError>
     ensures { IfOk result (λ numbers. option_map (λ v. v.items) numbers ≡ signed_of (map (λ field. field.now) fields.now)) }
 {

@@ -1,4 +1,5 @@
-//! Tests whether the numbers of an answer are in the ranges of a bundle. `Bundle::new` calls `is_in_ranges`.
+//! Tests whether the numbers of an answer are in the ranges of a bundle. `Bundle::new` calls `is_in_ranges`, and `lines` tests the numbers
+//! of each line.
 
 ghost use Rattle.std.specs.Prelude.{◌≡◌, ◌≤ℤ◌, ◌↔◌, ◌-◌, ◌^◌, pos, unsigned_abs, nat_lt, nat_le, length, IsTrue};
 ghost use Rattle.std.specs.List.{list_all};

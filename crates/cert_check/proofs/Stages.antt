@@ -69,7 +69,7 @@ pub refused_at : (pool : Pool) (lottery : Lottery) (nodes : ℕ) (earlier later 
 refused_at pool lottery nodes earlier later stage verdict e h =
     by_first pool lottery nodes earlier later stage ∙ ap (λ said. then said (answer_from pool lottery nodes (stage ∷ earlier) later)) e ∙ stops_at (Ok verdict) (answer_from pool lottery nodes (stage ∷ earlier) later) verdict h
 
--- if the stop `stop` is right for the first stage, it is right for all stages
+-- if `Answers` allows the stop `stop` for the first stage, it allows this stop for all stages
 pub stopped_at : (pool : Pool) (lottery : Lottery) (nodes : ℕ) (earlier later : List Stage) (stage : Stage) (stop : CheckStop) → Answers (stage_answer pool lottery nodes earlier stage) (Err stop) →
     Answers (answer_from pool lottery nodes earlier (stage ∷ later)) (Err stop)
 stopped_at pool lottery nodes earlier later stage (NodesSpent number) e =

@@ -1,4 +1,5 @@
--- The result of a check. Builds on Steps of `define_checks`. The promise of `check` cites it.
+-- The result of a check. Builds on Reasons, Steps and Visits of `define_checks`. The promise of `check` cites it, and so does
+-- `command_bundles`.
 use Rattle.std.specs.Prelude.{◌≡◌, ℕ, ◌+◌, nat_lt, if◌then◌else◌, List, length, Result, Ok, Err}
 use Rattle.define_pools.specs.Certificate.{Stage}
 use Rattle.define_pools.specs.Lottery.{Lottery}

@@ -1,4 +1,4 @@
--- Sums of counts: their digits, their lowest terms, and one count more.
+-- Lemmas on sums of counts: their digits, their lowest terms, their rounding, and the sum with one more count.
 use Rattle.std.proofs.Common.{◌≡◌, ℕ, zero, suc, ◌+◌, ◌*◌, ◌/◌, ◌%◌, ◌^◌, ◌<◌, ◌≤◌, min, max, Bool, true, false, not, List, [], ◌∷◌, ◌++◌, append_assoc, filter, fold, length, get_or, refl, sym, ap, subst, ◌∙◌, inr, arith}
 use Rattle.std.specs.Fmt.{decimal}
 use Rattle.std.specs.Int.{IsGcd, ◌∣◌}

@@ -1,4 +1,4 @@
-//! Fractions and decimals as texts.
+//! Fractions and decimals as texts, and rounding to ten-thousandths.
 
 ghost use Rattle.std.specs.Prelude.{◌≡◌, ◌<◌, ◌≤◌, ◌+◌, ◌*◌, ◌/◌, ◌%◌, ◌^◌, ◌↔◌, ◌++◌, string_bytes, IfOk, IsTrue, OnOk};
 ghost use Rattle.std.specs.Ordering.{nat_cmp};

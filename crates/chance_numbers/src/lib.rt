@@ -2,7 +2,8 @@
 //! those who have a value, and their texts as fractions and decimals. Stands on the lotteries of `pool_model` and on `frac128`. Used by
 //! `command_questions`, which prints them as lines, and `bundle_page`, which shows them on a page.
 //!
-//! Promises: each call returns the number, or the text, of the definitions: the chances of `define_pools`, and those in `specs`.
+//! Promises: each call returns the number or the text that is defined: counts in `define_pools`, the least and the greatest count in
+//! `define_made_pools`, fractions in `frac128`, and all else in `specs`.
 #![tactic(auto)]
 
 mod counts;

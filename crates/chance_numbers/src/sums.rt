@@ -13,7 +13,7 @@ use itoa::Buffer;
 use pool_model::Volunteer;
 use std::alloc::{AllocError, Global};
 
-/// The sum of some counts: `whole` times the total, and `rest`, which is less than the total.
+/// The sum of some counts: `whole` times the total, plus `rest`, which is less than the total.
 #[derive(Clone, Copy, Debug)]
 pub struct Sum {
     pub whole: u128,

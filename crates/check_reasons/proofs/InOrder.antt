@@ -1,4 +1,5 @@
--- The first element that a loop finds in a list, from the part that it has read.
+-- Lemmas for two loops over a list: one looks for the first element that passes a test, and one for the first that equals an earlier
+-- element. They say what the next element adds to what is known of the elements before it.
 use Rattle.std.proofs.Common.{◌≡◌, ℕ, zero, suc, ◌+◌, ◌<◌, Bool, true, false, cond, ◌||◌, List, [], ◌∷◌, length, map, get_or, take, Option, Some, None, refl, sym, ap, ◌∙◌, arith}
 use Rattle.std.specs.Prelude.{bytes_eq}
 use Rattle.std.specs.List.{find, list_any}

@@ -110,7 +110,7 @@ many_passed stages p l = length-reverse (take p stages) ∙ length-take-le p sta
 pub next_passed : (stages : List Stage) (p : ℕ) (d : Stage) → p < length stages → reverse (take (p + 1) stages) ≡ get_or stages p d ∷ reverse (take p stages)
 next_passed stages p d l = ap reverse (take_more stages p d l) ∙ reverse-append (take p stages) (get_or stages p d ∷ [])
 
--- If `new` also marks those whom the next stage settles, the counts and marks are right after that stage.
+-- If `new` also marks those whom the next stage settles, `Keeps` holds after that stage.
 pub marks_more : (pool : Pool) (lottery : Lottery) (stages : List Stage) (p : ℕ) (stage : Stage) (counted : List ℤ) (marks new : List Bool) → p < length stages → stage ≡ get_or stages p stage →
     Keeps (record { pool = pool; lottery = lottery; earlier = reverse (take p stages); later = drop p stages }) counted marks → length new ≡ length marks →
     ((i : ℕ) → i < length marks → get_or new i false ≡ (is_positive stage i || get_or marks i false)) →
@@ -126,7 +126,7 @@ marks_more pool lottery stages p stage counted marks new l e keeps same marked =
           (λ i below. marked i (omega arith) ∙ ap (λ b. is_positive stage i || b) (settled_kept course counted marks keeps i below) ∙ sym (ap (λ stages. is_settled stages i) earlier));
     }
 
--- If `counted` has each volunteer's count, and no volunteer is marked, the counts and marks are right before the first stage.
+-- If `counted` has each volunteer's count, and no volunteer is marked, `Keeps` holds before the first stage.
 pub none_settled : (pool : Pool) (lottery : Lottery) (stages : List Stage) (counted : List ℤ) (marks : List Bool) → counted ≡ map pos (counts pool lottery) → length marks ≡ length pool.volunteers →
     ((i : ℕ) → i < length pool.volunteers → get_or marks i false ≡ false) → Keeps (record { pool = pool; lottery = lottery; earlier = []; later = stages }) counted marks
 none_settled pool lottery stages counted marks e many none = record {

@@ -1,5 +1,5 @@
-//! A check between two stages of a certificate: what it keeps of the lottery and of the stages that it passed, and the reasons of a stage,
-//! all except reason 8: a quota panel is above the stage's cap.
+//! A check between two stages of a certificate: what it keeps of the lottery and of the stages that it passed, and tests of all reasons of
+//! a stage but reason 8, that a quota panel is above the stage's cap.
 
 ghost use Rattle.std.specs.Prelude.{◌≡◌, ◌∷◌, [], ◌+◌, ◌<◌, ◌-◌, ◌≤◌, ◌^◌, ◌||◌, ℕ, false, IfOk, filter, int_lt, length, map, not, option_map, pos, reverse, slice_index_or, sum_by, unsigned_abs};
 ghost use Rattle.std.specs.List.{find, range_with_len};

@@ -38,7 +38,7 @@ impl Refusal {
         self.reason
     }
 
-    /// Returns the numbers of the volunteers who show the reason. For the reasons 11 and 12, which only a proof has, it has instead the
+    /// Returns the numbers of the volunteers who show the reason. For the reasons 11 and 12, which only a proof has, returns instead the
     /// number of the faulty line in the proof's text.
     pub fn who(&self) -> &[usize]
         ensures { result.now ≡ self.now.who }

@@ -17,7 +17,7 @@ use Rattle.laws_of_fronts.proofs.Fronts.{within_more, placed, front_length}
 use Rattle.laws_of_fronts.proofs.WeightLaws.{weighs_back}
 use Rattle.define_searches.proofs.FirstSearch.{taken_none}
 
--- If only the tally changes, and is then right for the front with the classes `rest'` to come, the search is still at the front.
+-- If only the tally changes, and it then tracks the front with the classes `rest'` still to come, the search is still at the front.
 pub stands_with : (all : Classes) (closed : List Row) (row : Row) (depth : ℕ) (rest rest' : List Class) (before after : Search) → StandsAt all closed row depth rest before → after.counts.items ≡ before.counts.items →
     after.weights ≡ before.weights → after.closed.items ≡ before.closed.items → Tracks all (take depth before.counts.items) rest' after.tally → StandsAt all closed row depth rest' after
 stands_with all closed row depth rest rest' before after stands e g h tracks = record {

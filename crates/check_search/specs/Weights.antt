@@ -18,7 +18,7 @@ weights_of weights = weights.by_length.items
 abbrev pub IsSummed : Classes → Row → Sums → Type 0
 IsSummed all row sums = laws.IsSummed all row (table_of sums)
 
--- each row has a table, in order, which has the greatest sums in that row
+-- the tables are in the rows' order, one for each row, and each has the greatest sums of units in its row
 abbrev pub SumEach : Classes → List Row → List Sums → Type 0
 SumEach = laws.SumEach table_of
 

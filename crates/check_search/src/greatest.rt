@@ -10,8 +10,8 @@ use crate::groups::Classes;
 use crate::rows::StageRow;
 use std::alloc::{AllocError, Global};
 
-// For each place, the greatest sums of 0, 1, 2 and more units, up to the size, of the classes from that place on. The table has (classes +
-// 1) times (size + 1) numbers of 16 bytes, from the last class to the first.
+// A table that holds, for each place, the greatest sums of 0, 1, 2 and more units, up to the size, of the classes from that place on. It
+// has (classes + 1) times (size + 1) numbers of 16 bytes, from the last class to the first.
 #[derive(Debug, Drop)]
 pub(crate) struct Sums {
     cells: Vec<i128>,
@@ -62,7 +62,8 @@ pub(crate) fn all_sums(
     Ok(sums)
 }
 
-// Returns one list of sums after the other, for the last 0, 1, 2 and more classes: the greatest sums of 0 up to `size` of their units.
+// Returns the cells of the table `Sums` for a row with these entries: for the last 0, 1, 2 and more classes in turn, the greatest sums of 0
+// up to `size` of their units.
 fn greatest_sums(
     alloc: Global,
     classes: &Classes,

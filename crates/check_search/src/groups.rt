@@ -145,9 +145,10 @@ impl ValueBounds {
     }
 }
 
-/// The classes of a pool, in the order of their first members, with the size of a panel and the bounds of each category's values. They
-/// are within the limits of a pool: a size from 1 to 200; at most 20 categories of at most 50 values, with bounds in order and at most
-/// 999; at most 400 classes with at most 400 members in all, each class with a member and with a value of each category.
+/// The classes of a pool, in the order of their first members, with the size of a panel and the bounds of each category's values. They are
+/// within the limits of a pool. The size is from 1 to 200. There are at most 20 categories of at most 50 values, and a value's lower bound
+/// is at most its upper one, which is at most 999. There are at most 400 classes with at most 400 members in all. Each class has a member,
+/// and a value of each category.
 #[derive(Debug, Drop)]
 pub(crate) struct Classes {
     size: usize,
@@ -191,7 +192,7 @@ impl Classes {
         &self.bounds
     }
 
-    // Returns the classes, in order.
+    // Returns the classes, in the order of their first members.
     pub(crate) fn classes(&self) -> &[Class]
         ensures { result.now ≡ self.now.classes }
     {

@@ -72,8 +72,8 @@ impl From<BudgetSpent> for CapStop {
 #[derive(Debug, Clone, Copy)]
 pub(crate) struct BudgetSpent;
 
-// The state of a search. The front is at the beginning of `counts`, which has a place for each class. Then: what the front takes, what it
-// weighs in the row and in each closed row, and how many visits are left.
+// The state of a search: `counts`, which has a place for each class and begins with the front; what the front takes; what it weighs in the
+// row and in each closed row; and how many visits are left.
 #[derive(Debug, Drop)]
 struct Search {
     counts: Vec<usize>,

@@ -1,4 +1,5 @@
-//! Counters for values, 50 places for each category, and the counts that the bounds allow. A helper of `tally`.
+//! Counts how many members have each value, in 50 places for each category, and tests which further counts the bounds allow. A helper of
+//! `tally`.
 
 ghost use Rattle.std.specs.Prelude.{◌≡◌, ℕ, List, true, false, ◌≤◌, ◌<◌, ◌+◌, ◌^◌, length};
 ghost use Rattle.laws_of_fronts.specs.Tallies.{HaveCells, CanGive, AreAtMost, HasMore, HaveBounds, AllReach, FitCells, EachReaches, SomeFails, within_reach};

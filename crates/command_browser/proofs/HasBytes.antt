@@ -1,4 +1,4 @@
--- No right text of the commands here is empty: each begins with a line.
+-- Each right text of a command of this crate begins with a line, so none is empty.
 use Rattle.std.proofs.Common.{◌≡◌, ℕ, ◌≤◌, List, [], ◌∷◌, ◌++◌, length, ap, arith, length-append}
 use Rattle.std.specs.Prelude.{Option, Some, None, codes, map}
 use Rattle.std.specs.Fmt.{decimal}

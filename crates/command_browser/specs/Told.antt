@@ -7,8 +7,8 @@ use Rattle.command_shell.specs.Subjects.{About, Format}
 
 -- ---- the text
 
--- the text is that of an answer about the bytes, or the bytes are more than an input may have. `Means` says which answers are right about a
--- value
+-- the text is that of a right answer about the bytes. If the bytes are more than an input may have, it is the line that says so. `Means`
+-- says which answers are right about a value
 pub data TextAbout {Value : Type 0} (format : Format Value) (Means : Value → Saying → Type 0) (bytes text : List ℕ) : Type 0 where
   Answers : (answer : Saying) → length bytes ≤ input_limit → About format Means bytes answer → text ≡ bytes_of answer → TextAbout format Means bytes text
   TooLong : input_limit < length bytes → text ≡ too_long_line → TextAbout format Means bytes text
@@ -40,5 +40,5 @@ pub record IsPut (text before after : List ℕ) (count : ℕ) : Type 0 where
 pub data Told (Right : List ℕ → Type 0) (before after : List ℕ) (count : ℕ) : Type 0 where
   -- a right text was told, or the room was too short for it
   Tells : (text : List ℕ) → Right text → IsPut text before after count → Told Right before after count
-  -- the count is 0: memory was wanting, which may come at any time
+  -- the count is 0: memory was wanting, which is allowed at any time
   WantsMemory : count ≡ 0 → after ≡ before → Told Right before after count

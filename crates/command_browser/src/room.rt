@@ -1,4 +1,4 @@
-//! The room that a page lends for a text.
+//! Puts a text into `room`, the bytes that a page lends for it. Each call of `calls` ends with `tell`.
 
 ghost use Rattle.std.specs.Prelude.{◌≡◌, ◌≤◌, IfErr, IfOk, length};
 ghost use Rattle.command_browser.specs.Told.{IsPut};

@@ -9,7 +9,7 @@ use Rattle.define_bundles.specs.BundleText.{Bundle, IsBundle}
 use Rattle.define_bundles.specs.Ranges.{is_row, is_weight}
 use Rattle.sealed_draw.specs.Answers.{IsOfRow}
 
--- if all rows are in range, each member of the panel of row `row` is below `volunteers`
+-- if `is_row` holds of all rows, each member of the panel of row `row` is below `volunteers`
 pub panel_in_range : (volunteers : ℕ) (rows : List LotteryRow) (row : ℕ) → list_all (is_row volunteers) rows ≡ true →
     list_all (λ i. ltb i volunteers) (get_or (map (λ (r : LotteryRow). r.panel) rows) row []) ≡ true
 panel_in_range volunteers [] row h = refl

@@ -1,4 +1,4 @@
--- Visits after earlier visits, and the case without visits.
+-- `AreAttended` holds of visits and then later visits if it holds of both; and it holds of no visits if door and keeper are as before.
 use Rattle.std.proofs.Common.{◌≡◌, ℕ, ◌+◌, ◌++◌, List, [], ◌∷◌, length, take, drop, Option, Some, None, refl, sym, ap, subst, ◌∙◌, append_assoc, append-nil, length-append, arith}
 use Rattle.std.specs.Prelude.{map, option_map, IfSome}
 use Rattle.std.proofs.Math.Seq.{take-add}

@@ -36,8 +36,8 @@ pub door_failed : (path : List ℕ) (port connections : ℕ) (call : Told) (keep
 door_failed path port connections call keeper door ports failed attached (visits, attended, within, faulted, at) stopped =
     DoorFault visits at (record { attached = attached; attended = attended; within = within }) faulted stopped
 
--- if attaching changed neither the tables that the keeper tells nor its count of faults, what `ServesAt` says of the keeper as it was
--- attached, it also says of the keeper as it was before
+-- if attaching changed neither the tables that the keeper tells nor its count of faults, then in `ServesAt` the keeper from before the
+-- attaching can take the place of the attached keeper
 pub from_before : (port connections : ℕ) (door : Door) (opened : Option ℕ) (tables now : Option Tables) (faults count : ℕ) (after : Kept) (result : Result Counts Failed) → now ≡ tables → count ≡ faults →
     ServesAt port connections door opened (kept now count) after result → ServesAt port connections door opened (kept tables faults) after result
 from_before port connections door opened tables now faults count after result same none serves =

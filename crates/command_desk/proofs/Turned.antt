@@ -65,8 +65,8 @@ failed_turn connections turns door between before kept after counts failed way f
 
 -- ---- the door is opened first
 
--- if opening the door changed neither its links nor its count of faults, what `ServesDoor` says of the open door, it also says of the door
--- as it was before
+-- if opening the door changed neither its links nor its count of faults, then in `ServesDoor` the door from before the opening can take
+-- the place of the open door
 pub opened : {L : Type 0} (sees : L → LinkTold) (connections : ℕ) (links between after : Option (DoorLinks L)) (faults faults_between faults_after : ℕ) (before left : Kept) (result : Result Counts Failed) →
     between ≡ links → faults_between ≡ faults → ServesDoor connections (door_told sees between after faults_between faults_after) before left result →
     ServesDoor connections (door_told sees links after faults faults_after) before left result

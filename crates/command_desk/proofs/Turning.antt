@@ -36,7 +36,7 @@ none_out {L} None between after link left even gave next last =
 none_out {L} (Some told) between after link left even gave next last =
     subst NoMoreBack (sym (last ∙ ap (λ (l : Option (DoorLinks L)). option_map (λ told. after_back told left) l) next)) (is_back told.coming told.given told.back link left gave even)
 
--- ---- the visit, by what the links tell
+-- ---- the visit, as contracts see its link
 
 is_first : {L : Type 0} (sees : L → LinkTold) (coming : List L) (link : L) → Some link ≡ first_of coming → sees link ∷ [] ≡ take 1 (map sees coming)
 is_first sees [] link gave = absurd (cc)

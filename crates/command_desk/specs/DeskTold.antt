@@ -1,5 +1,6 @@
 -- What a call of the program did, as seen from outside: what `StoreTold` has of a call over a store, and the door and its port before and
--- after the call. A link of a door is seen by what it tells. ServeOutcomes and the contract of `office` cite it.
+-- after the call. A link of a door is seen by what it tells. ServeOutcomes and Turns cite it, and so do the contracts of `serve` and of
+-- `office`, and the headline.
 use Rattle.std.specs.Prelude.{◌≡◌, ◌≤◌, ℕ, List, length, map, Option, IfSome, option_map}
 use Rattle.command_shell.specs.Told.{IsUntouched, Object, object}
 use Rattle.command_stores.specs.StoreTold.{StoreTold}
@@ -34,7 +35,7 @@ pub record DeskTold : Type 0 where
 abbrev pub desk_told : StoreTold → Door → Ports → DeskTold
 desk_told store door ports = record { store = store; door = door; ports = ports }
 
--- the door gave and took back no link and counted no fault, and wasn't opened at another port
+-- the door is as before: it gave no link, took none back and counted no fault, and it listens at the same port, if at any
 pub record IsUnopened (told : DeskTold) : Type 0 where
   pub links : IsUntouched told.door
   pub port : told.ports.after ≡ told.ports.before

@@ -1,4 +1,5 @@
--- The room for the line of `serve`. The contracts of src/lines.rt and src/calling.rt cite it.
+-- The room for the line that `serve` tells at its end, which is taken before the door is opened. The contracts of src/lines.rt and
+-- src/calling.rt cite it.
 use Rattle.std.specs.Prelude.{◌≡◌, ◌≤◌, ℕ, List, [], ◌∷◌, codes, vec_capacity, Vec}
 use Rattle.std.specs.Fmt.{decimal}
 use Rattle.std.specs.Global.{Global}

@@ -1,5 +1,5 @@
--- How a call of `serve` ends. Builds on DeskTold and Serving, and the outcomes of the shell and of calls over a store. The contract of
--- `office` cites it.
+-- How a call of `serve` ends. Builds on DeskTold and Serving, and the outcomes of the shell and of calls over a store. Turns, the contracts
+-- of `serve` and of `office`, and the headline cite it.
 use Rattle.std.specs.Prelude.{◌≡◌, ◌⊎◌, ◌≤◌, ℕ, List, [], length, Option, Some, IfSome}
 use Rattle.command_shell.specs.Lines.{door_fault_line, keeper_fault_line, want_of_memory_line}
 use Rattle.command_shell.specs.Outcomes.{IsCutOff, IsPrinted, IsStopped}
@@ -37,7 +37,7 @@ pub data ServeOutcome (path : List ℕ) (port connections : ℕ) (told : DeskTol
   WriteFault : (visits : List Visit) → told.ports.after ≡ Some port → HasServed path connections told visits → IsAtEnd connections told.door visits → IsCutOff (served_line visits) told.store.call → ServeOutcome path port connections told
   -- 9: the keeper counted a fault when it was attached, and the door wasn't opened
   KeeperFault : IsUnopened told → HasFailed path told.store.keeper → IsStopped 9 keeper_fault_line told.store.call → ServeOutcome path port connections told
-  -- 10: the door counted a fault: when it was opened, and then no link was attended; or later, and then it listens at the port. What the
+  -- 10: the door counted a fault. If it did when it was opened, no link was attended; if it did later, it listens at the port. What the
   -- visits changed is kept
   DoorFault : (visits : List Visit) → (visits ≡ []) ⊎ (told.ports.after ≡ Some port) → HasServed path connections told visits → HasFaulted told.door → IsStopped 10 door_fault_line told.store.call → ServeOutcome path port connections told
   -- 12: memory was wanting, and the door wasn't opened

@@ -1,5 +1,5 @@
 -- Visits, one after the other: what they make of a door and a keeper, and how many ended with a status. Builds on the visits of
--- `office_http`. ServeOutcomes cites it.
+-- `office_http`. ServeOutcomes, Turns, the law of src/laws.rt and the headline cite it.
 use Rattle.std.specs.Prelude.{◌≡◌, ℕ, ◌+◌, ◌++◌, List, [], ◌∷◌, length, map, take, drop, codes, Option, IfSome, option_map, is_ok, is_err}
 use Rattle.std.specs.Fmt.{decimal}
 use Rattle.std.specs.List.{count_by}
@@ -7,7 +7,7 @@ use Rattle.command_shell.specs.Lines.{line}
 use Rattle.office_http.specs.Visits.{IsAttended, Kept, LinkTold, Visit}
 use Rattle.outside.specs.Links.{DoorLinks}
 
--- each visit is right and found the keeper as the one before left it
+-- `IsAttended` holds of each visit, and each visit found the keeper as the one before left it
 abbrev pub AreVisits : Kept → List Visit → Kept → Type 0
 AreVisits before [] after = after ≡ before
 AreVisits before (visit ∷ visits) after = (visit.keeper ≡ before) × IsAttended visit × AreVisits visit.keeper_after visits after
@@ -23,7 +23,7 @@ after_visits visits links = record {
 -- the links that the door gave were attended, in their order, and given back
 pub record AreAttended (links : Option (DoorLinks LinkTold)) (before : Kept) (visits : List Visit) (links_after : Option (DoorLinks LinkTold)) (after : Kept) : Type 0 where
   pub chain : AreVisits before visits after
-  -- the visits are those of the first links that were to come
+  -- the links of the visits are the first of those that were to come
   pub given : IfSome links (λ told. map (λ visit. visit.link) visits ≡ take (length visits) told.coming)
   pub door : links_after ≡ option_map (after_visits visits) links
 

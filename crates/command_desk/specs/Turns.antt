@@ -10,7 +10,8 @@ use Rattle.command_desk.specs.Serving.{AreAttended, broken_of, served_of}
 use Rattle.command_desk.specs.ServeOutcomes.{IsAtEnd}
 use Rattle.command_desk.specs.declared.serving.Counts.{Counts}
 
--- one link was attended; or none is to come, or the door failed, and then links and keeper are as before
+-- the result says that one link was attended, that none is to come, or that the door failed; in the last two cases links and keeper are as
+-- before
 abbrev pub TakesTurn : Option (DoorLinks LinkTold) → Option (DoorLinks LinkTold) → Kept → Kept → Result (Option (Result ℕ LinkFault)) Failed → Type 0
 TakesTurn links links_after before after (Ok (Some ended)) = (visit : Visit) × (visit.ended ≡ ended) × AreAttended links before (visit ∷ []) links_after after
 TakesTurn links links_after before after (Ok None) = (links_after ≡ links) × (after ≡ before) × IfSome links (λ told. told.coming ≡ [])
@@ -28,7 +29,8 @@ pub record AreUnderWay (links : Option (DoorLinks LinkTold)) (before : Kept) (co
   pub counted : AreCounted visits counts
   pub number : length visits ≡ turns
 
--- the links that came were attended, up to `connections`; or the door failed
+-- links were attended in the order in which they came, at most `connections` of them. With `Ok`, `IsAtEnd` holds and the visits are
+-- counted; with `Err`, the door counted a fault
 abbrev pub ServesDoor : ℕ → Door → Kept → Kept → Result Counts Failed → Type 0
 ServesDoor connections door before after (Ok counts) =
     (visits : List Visit) × AreAttended door.before before visits door.after after × (length visits ≤ connections) × IsAtEnd connections door visits × AreCounted visits counts

@@ -1,4 +1,4 @@
-//! A law of the definitions.
+//! The law that each visit of `serve` is counted once, as the contract of a function that does nothing.
 
 ghost use Rattle.std.specs.Prelude.{◌≡◌, ◌+◌, List, length};
 ghost use Rattle.office_http.specs.Visits.{Visit};

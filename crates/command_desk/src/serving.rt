@@ -1,4 +1,4 @@
-//! The links that come through a door, one after the other.
+//! Opens a door, attends the links that come through it, one after the other, and counts the visits.
 
 ghost use Rattle.std.specs.Prelude.{◌≡◌, ◌+◌, ◌-◌, ◌<◌, ◌^◌, if◌then◌else◌, is_err, is_ok};
 ghost use Rattle.office_http.specs.Visits.{kept, link_told};

@@ -154,7 +154,7 @@ module _ (told : Told) where
   held_given (either.Bundle bundle) its bytes held is given =
       inr (subst (λ one. HeldBundle told.source (record { pool = bundle.pool; answer = one })) (sym given) (held_bundle bundle bytes held is))
 
-  -- ---- a lottery is answered
+  -- ---- status 0 of `lottery`, `prove` and `make`: a lottery was found
 
   lottery_told : (limits : Limits) → Answers pool_format (LotteryMeans limits) told → told.status ≡ 0 → TellsBundle told
   lottery_told limits outcome s =
@@ -279,7 +279,7 @@ module _ (told : Told) where
   done (Some (asks.Make it)) right s = summary_told it.seed it.volunteers it.limits right.ends s
   done other right s = absurd right
 
-  -- ---- no panel is answered
+  -- ---- the answer that there is no quota panel
 
   pub no_panel : (it : Option Asked) → AnswersAlone it told → told.status ≡ 1 → NoneAlone it told
   no_panel None right s = absurd (cc (right.stopped.status, s))
@@ -322,8 +322,8 @@ module _ (told : Told) where
 
   -- ---- refusals
 
-  -- how a call ends whose words ask for `it`: for nothing (`ByWords`), for a command that reads the source (`ByText`), or for a command
-  -- that reads nothing (`InSilence`)
+  -- how a call ends, by what its words ask for: nothing (`ByWords`), a command that reads the source (`ByText`), or a command that reads
+  -- nothing (`InSilence`)
   data HowItEnds (it : Option Asked) : Type 1 where
     ByWords : it ≡ None → IsUsage told → HowItEnds it
     ByText : (Means : List ℕ → Saying → Type 0) → TextOutcome Means told → HowItEnds it

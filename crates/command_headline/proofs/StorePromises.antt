@@ -431,7 +431,7 @@ module _ (path : List ℕ) (told : StoreTold) (text : StoreText) where
 abbrev is_import_said : ℕ → Bool
 is_import_said number = list_any (λ status. number == status) (0 ∷ 3 ∷ 6 ∷ [])
 
--- the statuses of imports without an answer
+-- the statuses with which an import ends without an answer
 abbrev is_stopped : ℕ → Bool
 is_stopped number = list_any (λ status. number == status) (3 ∷ 7 ∷ 9 ∷ 12 ∷ [])
 

@@ -130,7 +130,7 @@ HeldBundleOrProof source bundle = HeldBundle source bundle ⊎ ((trees : List (L
 abbrev pub HeldPoolOrProof : Bytes → Pool → Type 0
 HeldPoolOrProof source pool = HeldPool source pool ⊎ ((proof : Proof) × HeldProof source proof × (pool_of_proof proof ≡ pool))
 
--- ---- a lottery is answered
+-- ---- status 0 of `lottery`, `prove` and `make`: a lottery was found
 
 -- `lottery` printed the bundle of a leximin greatest lottery over the pool that the source held
 pub record TellsBundle (told : Told) : Type 0 where
@@ -452,18 +452,19 @@ pub record TellsImport (file : Import) (told : StoreTold) : Type 0 where
   pub reply : TellsReply command told
   pub reads : ReadsFile file reply.tables bytes (Ok command)
 
--- what status 0 means for a file. `keep` reads a proof, and the round has a bundle as after a solve
+-- what status 0 means for a call that reads a file. For `keep`, which reads a proof, also that the round has a bundle (`SolvesRound`)
 abbrev pub TellsFile : Import → StoreTold → Type 0
 TellsFile (import.Proof round) told = (it : TellsImport (import.Proof round) told) × SolvesRound round it.reply.tables it.reply.change
 TellsFile other told = TellsImport other told
 
--- the command answers this round: it keeps a proof, or solves
+-- the command answers this round: it keeps a proof for the round, or is a solve of the round
 abbrev pub AnswersRound : ℕ → Command → Type 0
 AnswersRound round (Keep own proof) = own ≡ round
 AnswersRound round (Solve own limits) = own ≡ round
 AnswersRound round other = ⊥
 
--- `prove` over a store: an open round kept the lottery of a proof that was made of its pool, or the round had its bundle
+-- `prove` over a store printed a reply. Either the round was open, and got the bundle of a proof that was made of its pool; or it already
+-- had a bundle, and keeps it
 pub record TellsProved (round : ℕ) (told : StoreTold) : Type 0 where
   pub command : Command
   pub answers : AnswersRound round command
@@ -567,8 +568,8 @@ is_status number = list_any (λ status. number == status) (0 ∷ 1 ∷ 2 ∷ 3 �
 
 -- the promises of a call whose words ask for `it`, or for nothing, and that opens no desk
 pub record Keeps (it : Option Asked) (told : StoreTold) : Type 0 where
-  -- status 0: an answered lottery is leximin greatest over the quota panels of its pool. `TellsDone` says for each command what status 0
-  -- means
+  -- status 0: if a lottery was found, it is leximin greatest over the quota panels of its pool. `TellsDone` says for each command what
+  -- status 0 means
   pub done : told.call.status ≡ 0 → TellsDone it told
   -- status 1, 'no panel', comes only if the pool has no quota panel
   pub no_panel : told.call.status ≡ 1 → TellsNone it told

@@ -1,6 +1,6 @@
 //! What the program promises, for a reader who believes nothing but definitions: the laws of `specs/Headline.antt` about the contract of
-//! `office`. Each is proved as the contract of a function that does nothing. Stands on `command_office`, which has the contract, and on
-//! the definitions. Nothing stands on it.
+//! `office`. Each is proved as the contract of a function that does nothing. Stands on `command_office`, which has the contract, on the
+//! crates of commands, on `laws_of_offices` and `laws_of_runs`, and on the definitions. Nothing stands on it.
 #![tactic(auto)]
 
 ghost use Rattle.std.specs.Prelude.{ℕ, List};

@@ -20,7 +20,7 @@ no_panels pool none = by (panels pool) refl (each_filter_passes (λ panel. is_qu
     by [] e h = e
     by (panel ∷ later) e h = absurd (none panel (team_of_panel pool panel h.0).0)
 
--- if the first panel of the cheapest counts is a cheapest team, so is the panel of the least loosening, which is made of these counts
+-- if the first panel with the cheapest counts is a cheapest team, so is the panel of the least loosening, since it is this first panel
 pub the_least : (pool : Pool) (loosening : Loosening) →
     ((counts : List ℕ) → cheapest_team (classes_of pool) ≡ Some counts → IsCheapest pool (are_alike pool) counts (first_panel (classes_of pool) counts)) →
     IsLeast pool loosening → least_loosening pool ≡ Some loosening → IsLeastLoosening pool loosening

@@ -1,5 +1,4 @@
--- `loosen` has at most one right answer: either the search needs more visits than its budget has, or there is a least loosening, or there
--- is no team.
+-- `loosen` has at most one right answer: that the search needs more visits than its budget, or a least loosening, or that there is no team.
 use Rattle.std.proofs.Common.{◌≡◌, ◌∙◌, ℕ, Some, ap, sym, arith, rules}
 use Rattle.define_loosenings.specs.Loosenings.{Loosening, least_loosening}
 use Rattle.define_pools.specs.Pool.{Pool}

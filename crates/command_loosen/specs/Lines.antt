@@ -24,7 +24,7 @@ is_moved value loosened = not (value.lower == loosened.lower) || not (value.uppe
 abbrev pub moved_line : List ℕ → BoundedValue × BoundedValue → List (List ℕ)
 moved_line category (value, loosened) = if is_moved value loosened then bound_line category loosened ∷ [] else []
 
--- the lines of a category's values whose bounds are moved, in order
+-- the lines of a category's values whose bounds are moved, in the order of the values
 abbrev pub moved_in : Category × Category → List (List ℕ)
 moved_in (category, loosened) = flat_map (moved_line category.name) (zip category.values loosened.values)
 

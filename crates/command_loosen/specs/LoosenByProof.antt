@@ -1,5 +1,5 @@
 -- What `loosen-by-proof` answers: a least loosening of a pool's quotas, found by integer programs and shown to be least by sums. Builds on
--- the loosenings of `define_loosenings` and Lines.
+-- the loosenings of `define_loosenings`, on Lines, and on Why of `command_why`.
 --
 -- The search has no definition. So the meaning doesn't say which of several least loosenings is found, nor whether one is found within the
 -- budget, nor what a search leaves of its budget. If `loosen` finds a loosening too, the totals are equal, since both loosenings are least.

@@ -2,8 +2,8 @@
 --
 -- The run that makes the proof has no definition. So the meaning doesn't say whether a proof is found, nor which of the statuses 4, 5 and
 -- 11 comes if none is. At 4, the line of any operation that passes 2^62 is right. At 5, the line that all turns of peeling are made
--- (`lottery`), or that a step was lost, is always right. At 11, which only a bundle can have, any trees may be the refused ones: a refusal
--- of the trees can be right even if the bundle's certificate holds.
+-- (`lottery`), or that a step was lost, is always right. At 11, which comes only if the input is a bundle, any trees may be the refused
+-- ones: a refusal of the trees can be right even if the bundle's certificate holds.
 use Rattle.std.specs.Prelude.{◌≡◌, ℕ, List, [], ◌∷◌, codes, Option, None, Some, ⊤}
 use Rattle.std.specs.Fmt.{decimal, signed_decimal}
 use Rattle.define_additions.specs.ProofVerdict.{OfLottery, OfNoPanel, verdict}
@@ -49,7 +49,8 @@ proof_wide_line passed = line (codes "wide" ∷ proof_operation passed.op ∷ si
 abbrev pub proof_spent_line : List ℕ → ℕ → List ℕ
 proof_spent_line what most = line (codes "spent" ∷ what ∷ decimal most ∷ [])
 
--- how many turns of peeling the run makes at most to turn a point into a lottery: those of all rounds in `proof_peeling`
+-- the number in the line about spent turns of peeling: how many turns all rounds in `proof_peeling` have together. The one turn before the
+-- first round isn't counted
 abbrev pub lottery_tries : ℕ
 lottery_tries = 168
 

@@ -118,8 +118,8 @@ abbrev pub question_from : Question → InTickets → Option ℕ → Option Aske
 question_from whole short (Some number) = option_map (in_tickets_asked short) (tickets_from number)
 question_from whole short None = Some (asks.Question whole)
 
--- `whole`, a question about a bundle; or, if the words give a number of tickets, `short` about the bundle in that number of tickets. None
--- if this number isn't from 1 to 10 ^ 9
+-- the question about a bundle that the words ask: `short` in a number of tickets if they give one, and else `whole`. None if the number of
+-- tickets isn't from 1 to 10 ^ 9
 abbrev pub question_asked : Question → InTickets → Given → Option Asked
 question_asked whole short given = question_from whole short (number_of (codes "tickets") given)
 

@@ -1,7 +1,8 @@
--- The contract of `office`: what a call of the program may do, for its words. Each line of `AnswersRightly` names the meaning of a command
--- (`command_meanings/specs`), which has a field for each of the command's statuses. What is the same for all commands is defined in the
--- shell (`command_shell/specs`): faults of source, out and errs, want of memory, a text that is too long, and which of out and errs stay
--- untouched (`Outcomes`); and a text outside its format (`Subjects`).
+-- The contract of `office`: what a call of the program may do, for its words. Each line of `AnswersRightly` and `AnswersAlone` about a
+-- command names the command's meaning, which says what is right at each of its statuses. The meanings are in `command_meanings/specs`, or
+-- in the `specs` of the command's own crate. What is the same for all commands is defined in the shell (`command_shell/specs`): faults of
+-- source, out and errs, want of memory, a text that is too long, and which of out and errs stay untouched (`Outcomes`); and a text outside
+-- its format (`Subjects`).
 use Rattle.std.specs.Prelude.{ℕ, List, [], ◌∷◌, codes, Option, Some, None}
 use Rattle.command_bundles.specs.ShortDraw.{ShortDrawMeans}
 use Rattle.command_loosen.specs.LoosenByProof.{LoosensWithin}
@@ -70,7 +71,8 @@ AnswersAlone (Some (asks.DrawnPage tickets digits)) told = Answers bundle_or_pro
 AnswersAlone (Some (asks.Panel it)) told = Answers pool_format (PanelMeans it.nodes) told
 AnswersAlone (Some (asks.Loosen it)) told = Answers pool_format (LoosenMeans it.nodes) told
 AnswersAlone (Some (asks.LoosenByProof it)) told = TextOutcome (About pool_format (LoosensWithin it.pivots it.nodes)) told
--- neither this meaning nor those of `make` and of a solve over a store name the number of workers, so it changes nothing that is told
+-- this meaning doesn't depend on the number of workers, and neither do those of `make` and of a solve over a store. So that number
+-- changes nothing that is told
 AnswersAlone (Some (asks.Lottery it)) told = Answers pool_format (LotteryMeans it.limits) told
 AnswersAlone (Some (asks.Check it)) told = Answers bundle_format (CheckMeans it.nodes) told
 -- `explain` reads any bytes. What its words are isn't defined, only which status comes, and the first line of the words at status 3

@@ -416,8 +416,8 @@ fn solve_of<'a>(given: &Given<'a>) -> Option<Asked<'a>>
     step_of(given, step)
 }
 
-/// Returns `whole`, a question about a bundle; or, if the words give a number of tickets, `short` about the bundle in that number of
-/// tickets.
+/// Returns the question about a bundle that the words ask: `short` in a number of tickets if they give one, and else `whole`. Returns None
+/// if the number of tickets isn't from 1 to 10^9.
 fn question_of<'a>(given: &Given<'a>, whole: Question, short: InTickets) -> Option<Asked<'a>>
     ensures { result ≡ words_of_question whole short given.now }
 {

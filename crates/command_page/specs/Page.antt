@@ -1,5 +1,6 @@
 -- What `page` answers: the page about a bundle, or about the bundle that a proof holds; with the digits of dice, also about the panel that
--- they draw, from all tickets or in a round number of them. Nothing is verified. Builds on Inputs, and the pages of `bundle_page`.
+-- they draw, from all tickets or in a round number of them. Nothing is verified. Builds on Inputs, on the pages of `bundle_page`, and on
+-- the meanings of `draw`, `short-draw`, `seal` and `bundle`.
 use Rattle.std.specs.Prelude.{◌≡◌, ℕ, List, Option, Some, None, Ok}
 use Rattle.define_bundles.specs.BundleText.{Bundle}
 use Rattle.define_draws.specs.Draw.{Drawn, draw}

@@ -1,4 +1,4 @@
--- Lines that are written field by field.
+-- A line that is written field by field is the line of its fields. The members of a quota panel are volunteers of the pool.
 use Rattle.std.proofs.Common.{◌≡◌, ◌∙◌, ℕ, ◌<◌, List, [], ◌∷◌, ◌++◌, length, get_or, ap, sym, append_assoc, ltb, true, IsTrue}
 use Rattle.std.proofs.lemmas.Bool.{ltb-true}
 use Rattle.std.proofs.lemmas.List.{append-nil}

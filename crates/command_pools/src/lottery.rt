@@ -1,4 +1,4 @@
-//! The command `lottery`: the bundle of a pool.
+//! The command `lottery`: the bundle of a pool and of the answer that the run finds for it.
 
 ghost use Rattle.std.specs.Prelude.{IfOk};
 ghost use Rattle.std.specs.Thread.{IsSync};
@@ -24,7 +24,7 @@ use pool_model::Pool;
 use std::alloc::{AllocError, Global};
 use std::thread::Threads;
 
-/// `lottery`: the lottery over the quota panels of a pool with its certificate, by the run.
+/// `lottery`: the leximin greatest lottery over the quota panels of a pool, with its certificate, as the run finds it.
 #[derive(Clone, Copy, Debug)]
 pub struct Lottery {
     /// How wide the run's numbers may be, and how many pivots and visits it may make.

@@ -42,7 +42,7 @@ abbrev pub MakesOf : Left → Pool → Made → Type 0
 MakesOf left pool (made.Valid proof) = IsValidOf pool proof
 MakesOf left pool (made.Stopped answer) = IsRight (NoProofMeans left) (saying answer)
 
--- about a bundle: the text of a valid proof; if the proof is refused, why
+-- the answer about a bundle is the text of its proof if the proof is valid, else the line that says why the proof is refused
 abbrev pub TellsOfBundle : Proof → Verdict → Saying → Type 0
 TellsOfBundle proof Valid answer = answer ≡ proof_said proof
 TellsOfBundle proof (Refused refusal) answer = answer ≡ Prints printed.Refused (refused_line refusal)

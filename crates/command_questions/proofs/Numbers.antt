@@ -1,4 +1,5 @@
--- How many digits a group has.
+-- Lemmas for the loop that finds how many digits a group has: a size with fewer groups than tickets is too small, the first size with
+-- enough groups is the right one, and 38 digits are enough for 10 ^ 38 tickets.
 use Rattle.std.proofs.Common.{◌≡◌, ℕ, ◌+◌, ◌^◌, ◌<◌, ◌≤◌, subst, arith, ⊎_elim}
 use Rattle.std.proofs.Math.Nat.{le_antisymm}
 use Rattle.std.proofs.lemmas.Bool.{cases_lt}

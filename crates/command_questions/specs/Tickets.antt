@@ -17,7 +17,7 @@ abbrev pub row_line : List Volunteer → ℕ → ℕ → LotteryRow → List ℕ
 row_line volunteers first number row =
     line_of (range_text first row.weight ∷ decimal number ∷ map (λ i. (volunteer volunteers i).id) row.panel)
 
--- the lines of the rows, in order; panels are counted from 1
+-- the lines of the rows, in the order of the rows; panels are counted from 1
 abbrev pub row_lines : List Volunteer → Lottery → List (List ℕ)
 row_lines volunteers lottery =
     map (λ (place, row). row_line volunteers (first_ticket (weights_of lottery) place) (place + 1) row) (enumerate_from 0 lottery.rows)

@@ -1,6 +1,6 @@
--- What a command answers, the number of its status, and what makes an answer right. It imports lists and numbers, and the types `Answer`,
--- `Printed`, `Cause` and `Status` of this crate's code; no other definition of the program. The meaning of every command is written with
--- these definitions.
+-- What a command answers, the number of its status, and what makes an answer right. It imports equality, numbers and lists, and the types
+-- `Answer`, `Printed`, `Cause` and `Status` of this crate's code; no other definition of the program. The meaning of every command is
+-- written with these definitions.
 use Rattle.std.specs.Prelude.{◌≡◌, ℕ, List}
 use Rattle.command_shell.specs.declared.answer.Answer.{Answer}
 use Rattle.command_shell.specs.declared.answer.Answer.TheVariants as answer

@@ -1,5 +1,5 @@
--- What the inputs of commands are read as: a pool, a bundle, a proof, or either a pool or a bundle. Builds on the definitions of
--- the texts. The contract of `office` cites it for every command that reads its source.
+-- What the inputs of commands are read as: a pool, a bundle, a proof, or either a pool or a bundle. Builds on Subjects and the definitions
+-- of the texts. The contracts of commands that read their source cite it, up to `office`, and so do the headline and the page's calls.
 use Rattle.std.specs.Prelude.{◌≡◌, ℕ, Bool, true, false, List, take, codes, bytes_eq, if◌then◌else◌, Result, Ok, Err}
 use Rattle.define_bundles.specs.BundleReading.{read_bundle}
 use Rattle.define_bundles.specs.BundleText.{Bundle, IsBundle, bundle_spelling}

@@ -47,7 +47,7 @@ pub data Outcome (Right : Saying → Type 0) (told : Told) : Type 0 where
   Answered : (answer : Saying) → Right answer → IsTold answer told → Outcome Right told
   -- status 8: out counted a fault while the text of a right answer was printed
   WriteFault : (printed : Printed) (text : List ℕ) → Right (Prints printed text) → IsCutOff text told → Outcome Right told
-  -- status 12: want of memory, which may come at any time
+  -- status 12: want of memory, which is allowed at any time
   WantOfMemory : IsStopped 12 want_of_memory_line told → Outcome Right told
 
 -- ---- calls that read the source
@@ -77,7 +77,7 @@ pub record IsInput (source : Bytes) (bytes : List ℕ) : Type 0 where
   pub within : length bytes ≤ input_limit
   pub no_fault : HasNoFault source
 
--- why a source gave no input
+-- what holds of a source that gave no input, by the reason
 abbrev pub HasNoInput : ReadStop → Bytes → Type 0
 HasNoInput unread.TooLong source = HeldMore source input_limit × HasNoFault source
 HasNoInput unread.Fault source = HasFaulted source

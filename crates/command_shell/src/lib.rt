@@ -1,8 +1,8 @@
 //! The shell that all commands of the program share. A command is a function from its arguments and the value of its input to an answer; it
 //! never sees `out` or `errs`. `call` reads the source, asks the command and writes its answer; its contract is proved for every meaning of
 //! a command. `call_answered_by` does the same with a closure in place of the command's method `answer`, because methods of traits can't
-//! start threads. Stands on `outside` and on the readers of texts. Used by the crates of commands, and `command_office`. Promises: `call`,
-//! `call_answered_by`, `call_silent`, `refuse_words`, `want_memory`. The rest serves the commands.
+//! start threads. Stands on `outside` and on the readers of texts. Used by the crates of commands, `command_office` and `example_bundles`.
+//! Promises: `call`, `call_answered_by`, `call_silent`, `refuse_words`, `want_memory`. The rest serves the commands.
 #![tactic(auto)]
 
 mod answer;

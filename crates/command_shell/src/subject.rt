@@ -14,7 +14,7 @@ pub trait Subject: Sized + Drop {
     ///
     /// # Errors
     ///
-    /// `Fault` if the format's own `read` fails on the bytes, with the same line and kind. `OutOfMemory` may come for any bytes.
+    /// `Fault` if the format's own `read` fails on the bytes, with the same line and kind. `OutOfMemory` is allowed for any bytes.
     fn read(alloc: Global, bytes: &[u8]) -> Result<Self, TextStop>
         ensures { IsRead format bytes.now result };
 }

@@ -131,7 +131,7 @@ const REGISTERS: &[Row] = &[
     ),
 ];
 
-/// Rules with `count` values of one category, and the row `last`.
+/// Returns rules with `count` values of one category, and `last` as the last row.
 fn values(alloc: Global, count: u32, last: &str) -> Result<String, AllocError> {
     let mut rules = String::from_str(alloc, "category,name,min,max\n")?;
     for number in 0..count {
@@ -142,7 +142,7 @@ fn values(alloc: Global, count: u32, last: &str) -> Result<String, AllocError> {
     Ok(rules)
 }
 
-/// Rules with `count` categories of one value each, and the row `last`.
+/// Returns rules with `count` categories of one value each, and `last` as the last row.
 fn categories(alloc: Global, count: u32, last: &str) -> Result<String, AllocError> {
     let mut rules = String::from_str(alloc, "category,name,min,max\n")?;
     for number in 0..count {
@@ -153,7 +153,7 @@ fn categories(alloc: Global, count: u32, last: &str) -> Result<String, AllocErro
     Ok(rules)
 }
 
-/// A register of 400 rows, two of each household.
+/// Returns a register of 400 rows, two of each household.
 fn housed(alloc: Global) -> Result<String, AllocError> {
     let mut rows = String::from_str(alloc, "household,key,gender,id\n")?;
     for number in 0..400u32 {
@@ -163,7 +163,7 @@ fn housed(alloc: Global) -> Result<String, AllocError> {
     Ok(rows)
 }
 
-/// A charter of `size` bytes, most of them blank lines.
+/// Returns a charter of `size` bytes: a title and a size, and then blank lines.
 fn charter(alloc: Global, size: usize) -> Result<Vec<u8>, AllocError> {
     let mut charter = vec![in alloc; b'\n'; size]?;
     for (byte, written) in charter.iter_mut().zip(b"title=\"Long\"\nsize=2") {

@@ -49,7 +49,7 @@ const SECOND_SOLVED: &str = "0 solved\t2\t1\t1\n";
 
 const STILL_OPEN: &str = "6 rule\tWrongPhase\tOpen\n";
 
-/// A store that has no pool yet, and then one of two women and two men.
+/// Calls over a store that has no pool at first, and at the end the pool of two women and two men.
 const FILLED: &[Row] = &[
     ("keep --store s", "", "3 input\t1\t23\n"),
     ("keep --store s", PROOF, NO_CHARTER),

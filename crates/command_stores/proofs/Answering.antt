@@ -52,7 +52,7 @@ pub unchanged : (kept : Option Tables) → kept ≡ option_map (λ tables. appli
 unchanged None = refl
 unchanged (Some tables) = refl
 
--- ---- the tables were loaded before
+-- ---- what is done after the tables were loaded
 
 -- If the call attached the keeper and loaded its tables, what was done to the keeper since then is what the whole call does to it.
 module _ (path : List ℕ) (Means : StoreMeaning) (before loaded after : Option Tables) (faults faults_loaded faults_after : ℕ) (place place_loaded place_after : Place)

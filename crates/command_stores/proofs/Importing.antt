@@ -53,7 +53,8 @@ module _ (path : List ℕ) (Means : List ℕ → StoreMeaning) (call : Told) (be
   not_attached Failed alone same stays cause stopped = NotAttached alone (record { faulted = cause.1; place = inr stays; same = same }) stopped
   not_attached OutOfMemory alone same stays cause stopped = NoMemory (record { no_fault = cause; place = inr stays; same = same }) stopped
 
-  -- If the keeper was attached and the source gave no input, the call ends as `TextStoreOutcome` says.
+  -- If the keeper was attached, and the input was too long, or the source counted a fault, or memory was wanting, the call ends as
+  -- `TextStoreOutcome` says.
   pub no_file : (stop : ReadStop) → after ≡ before → place_after ≡ at place path → faults_after ≡ faults → HasNoInput stop call.source → TellsNoInput stop call →
       TextStoreOutcome path Means (store_told call kept)
   no_file unread.TooLong same there none (held, no_fault) stopped =

@@ -1,4 +1,5 @@
--- What a round keeps for its page: the weights of its bundle sum to its total, and the digits of its draw name a ticket.
+-- If `IsTables` holds of the tables, each round can be shown on a page: the weights of its bundle sum to its total, and the digits of its
+-- draw name a ticket.
 use Rattle.std.proofs.Common.{◌≡◌, ℕ, zero, suc, Some, subst}
 use Rattle.define_bundles.specs.BundleText.{Bundle}
 use Rattle.define_offices.specs.Facts.{IsTables, KeepsRound}

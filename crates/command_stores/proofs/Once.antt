@@ -53,10 +53,10 @@ answers_once command tables answer other change other_change one two =
       one.changes ∙ (ap change_of same ∙ sym two.changes),
     )
 
--- ---- imports, if a file is read as one list of rules, or of rows
+-- ---- imports, given that a file is read in at most one way as rules, and in at most one way as rows
 module _ (one_rules : (bytes : List ℕ) (first second : Result (List Category) Fault) → ReadsRules bytes first → ReadsRules bytes second → first ≡ second)
     (one_rows : (rules : List Category) (bytes : List ℕ) (first second : Result (List Given) Fault) → ReadsRows rules bytes first → ReadsRows rules bytes second → first ≡ second) where
-  -- A file is read over the tables as one command, or as one fault.
+  -- Over given tables, a file is read as at most one command, or as at most one fault.
   one_file : (it : Import) (tables : Tables) (bytes : List ℕ) (first second : Result Command Fault) → ReadsFile it tables bytes first → ReadsFile it tables bytes second → first ≡ second
   one_file import.Charter tables bytes first second one two = one ∙ sym two
   one_file (import.Proof round) tables bytes first second one two = one ∙ sym two
@@ -69,7 +69,7 @@ module _ (one_rules : (bytes : List ℕ) (first second : Result (List Category) 
       one_register (Some rules) bytes first second (said, reads, is) (other, reads_other, is_other) =
           is ∙ (ap (as_command Register) (one_rows rules bytes said other reads reads_other) ∙ sym is_other)
 
-  -- If there are no rules, a file is read as no register.
+  -- If there are no rules, no file is read as a register.
   no_register : (it : Import) (tables : Tables) (bytes : List ℕ) (read : Result Command Fault) → it ≡ import.Register → tables.rules ≡ None → ReadsFile it tables bytes read → ⊥
   no_register it tables bytes read is none reads =
       subst (λ rules. ReadsRegister rules bytes read) none (subst (λ it. ReadsFile it tables bytes read) is reads)

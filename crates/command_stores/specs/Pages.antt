@@ -1,5 +1,5 @@
 -- The page of a round that is past `Open`: the title of its assembly, its number and its bundle, and, once it is drawn, the draw. Builds on
--- the pages of `bundle_page`. Steps cites it.
+-- the pages of `bundle_page` and on `define_offices`. Steps and the contracts of src/pages.rt cite it.
 use Rattle.std.specs.Prelude.{ℕ, List, [], length, Option, Some, None, Result, Ok, Err}
 use Rattle.bundle_page.specs.Page.{drawn_part, page_with, round_head}
 use Rattle.define_bundles.specs.BundleText.{Bundle}

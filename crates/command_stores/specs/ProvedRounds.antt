@@ -1,5 +1,5 @@
--- What `prove` over a store answers: a proof is made of the pool of an open round, and the office keeps it. Builds on Steps. The contract
--- of `office` cites it.
+-- What `prove` over a store answers: a proof is made of the pool of an open round, and the office keeps it. Builds on Steps, and on Proved
+-- of `command_proofs`. The contract of `office` cites it.
 --
 -- The run that makes the proof has no definition. So the meaning doesn't say whether a proof is found, nor which of the statuses 4 and 5
 -- comes if none is.

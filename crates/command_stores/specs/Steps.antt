@@ -1,5 +1,6 @@
--- What the commands of the office answer: the outcome of the step over the tables. Builds on `define_offices`. The contract of `office`
--- cites it with one line for all of them.
+-- What the commands of the office answer, which is the outcome of the step over the tables; and the texts that are made of the tables.
+-- Builds on `define_offices`, Report of `define_reports`, Pages, and the lines of `command_meanings`. The contract of `office` cites it
+-- with one line for all commands and one for all texts.
 use Rattle.std.specs.Prelude.{◌≡◌, ℕ, List, [], ◌∷◌, Option, Some, None, Result, Ok, Err}
 use Rattle.command_shell.specs.Answers.{Prints, Saying, Stops as StopsBy}
 use Rattle.command_shell.specs.Lines.{no_panel_line}
@@ -96,12 +97,12 @@ stored_text (text.Report round) tables = report_of tables round
 stored_text (text.Pool round) tables = pool_text (pool_of tables round)
 stored_text (text.Page round) tables = page_of tables round
 
--- the answer is this text of the tables, and the tables stay
+-- the answer is this text of the tables, or the refusal if there is none; and the tables stay
 pub record TextMeans (it : StoreText) (tables : Tables) (answer : Saying) (change : Option Change) : Type 0 where
   pub is : answer ≡ text_or_refusal (stored_text it tables)
   pub stays : change ≡ None
 
--- the refusal if there is no such text; None for want of memory
+-- the refusal that says why there is no text; None if memory was wanting
 abbrev pub refusal_of : PoolStop → Option Refusal
 refusal_of (stop.NoRound last) = Some (NoRound last)
 refusal_of (stop.Incomplete what) = Some (Incomplete what)

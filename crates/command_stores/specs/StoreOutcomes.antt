@@ -27,7 +27,7 @@ pub record IsAnswered (path : List ℕ) (Means : StoreMeaning) (keeper : Keeper)
   pub loaded : IsLoaded keeper.object.before tables
   pub change : Option Change
   pub means : Means tables answer change
-  -- the tables that the keeper tells afterwards
+  -- the keeper tells the same tables as before, with the change applied
   pub stored : keeper.object.after ≡ option_map (λ kept. applied kept change) keeper.object.before
   pub no_fault : HasNoFault keeper.object
 
@@ -87,7 +87,7 @@ pub data StoreOutcome (path : List ℕ) (Means : StoreMeaning) (told : StoreTold
   WriteFault : (printed : Printed) (text : List ℕ) → IsAnswered path Means told.keeper (Prints printed text) → IsCutOff text told.call → StoreOutcome path Means told
   -- 9: the keeper counted a fault
   KeeperFault : HasFailed path told.keeper → IsStopped 9 keeper_fault_line told.call → StoreOutcome path Means told
-  -- 12: memory was wanting, which may come at any time
+  -- 12: memory was wanting, which is allowed at any time
   WantOfMemory : HasStoredNothing path told.keeper → IsStopped 12 want_of_memory_line told.call → StoreOutcome path Means told
 
 -- the keeper was attached at `path`, its tables are as before, and it counted no fault

@@ -1,5 +1,6 @@
 -- What one call over a store did, as seen from outside: its status, source, out and errs, and the keeper before and after the call. Builds
--- on `Told` of the shell. StoreOutcomes and the contract of `office` cite it.
+-- on `Told` of the shell, Keeping of `office_core` and Tables of `define_offices`. StoreOutcomes cites it, and so do the contracts of the
+-- calls over a store, of `serve` and of `office`, and the headline.
 use Rattle.std.specs.Prelude.{◌≡◌, ◌⊎◌, ℕ, List}
 use Rattle.command_shell.specs.Told.{IsUntouched, Object, Told}
 use Rattle.define_offices.specs.Tables.{Tables}

@@ -44,7 +44,7 @@ pub enum Import {
 pub(crate) enum FileStop {
     /// The file has a fault.
     Fault(ImportFault),
-    /// It should be a register, and there are no rules to read it by.
+    /// The file should be a register, and there are no rules to read it by.
     NoRules,
     /// No memory was left.
     OutOfMemory,

@@ -76,7 +76,7 @@ pub(crate) fn settle_over<R: Threads + Sync, W: Watch + Sync, K: Keeper>(
 {
     command.facts();
     let Resources { rt, alloc, watch } = *resources;
-    // Made before the change is stored, since memory may be wanting.
+    // This answer is made before a change is stored, since memory may be wanting.
     let Ok(none) = no_panel(alloc) else {
         return Err(KeeperStop::OutOfMemory);
     };

@@ -106,7 +106,7 @@ fn round_pool(alloc: Global, tables: &Tables, round: usize) -> Result<Vec<u8>, P
     Ok(write_pool(alloc, &pool)?)
 }
 
-/// Returns the answer if there is no such round or it has no pool. Fails for want of memory.
+/// Returns the answer that says why there is no text: there is no such round, or it has no pool. Fails for want of memory.
 fn stop_answer(alloc: Global, stop: PoolStop) -> Result<Answer, AllocError>
     ensures refused { IfOk result (λ answer. IfSome (refusal_of stop) (λ refusal. saying answer ≡ refused_by refusal)) }
     ensures want { stop ≡ OutOfMemory → OnOk result ⊥ }

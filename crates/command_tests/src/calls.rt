@@ -681,8 +681,8 @@ fn the_third_worker_starts_while_two_are_held(rt: HostRuntime) -> Result<(), All
     Ok(())
 }
 
-/// Texts that are cut off: the words of a call, the whole text, and the kinds of the fault. Each kind comes with a number of whole
-/// lines: if at least that many are left, and fewer than the next kind's number, the fault is of this kind.
+/// Texts that are cut off: the words of a call, the whole text, and the kinds of the fault, each with a number of lines. The fault is of a
+/// kind if at least its number of whole lines is left, and fewer than the next kind's number.
 const CUT: &[(&[&str], &[u8], &[(usize, u8)])] = &[
     (&["lottery"], FOUR, &[(0, 12)]),
     (&["prove"], FOUR, &[(0, 12)]),

@@ -1,4 +1,4 @@
--- What `why` reads: a pool, or a proof over one. Builds on the definitions of the texts.
+-- What `why` reads: a pool, or a proof over one. Builds on Formats and Subjects of `command_shell`, and on the definitions of the texts.
 use Rattle.std.specs.Prelude.{ℕ, Bool, List, take, codes, bytes_eq, if◌then◌else◌, Result, Ok, Err}
 use Rattle.define_additions.specs.ProofVerdict.{OfLottery, OfNoPanel, Proof}
 use Rattle.define_lines.specs.Lines.{Fault}

@@ -2,7 +2,7 @@
 //! quota panel; or else it prints a quota panel. Stands on `quota_conflicts`, which finds and checks conflicts, on the readers of texts,
 //! and on the shell. `command_office` calls it.
 //!
-//! `command_loosen` uses `stopped`, the answers for a search that stops.
+//! `command_loosen` uses `stopped`, the answers for a search that stops, and `command_headline` cites what `why` answers.
 //!
 //! Promises: `Why` answers about the pool as `specs/Why.antt` says. Which of several conflicts is found is no promise, nor whether one is
 //! found within the budget. A proof isn't verified: its tree is where the search begins.

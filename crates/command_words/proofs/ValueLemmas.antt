@@ -13,7 +13,7 @@ use Rattle.command_words.specs.declared.given.OptionValue.{OptionValue}
 use Rattle.command_words.specs.declared.given.Value.{Value}
 use Rattle.command_words.specs.declared.words.OptionWords.{OptionWords}
 
--- the values read so far, followed by the later values, or None if the later options have no right values
+-- the values read so far, followed by the later values; None if the later values are None, since one doesn't have its option's form
 abbrev pub behind : List (Text × Value) → Option (List (Text × Value)) → Option (List (Text × Value))
 behind read = option_map (λ values. read ++ values)
 

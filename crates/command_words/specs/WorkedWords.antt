@@ -1,5 +1,5 @@
--- What some lists of words give, as the program's users rely on it: each command's name, its defaults, and the ends of its ranges. They pin
--- the table of words, which is code. Proved by computing, in src/worked.rt.
+-- What some lists of words give. These laws fix each command's name, its defaults, and the ends of its ranges, on which the program's users
+-- rely; the table of words is code. Proved by computing, in src/worked.rt.
 use Rattle.std.specs.Prelude.{◌≡◌, ℕ, List, [], ◌∷◌, None, Some, codes}
 use Rattle.command_words.specs.Words.{given_in}
 use Rattle.command_words.specs.declared.given.Value.{Value}
@@ -21,8 +21,8 @@ number name value = (name, Number value)
 abbrev pub text : List ℕ → List ℕ → List ℕ × Value
 text name value = (name, Text value)
 
--- the budget of the run that makes a proof: pivots up to 10 ^ 9, nodes up to 10 ^ 12. `store` may be absent, and rounds are from 0 to 1000,
--- round 1 if none is given
+-- `prove` has a budget of up to 10 ^ 9 pivots and 10 ^ 12 nodes. `store` may be absent, and rounds are from 0 to 1000, round 1 if none is
+-- given
 pub record ProveGives : Type 0 where
   pub defaults : Give (codes "prove" ∷ []) name.Prove (number (codes "round") 1 ∷ number (codes "pivots") 1000000 ∷ number (codes "nodes") 200000 ∷ [])
   pub least : Give (codes "prove" ∷ codes "--pivots" ∷ codes "0" ∷ codes "--nodes" ∷ codes "0" ∷ []) name.Prove
@@ -43,7 +43,8 @@ pub record PlainGive : Type 0 where
   pub chances : Give (codes "chances" ∷ []) name.Chances []
   pub explain : Give (codes "explain" ∷ []) name.Explain []
 
--- `store` may be absent, and rounds are from 0 to 1000, round 1 if none is given; an option must have a value, and may be given only once
+-- for `seal`, `store` may be absent, and rounds are from 0 to 1000, round 1 if none is given. An option must have a value, and may be given
+-- only once
 pub record SealGives : Type 0 where
   pub absent : Give (codes "seal" ∷ []) name.Seal (number (codes "round") 1 ∷ [])
   pub store : Give (codes "seal" ∷ codes "--store" ∷ codes "s" ∷ []) name.Seal (text (codes "store") (codes "s") ∷ number (codes "round") 1 ∷ [])
@@ -105,7 +106,7 @@ pub record SearchesGive : Type 0 where
   pub check_most : Give (codes "check" ∷ codes "--nodes" ∷ codes "1000000000000" ∷ []) name.Check (number (codes "nodes") 1000000000000 ∷ [])
   pub check_more : GiveNothing (codes "check" ∷ codes "--nodes" ∷ codes "1000000000001" ∷ [])
 
--- the limits of `lottery`: the width in bits from 1 to 127, pivots up to 10 ^ 9, visits up to 10 ^ 12, workers from 1 to 64
+-- `lottery` has a width of 1 to 127 bits, a budget of up to 10 ^ 9 pivots and 10 ^ 12 visits, and from 1 to 64 workers
 pub record LotteryGives : Type 0 where
   pub defaults : Give (codes "lottery" ∷ []) name.Lottery
       (number (codes "bits") 127 ∷ number (codes "pivots") 100000 ∷ number (codes "nodes") 50000000 ∷ number (codes "workers") 1 ∷ [])
@@ -120,7 +121,7 @@ pub record LotteryGives : Type 0 where
   pub no_workers : GiveNothing (codes "lottery" ∷ codes "--workers" ∷ codes "0" ∷ [])
   pub more_workers : GiveNothing (codes "lottery" ∷ codes "--workers" ∷ codes "65" ∷ [])
 
--- a seed up to 2 ^ 63 - 1 and 1 to 400 volunteers, both required, and the limits of `lottery`
+-- `make` requires a seed of at most 2 ^ 63 - 1 and a number of volunteers from 1 to 400, and has the limits of `lottery`
 pub record MakeGives : Type 0 where
   pub defaults : Give (codes "make" ∷ codes "--seed" ∷ codes "0" ∷ codes "--volunteers" ∷ codes "1" ∷ []) name.Make
       (number (codes "seed") 0 ∷ number (codes "volunteers") 1 ∷ number (codes "bits") 127 ∷ number (codes "pivots") 100000 ∷ number (codes "nodes") 50000000 ∷
@@ -156,12 +157,12 @@ pub record SolveGives : Type 0 where
       (number (codes "bits") 127 ∷ number (codes "pivots") 100000 ∷ number (codes "nodes") 50000000 ∷ number (codes "workers") 1 ∷ [])
   pub more_bits : GiveNothing (codes "solve" ∷ codes "--store" ∷ codes "s" ∷ codes "--bits" ∷ codes "128" ∷ [])
 
--- the id of the member who drops out is required
+-- `drop` requires the id of the member who drops out
 pub record DropGives : Type 0 where
   pub rounds : RoundGives name.Drop (codes "drop") (codes "--id" ∷ codes "b" ∷ []) (text (codes "id") (codes "b") ∷ [])
   pub no_id : GiveNothing (codes "drop" ∷ codes "--store" ∷ codes "s" ∷ [])
 
--- the store is required, and `after` is from 0 to 1000, and 1 if it is not given
+-- `next-round` requires the store; its option `after` is from 0 to 1000, and 1 if it is not given
 pub record NextRoundGives : Type 0 where
   pub defaults : Give (codes "next-round" ∷ codes "--store" ∷ codes "s" ∷ []) name.NextRound (text (codes "store") (codes "s") ∷ number (codes "after") 1 ∷ [])
   pub least : Give (codes "next-round" ∷ codes "--store" ∷ codes "s" ∷ codes "--after" ∷ codes "0" ∷ []) name.NextRound
@@ -187,14 +188,14 @@ pub record ImportsGive : Type 0 where
   pub rules : ImportGives name.ImportRules (codes "import-rules")
   pub register : ImportGives name.ImportRegister (codes "import-register")
 
--- no command, a word that is no command, the word `help`, and an option that the command doesn't have
+-- what gives nothing: no words at all, a word that is no command, the word `help`, and an option that the command doesn't have
 pub record OthersGive : Type 0 where
   pub none : GiveNothing []
   pub another : GiveNothing (codes "sort" ∷ [])
   pub help : GiveNothing (codes "help" ∷ [])
   pub option : GiveNothing (codes "verify" ∷ codes "--round" ∷ codes "1" ∷ [])
 
--- the store and a port are required. Ports are from 1 to 65535; connections are from 1 to 10 ^ 6, and 10 ^ 6 if they are not given
+-- `serve` requires the store and a port. Ports are from 1 to 65535; connections are from 1 to 10 ^ 6, and 10 ^ 6 if they are not given
 pub record ServeGives : Type 0 where
   pub defaults : Give (codes "serve" ∷ codes "--store" ∷ codes "s" ∷ codes "--port" ∷ codes "1" ∷ []) name.Serve
       (text (codes "store") (codes "s") ∷ number (codes "port") 1 ∷ number (codes "connections") 1000000 ∷ [])
@@ -209,7 +210,7 @@ pub record ServeGives : Type 0 where
   pub nobody : GiveNothing (codes "serve" ∷ codes "--store" ∷ codes "s" ∷ codes "--port" ∷ codes "1" ∷ codes "--connections" ∷ codes "0" ∷ [])
   pub more : GiveNothing (codes "serve" ∷ codes "--store" ∷ codes "s" ∷ codes "--port" ∷ codes "1" ∷ codes "--connections" ∷ codes "1000001" ∷ [])
 
--- the digits of dice may be given, with a number of tickets; or a store
+-- `page` may be given the digits of dice, alone or with a number of tickets, or a store with a round
 pub record PageGives : Type 0 where
   pub absent : Give (codes "page" ∷ []) name.Page (number (codes "round") 1 ∷ [])
   pub digits : Give (codes "page" ∷ codes "--drawn" ∷ codes "97" ∷ []) name.Page (text (codes "drawn") (codes "97") ∷ number (codes "round") 1 ∷ [])

@@ -3,9 +3,9 @@
 /// A command of the program.
 #[derive(Clone, Copy, Debug)]
 pub enum CommandName {
-    /// The lottery of a pool or of a bundle, with its proof; or an open round of a store, answered by a proof that is made.
+    /// The lottery of a pool or of a bundle, with its proof; or an open round of a store, to be solved by a proof that is made.
     Prove,
-    /// An open round of a store, answered by a given proof.
+    /// An open round of a store, to be solved by a given proof.
     Keep,
     /// The verdict on a proof.
     Verify,
@@ -43,7 +43,7 @@ pub enum CommandName {
     Check,
     /// The summary of the run over a made pool.
     Make,
-    /// An open round of a store, answered by the stated run.
+    /// An open round of a store, to be solved by the stated run.
     Solve,
     /// A member of a round's drawn panel who drops out.
     Drop,

@@ -1,4 +1,4 @@
--- No sum that a check of a leaf makes on its way passes 128 bits.
+-- No sum that a check of a leaf computes passes 128 bits.
 use Rattle.std.proofs.Common.{◌≡◌, ℕ, zero, suc, ◌+◌, ◌-◌, ◌*◌, ◌^◌, ◌≤◌, ◌<◌, Bool, true, false, cond, ◌&&◌, leb, ltb, List, [], ◌∷◌, map, take, length, get_or, sum_by, ℤ, pos, ◌+ℤ◌, ◌*ℤ◌, refl, sym, ap, subst, arith, lit<, le_of_eq, mul-le-mul_left, mul-le-mul_right}
 use Rattle.std.specs.Prelude.{int_lt, unsigned_abs}
 use Rattle.std.specs.List.{AllByRecursion, enumerate_from, list_all}

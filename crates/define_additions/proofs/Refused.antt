@@ -99,7 +99,8 @@ refusal_means (OfNoPanel pool lines) refusal refused =
 
 -- ---- lines of trees
 
--- the first `k + 1` trees count the lines of the first `k`, those of tree `k`, and one more for the line that begins the next tree
+-- `lines_of_trees` of the first `k + 1` trees is that of the first `k`, plus the lines of tree `k`, plus 1 for the line that begins the
+-- next tree
 lines_of_one_more : (trees : List (List TreeLine)) (k : ℕ) → k < length trees → lines_of_trees (take (suc k) trees) ≡ lines_of_trees (take k trees) + length (get_or trees k []) + 1
 lines_of_one_more [] k l = absurd (omega arith)
 lines_of_one_more (lines ∷ trees) zero l = omega arith

@@ -1,4 +1,4 @@
--- Sums of whole numbers with a sign, by recursion.
+-- Laws on `total`, which is the sum of a function's values as signed whole numbers, defined by recursion.
 use Rattle.std.proofs.Common.{◌≡◌, ℕ, zero, suc, ◌+◌, ◌<◌, ◌≤◌, Bool, true, false, cond, ◌||◌, eqb, ltb, List, [], ◌∷◌, count_by, ℤ, pos, ◌+ℤ◌, ◌*ℤ◌, ◌≤ℤ◌, refl, sym, ap, ap₂, ◌∙◌, arith, true≢false}
 use Rattle.std.specs.List.{fold, list_all, AllByRecursion, range_with_len}
 use Rattle.std.proofs.lemmas.Bool.{and_parts, eqb-true, ne_eqb, eq-eqb, ltb-true}

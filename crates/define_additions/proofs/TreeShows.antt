@@ -24,8 +24,8 @@ use Rattle.define_additions.proofs.SignedSums.{sum-is-total, total}
 -- ---- a panel in one of the two subtrees of a split
 
 module _ (panel : List ℕ) where
-  -- take a panel that keeps the standings `all`. If `standing` allows volunteer `first + i` what they are, a member or none, the panel also
-  -- keeps `all` with this standing for this volunteer
+  -- let a panel keep the standings `all`. If `standing` agrees with whether volunteer `first + i` is a member, the panel also keeps `all`
+  -- with `standing` in the place of this volunteer's
   keeps_set : (first i : ℕ) (all : List Standing) (standing : Standing) → keeps panel first all ≡ true → allows standing (includes panel (first + i)) ≡ true → keeps panel first (set all i standing) ≡ true
   keeps_set first i [] standing h k = refl
   keeps_set first zero (one ∷ all) standing h k =

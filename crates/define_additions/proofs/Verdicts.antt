@@ -28,7 +28,7 @@ caps_hold pool earlier [] trees hold show = tt
 caps_hold pool earlier (stage ∷ later) trees hold show =
     let here = cap_of_lines pool earlier stage (first_tree trees) hold show.1 in (here, caps_hold pool (stage ∷ earlier) later (later_trees trees) (here, hold) show.2)
 
--- ---- no reason of a proof applies exactly if no reason of a check does and the trees show the caps
+-- ---- a proof has no reason to be refused exactly if a check finds none and the trees show the caps
 
 line_none : (stage : ℕ) (fault : Option TreeFault) → line_reason stage fault ≡ None → fault ≡ None
 line_none stage None e = refl

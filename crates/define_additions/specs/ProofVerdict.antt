@@ -1,5 +1,6 @@
 -- Proofs that a lottery is leximin greatest, or that a pool has no quota panel, and the verdict on them: whole numbers are multiplied,
--- added and compared, and nothing is searched. Builds on TreeLines and Reasons of `define_checks`. An auditor of `verify` reads this file.
+-- added and compared, and nothing is searched. Builds on TreeLines and TreeRanges, on Reasons of `define_checks`, and on BundleText and
+-- Ranges of `define_bundles`. An auditor of `verify` reads this file.
 use Rattle.std.specs.Prelude.{ℕ, ◌+◌, nat_le, not, List, [], ◌∷◌, ◌++◌, drop, length, slice_index_or, Option, Some, None, IsTrue}
 use Rattle.std.specs.List.{find}
 use Rattle.std.specs.Ordering.{int_eq}
@@ -43,7 +44,8 @@ tree_reasons pool earlier stage line lines =
     let number = length earlier + 1 in
     -- 13: the absolute values of the stage's cap and weights sum to more than 2^56
     reason number 13 (nobody_unless (nat_le (reach stage) number_limit)) ∷
-    -- 11: a line isn't the next one of a tree; 12: a leaf's multipliers don't show the cap
+    -- 11: a line can't come next in a tree, the lines end before the tree is complete, or a line follows its end; 12: a leaf's multipliers
+    -- don't show the cap
     line_reason number (tree_fault (stage_problem pool earlier stage) (standings pool) line lines) ∷ []
 
 -- the reasons of the lottery's listed panels at a stage
@@ -67,7 +69,7 @@ reasons_from pool lottery earlier (stage ∷ later) line trees =
     stage_reasons pool lottery earlier stage line (first_tree trees)
     ++ reasons_from pool lottery (stage ∷ earlier) later (line + length (first_tree trees) + 1) (later_trees trees)
 
--- all reasons for which a proof may be refused, in order
+-- all reasons for which a proof may be refused, in the order in which they are tried
 abbrev pub reasons : Proof → List (Option Refusal)
 reasons (OfLottery pool answer trees) =
     lottery_reasons pool answer.lottery

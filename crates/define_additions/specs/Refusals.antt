@@ -1,5 +1,5 @@
--- What a refusal of a proof says of the certificate, and which line of the proof's text it names. Builds on ProofVerdict. `verify`'s
--- meaning cites it.
+-- What a refusal of a proof says of the certificate, and which line of the proof's text it names. Builds on ProofVerdict. The meanings of
+-- `verify` and `prove` cite it, and so do the headline and LinesInText of `define_proof_texts`.
 use Rattle.std.specs.Prelude.{◌≡◌, ℕ, ◌+◌, ◌-◌, ◌<◌, ◌≤◌, List, [], ◌∷◌, ◌++◌, length, reverse, slice_index_or, take}
 use Rattle.define_checks.specs.Reasons.{Refusal}
 use Rattle.define_pools.specs.Certificate.{Answer, Certifies, Stage}

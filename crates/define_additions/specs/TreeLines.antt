@@ -52,9 +52,9 @@ pub record TreeFault : Type 0 where
 abbrev pub fault : ℕ → ℕ → Option TreeFault
 fault line reason = Some (record { line = line; reason = reason })
 
--- the first fault of lines that go on at a path, or None if they complete the tree. The first of them is line `number`. 11: a line
--- isn't the next one of a tree: a split on someone who isn't undecided, no line though the tree isn't complete, or a line after its end.
--- 12: a leaf's multipliers don't show the cap
+-- the first fault of lines that go on at a path, or None if they complete the tree. The first of them is line `number`. 11: a split is on
+-- someone who isn't undecided, the lines end before the tree is complete, or a line follows its end. 12: a leaf's multipliers don't show
+-- the cap
 abbrev pub fault_from : Problem → List Standing → ℕ → Option (List Decision) → List TreeLine → Option TreeFault
 fault_from problem standings number None [] = None
 fault_from problem standings number None (line ∷ later) = fault number 11

@@ -6,7 +6,8 @@ use Rattle.define_pools.specs.Lists.{is_increasing}
 use Rattle.define_additions.specs.Leaves.{Leaf, Multiplier}
 use Rattle.define_additions.specs.TreeLines.{OfLeaf, OfSplit, TreeLine}
 
--- the greatest scale, the greatest absolute value of a factor, and the greatest sum of the absolute values of a stage's cap and weights
+-- the limit of three numbers: of a leaf's scale, of the absolute value of a factor, and of the sum of the absolute values of a stage's cap
+-- and weights
 abbrev pub number_limit : ℕ
 number_limit = 2 ^ 56
 

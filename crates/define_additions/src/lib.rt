@@ -1,7 +1,8 @@
 //! Proofs by additions: the constraints of a stage's problem, leaves and trees that show its cap, the lines of a tree, and the verdict on a
 //! proof. The definitions are in `specs/`. Stands on `define_checks`, `define_searches`, `define_bundles` and `define_pools`. Used by
-//! `proof_verify`, which checks proofs; `define_proof_texts`, which has their text; the engine of `prove`, which makes them; the meanings
-//! of the commands, and the definitions of the office.
+//! `proof_verify`, which checks proofs; `define_proof_texts`, `proof_model` and `proof_text`, which define, hold, read and write them; the
+//! engine of `prove`, which makes them; the definitions and searches of conflicts and loosenings; the commands; and the definitions
+//! of the office.
 //!
 //! The functions have no body: their contracts are laws over the definitions, and worked examples. The promises that matter most are
 //! `valid_is_greatest` and `valid_no_panel`.
@@ -111,9 +112,9 @@ pub fn constraints_are_in_reach()
     ensures no_panel { (pool : Pool) → IsTrue (is_stage_in_reach (no_panel pool)) }
 {}
 
-/// If the problem is within reach and the leaf is in its ranges, no sum of a check of a leaf passes 128 bits: a volunteer's rest after
-/// the first multipliers, the charges of the first multipliers, all charges with those of the first rests, each product, and what the
-/// total is compared with.
+/// If the problem is within reach and the leaf is in its ranges, each of these numbers of a check of the leaf fits 128 bits: a volunteer's
+/// rest after the first `many` multipliers; the sum of the charges of the first `many` multipliers; the sum of the charges of all
+/// multipliers and of the rests of the first `many` volunteers; each product; and the number with which the total charge is compared.
 pub fn leaf_sums_are_narrow()
     ensures rest { (problem : Problem) (leaf : Leaf) (many i : ℕ) → IsTrue (is_problem_in_reach problem) → IsTrue (is_leaf leaf) →
         unsigned_abs (rest problem (first_multipliers many leaf) i) < 2 ^ 127 }
@@ -128,7 +129,7 @@ pub fn leaf_sums_are_narrow()
 {}
 
 /// The constraints of two women and two men in the second stage: the size, the women, the men, and the first stage. If a woman and a
-/// man are of one household, that constraint comes last.
+/// man are of one household, the household's constraint is the last one.
 pub fn worked_constraints()
     ensures second_stage { constraints four (stage (pos 1) (pos 1 ∷ pos 1 ∷ pos 0 ∷ pos 0 ∷ []) ∷ []) ≡
         constraint (pos 1 ∷ pos 1 ∷ pos 1 ∷ pos 1 ∷ []) (pos 2) (pos 2) ∷
@@ -139,7 +140,7 @@ pub fn worked_constraints()
     ensures earlier_in_order { map (λ it. it.upper) (drop 3 (constraints four (stage (pos 8) [] ∷ stage (pos 7) [] ∷ []))) ≡ pos 7 ∷ pos 8 ∷ [] }
 {}
 
-/// Proofs that hold: with a leaf for each stage, with a split, and of a pool without a quota panel.
+/// Valid proofs: with a leaf for each stage, with a split, and of a pool without a quota panel.
 pub fn valid_proofs()
     ensures four { verdict (four_proof four_trees) ≡ Valid }
     ensures split { verdict (four_proof (split_lines ∷ (OfLeaf men_leaf ∷ []) ∷ [])) ≡ Valid }
@@ -158,8 +159,8 @@ pub fn leaves_refused()
     ensures panels { verdict (OfNoPanel four (OfLeaf (leaf 0 (times 0 (negsuc 0) ∷ times 1 (pos 1) ∷ times 2 (pos 1) ∷ [])) ∷ [])) ≡ refused 0 12 (14 ∷ []) }
 {}
 
-/// Lines that aren't the next ones of a tree: a split on a volunteer who is decided, or on nobody; a tree that ends early; a line after
-/// its end.
+/// Lines that are not those of a tree: with a split on a volunteer who is decided, or on nobody; with an end before the tree is complete;
+/// with a line after the tree's end.
 pub fn lines_refused()
     ensures twice { verdict (four_proof ((OfSplit 0 ∷ split_lines) ∷ (OfLeaf men_leaf ∷ []) ∷ [])) ≡ refused 1 11 (21 ∷ []) }
     ensures nobody { verdict (four_proof ((OfSplit 4 ∷ OfLeaf women_leaf ∷ OfLeaf women_leaf ∷ []) ∷ (OfLeaf men_leaf ∷ []) ∷ [])) ≡ refused 1 11 (20 ∷ []) }

@@ -1,4 +1,4 @@
--- What a line after the pool says, and how a right one is spelled.
+-- A line after the pool is the spelling of what it says, and the spelling of a total, a row or a stage in its range is read as this value.
 use Rattle.std.proofs.Common.{◌≡◌, ℕ, zero, suc, ◌+◌, ◌<◌, ◌≤◌, ◌^◌, true, false, ◌&&◌, cond, eqb, leb, ltb, List, [], ◌∷◌, length, get_or, map, sum_by, refl, sym, ◌∙◌, ap, subst, arith, lit<, Option, Some, None}
 use Rattle.std.specs.Prelude.{bytes_eq, codes, ℤ, pos, negsuc, unsigned_abs}
 use Rattle.std.specs.Fmt.{decimal, signed_decimal}
@@ -203,7 +203,7 @@ row_fields volunteers small row is =
     let most = weight_at_most row.weight parts.weight in
     (plain_field (codes "panel") refl, (decimal_field row.weight (omega arith), numbers_are_fields volunteers small row.panel parts.below))
 
--- the line of a right row is read as this row
+-- if `is_row` holds of a row, its line is read as this row
 pub row_again : (volunteers : ℕ) → volunteers ≤ 400 → (row : LotteryRow) → is_row volunteers row ≡ true → answer_line volunteers (fields_of (panel_line row)) ≡ OfRow row
 row_again volunteers small row is =
     let parts = row_parts volunteers row is in
@@ -223,7 +223,7 @@ stage_fields volunteers stage is =
     let wide = stage_limit_small in
     (plain_field (codes "stage") refl, (signed_field stage.cap (omega arith), signed_are_fields stage.weights (omega arith)))
 
--- the line of a right stage is read as this stage
+-- if `is_stage` holds of a stage, its line is read as this stage
 pub stage_again : (volunteers : ℕ) (stage : Stage) → is_stage volunteers stage ≡ true → answer_line volunteers (fields_of (stage_line stage)) ≡ OfStage stage
 stage_again volunteers stage is =
     let most = stage_reach volunteers stage is in

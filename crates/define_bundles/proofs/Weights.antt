@@ -6,7 +6,7 @@ use Rattle.laws_basic.proofs.Each.{list_all_implies}
 use Rattle.define_pools.specs.Lottery.{LotteryRow}
 use Rattle.define_bundles.specs.Ranges.{is_group, is_row, is_weight}
 
--- if all rows are in range, each weight is at least 1
+-- if `is_row` holds of all rows, each weight is at least 1
 pub positive_weights : (volunteers : ℕ) (rows : List LotteryRow) → list_all (is_row volunteers) rows ≡ true → list_all (λ (row : LotteryRow). leb 1 row.weight) rows ≡ true
 positive_weights volunteers rows are =
     list_all_implies (is_row volunteers) (λ row. leb 1 row.weight)

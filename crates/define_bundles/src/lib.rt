@@ -1,6 +1,7 @@
 //! A bundle is a pool with its answer. Here are the ranges of the answer's numbers, the bundle's text, and the first fault of bytes that
 //! are no bundle's text. The definitions are in `specs/`. Stands on `define_pools`, `define_pool_texts` and `define_lines`. Used by
-//! `bundle_text`, which reads and writes bundles; `define_checks`, which checks them; the text of proofs; the commands and the office.
+//! `bundle_text`, which reads and writes bundles; by the definitions of checks, proofs, short draws, made pools, reports and offices; and
+//! by the crates of runs, checks, draws, proofs, commands and the office.
 //!
 //! The functions have no body. They are the promises: laws over the definitions, and worked examples.
 #![tactic(auto)]
@@ -49,8 +50,8 @@ pub fn other_answers()
     ensures widest { IsInRanges four widest_answer }
 {}
 
-/// Panel lines among four volunteers. In range: a weight of 10^38. Out of range: weights of 0 and of 10^38 + 1, no member, a
-/// member twice, members out of order, the number 4.
+/// Rows for four volunteers. In range: a weight of 10^38. Out of range: weights of 0 and of 10^38 + 1, no member, a member twice, members
+/// that don't increase, and a member with the number 4.
 pub fn rows_in_ranges()
     ensures { map (is_row 4) (
         row (0 ∷ 3 ∷ []) 0 ∷ row (0 ∷ 3 ∷ []) (10 ^ 38) ∷ row (0 ∷ 3 ∷ []) (10 ^ 38 + 1) ∷

@@ -1,4 +1,4 @@
--- No reason applies exactly if the certificate holds.
+-- A certificate holds exactly if none of the reasons applies.
 use Rattle.std.proofs.Common.{◌≡◌, ℕ, ◌+◌, ◌-◌, ◌^◌, Bool, true, false, cond, not, eqb, leb, ltb, List, [], ◌∷◌, length, ℤ, pos, Option, Some, None, refl, sym, ap, ◌∙◌, arith}
 use Rattle.std.specs.Prelude.{int_le, int_lt, sum_by}
 use Rattle.std.specs.List.{AllByRecursion, find, list_all}
@@ -74,7 +74,7 @@ not_below w e = sym (true_is_le (pos 0) w (omega (arith, lt-false w (pos 0) e)))
 at_least : (w : ℤ) → int_le (pos 0) w ≡ true → int_lt w (pos 0) ≡ false
 at_least w h = false_from_ne_true (int_lt w (pos 0)) (λ e. absurd (omega (arith, le-true (pos 0) w h, lt-true w (pos 0) e)))
 
--- ---- no reason of the lottery applies exactly if it is a lottery
+-- ---- the lottery is one over the pool exactly if none of its reasons applies
 
 lottery_holds : (pool : Pool) (answer : Answer) → IsInRanges pool answer → NoneStands (lottery_reasons pool answer.lottery) → IsLottery pool answer.lottery
 lottery_holds pool answer ranges none =
@@ -102,7 +102,7 @@ lottery_stands pool lottery is =
     let total = none_reason 0 3 (nobody_unless (eqb lottery.total (sum_by (λ row. row.weight) lottery.rows))) (ap nobody_unless (eq-eqb lottery.total (sum_by (λ row. row.weight) lottery.rows) is.total_agrees.total)) in
     (panels, (different, (total, tt)))
 
--- ---- no reason of a stage applies exactly if the stage holds
+-- ---- a stage holds exactly if none of its reasons applies
 
 -- If all volunteers of a list that isn't empty have the count `T`, so has the first.
 first_shares : (lottery : Lottery) (T : ℕ) (xs : List ℕ) → ltb 0 (length xs) ≡ true → list_all (λ i. eqb (count lottery i) T) xs ≡ true → first_count lottery xs ≡ T
@@ -157,7 +157,7 @@ module _ (pool : Pool) (lottery : Lottery) (earlier : List Stage) (stage : Stage
       let off = none_reason number 9 (find (λ panel. not (int_eq (panel_weight stage panel) stage.cap)) (listed lottery)) (no_panel_fails (λ panel. int_eq (panel_weight stage panel) stage.cap) lottery holds.reached) in
       (negative, (positive, (other, (lower, (above, (off, tt))))))
 
--- ---- no reason of the stages applies exactly if all stages hold
+-- ---- all stages hold exactly if none of their reasons applies
 
 module _ (pool : Pool) (lottery : Lottery) where
   stages_hold : (earlier later : List Stage) → AllByRecursion (λ stage. length stage.weights ≡ length pool.volunteers) later → NoneStands (reasons_from pool lottery earlier later) → StagesHold pool lottery earlier later

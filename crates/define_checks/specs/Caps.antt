@@ -28,11 +28,11 @@ classes_at pool stages = classes_by (alike_at pool stages) pool
 abbrev pub stage_row : Pool → List Stage → Stage → Row
 stage_row pool stages stage = row_of (alike_at pool stages) pool stage
 
--- the first composition, in order, that attains the closed rows and weighs more in `row` than its right side
+-- the first element of `compositions all` that attains the closed rows and weighs more in `row` than its right side
 abbrev pub first_above : Classes → List Row → Row → Option (List ℕ)
 first_above all closed row = find (λ counts. attains closed counts && int_lt row.b (weight_in row.a counts)) (compositions all)
 
--- the first composition, in order, that attains each earlier cap and weighs more than the stage's cap
+-- the first composition, in the order of `compositions`, that attains each earlier cap and weighs more than the stage's cap
 abbrev pub composition_above : Pool → List Stage → Stage → Option (List ℕ)
 composition_above pool earlier stage =
     first_above (classes_at pool (stage ∷ earlier)) (map (stage_row pool (stage ∷ earlier)) earlier) (stage_row pool (stage ∷ earlier) stage)

@@ -1,5 +1,5 @@
 -- The reasons for which a certificate is refused, in the order in which they are tried: those of the lottery, then stage by stage. Builds
--- on Caps. An auditor of `check` reads this file. `check_reasons` has their code.
+-- on Caps. An auditor of `check` reads this file. `check_reasons` tests the reasons in code.
 use Rattle.std.specs.Prelude.{ℕ, ◌+◌, ◌==◌, nat_lt, if◌then◌else◌, Bool, not, List, [], ◌∷◌, ◌++◌, length, map, pos, sum_by, int_lt, Option, Some, None}
 use Rattle.std.specs.List.{find}
 use Rattle.std.specs.Option.{option_map}
@@ -31,8 +31,8 @@ reason stage number (Some who) = Some (record { stage = stage; reason = number; 
 abbrev pub one : Option ℕ → Option (List ℕ)
 one volunteer = option_map (λ i. i ∷ []) volunteer
 
--- the list of those who show a reason, for a reason that holds if the test `holds` fails and that no volunteer shows: empty if the test
--- fails, else None
+-- the list of those who show a reason, for a reason that names no volunteers and applies exactly if `holds` is false: the empty list if it
+-- is false, else None
 abbrev pub nobody_unless : Bool → Option (List ℕ)
 nobody_unless holds = if holds then None else Some []
 
@@ -40,7 +40,7 @@ nobody_unless holds = if holds then None else Some []
 abbrev pub listed : Lottery → List (List ℕ)
 listed lottery = map (λ row. row.panel) lottery.rows
 
--- the first list of the second argument that equals a list before it; `earlier` are lists that come before all of these
+-- the first list of the second argument that equals a list before it there, or one of the lists in `earlier`
 abbrev pub first_repeated : List (List ℕ) → List (List ℕ) → Option (List ℕ)
 first_repeated earlier [] = None
 first_repeated earlier (xs ∷ later) = if includes_list earlier xs then Some xs else first_repeated (xs ∷ earlier) later
@@ -98,7 +98,7 @@ reasons_from pool lottery earlier [] =
 reasons_from pool lottery earlier (stage ∷ later) =
     stage_reasons pool lottery earlier stage ++ reasons_from pool lottery (stage ∷ earlier) later
 
--- all reasons for which a certificate may be refused, in order
+-- all reasons for which a certificate may be refused, in the order in which they are tried
 abbrev pub reasons : Pool → Answer → List (Option Refusal)
 reasons pool answer = lottery_reasons pool answer.lottery ++ reasons_from pool answer.lottery [] answer.stages
 

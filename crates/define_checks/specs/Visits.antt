@@ -1,5 +1,5 @@
--- The search of a check at a stage, front by front, and what a check answers under a budget of visits at each stage. Builds on Caps.
--- `check_search` counts visits this way.
+-- The search of a check at a stage, front by front, and what a check answers under a budget of visits at each stage. Builds on Reasons, and
+-- on Fronts and Visits of `define_searches`. `check_search` counts visits this way.
 use Rattle.std.specs.Prelude.{ℕ, ◌+◌, ◌==◌, nat_lt, if◌then◌else◌, Bool, false, ◌&&◌, ◌||◌, List, [], ◌∷◌, ◌++◌, filter, length, map, Option, Some, None, Result, Ok, Err}
 use Rattle.define_pools.specs.Certificate.{Answer, Stage}
 use Rattle.define_pools.specs.Pool.{Pool}

@@ -40,8 +40,8 @@ most_missed : (w b m : ℕ) → m * w ≤ w * b + w * (m - b)
 most_missed w b m = let h : m ≤ b + (m - b) = omega arith in omega (arith, mul-le-mul_left w h)
 
 module _ (selection : List ℕ) where
-  -- one quota with the bound `b` and the weight `w`, which counts those who pass `p`: for a least number, `w * b` is at most `w` for each
-  -- member who passes, plus `w` times the miss; for a greatest number, `w` for each such member is at most `w * b` plus `w` times the miss
+  -- let a quota with the bound `b` and the weight `w` count those who pass `p`, and let `m` members pass. For a least number,
+  -- `w * b ≤ w * m + w * miss`; for a greatest number, `w * m ≤ w * b + w * miss`
   one_side : (side : Side) (b w : ℕ) (p : ℕ → Bool) →
       cond (is_side AtLeast side) (w * b) 0 + total (λ i. cond (is_side AtMost side && p i) w 0) selection ≤
       total (λ i. cond (is_side AtLeast side && p i) w 0) selection + (cond (is_side AtMost side) (w * b) 0 + w * missed side b (count_by p selection))
@@ -57,7 +57,7 @@ module _ (selection : List ℕ) where
   -- ---- what all quotas ask for, and their misses
 
   module _ (pool : Pool) where
-    -- the sum of the weights of a quota of a side, over the selection's members whom it counts
+    -- a quota's weight, times how many of the selection's members it counts; 0 if the quota isn't of this side
     abbrev over_members : Side → WeightedQuota → ℕ
     over_members side it = total (λ i. weight_for pool side i it) selection
 
@@ -67,7 +67,7 @@ module _ (selection : List ℕ) where
     one_quota : (it : WeightedQuota) → weighed_bound pool AtLeast it + over_members AtMost it ≤ over_members AtLeast it + (weighed_bound pool AtMost it + weighed_miss it)
     one_quota it = one_side it.quota.side (bound pool it.quota) it.weight (counts pool it.quota.counted)
 
-    -- the sum over the members of the weights of the quotas of a side
+    -- the sum, over the selection's members, of the weights of the quotas of this side that count the member
     abbrev members_weigh : Side → List WeightedQuota → ℕ
     members_weigh side weighted = total (weights_for pool side weighted) selection
 

@@ -1,5 +1,6 @@
--- A conflict in words: a line for each quota, with its bound and how many of those whom it counts are available and seated; then by how
--- many people the quotas are missed, and whether each is needed. Builds on Quotas. The meaning of `why` cites it.
+-- A conflict in words. Each quota has a line: whom it counts, its bound, how many of those are available, and how many of these are seated.
+-- The last two lines say by how many people the quotas are missed, and whether each is needed. Builds on Quotas. `quota_conflicts` writes
+-- it, and the meaning of `why` cites it.
 use Rattle.std.specs.Prelude.{ℕ, if◌then◌else◌, Bool, true, false, not, ◌&&◌, List, [], ◌∷◌, ◌++◌, count_by, codes, Option, Some, None, unwrap_or}
 use Rattle.std.specs.Fmt.{decimal}
 use Rattle.std.specs.List.{flat_map}

@@ -1,5 +1,6 @@
 -- A lower bound on what every selection misses, by weights of quotas: what the quotas ask for, and what selections can give. Only whole
--- numbers of at least 0 are added and multiplied. Builds on Quotas. `quota_conflicts` and `loosening_by_proof` use it.
+-- numbers of at least 0 are added and multiplied. Builds on Quotas. `quota_conflicts`, `define_cost_bounds` and `loosening_by_proof` use
+-- it.
 use Rattle.std.specs.Prelude.{ℕ, ◌+◌, ◌-◌, ◌*◌, if◌then◌else◌, Bool, true, false, ◌&&◌, List, map, sum_by}
 use Rattle.std.specs.List.{enumerate_from}
 use Rattle.define_pools.specs.declared.Standing.{Standing}
@@ -37,8 +38,8 @@ weight_for pool side i it = if is_side side it.quota.side && counts pool it.quot
 abbrev pub weights_for : Pool → Side → List WeightedQuota → ℕ → ℕ
 weights_for pool side weighted i = sum_by (weight_for pool side i) weighted
 
--- what a volunteer takes from every selection: if the volunteer is seated, `most`, the sum of the weights of the quotas with greatest
--- numbers that count this volunteer; else 0
+-- what a volunteer takes from every selection: `most` if the volunteer is seated, else 0. `most` is the sum of the weights of the quotas
+-- with greatest numbers that count this volunteer
 abbrev pub taken_by : Standing → ℕ → ℕ
 taken_by Open most = 0
 taken_by Seated most = most
@@ -52,7 +53,7 @@ given_by Open least most = least - most
 given_by Seated least most = least
 given_by Gone least most = 0
 
--- what is asked of a selection that keeps the standings `all`: the least numbers, and what the seated take
+-- what is asked of a selection that keeps the standings `all`: the least numbers, each times its quota's weight, and what the seated take
 abbrev pub asked : Pool → List WeightedQuota → List Standing → ℕ
 asked pool weighted all =
     weighed_bounds pool AtLeast weighted

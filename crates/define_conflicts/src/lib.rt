@@ -1,6 +1,6 @@
-//! Conflicts: quotas of a pool that can't be met together. The definitions are in `specs/`. Stands on `define_pools` and `laws_basic`, and
-//! on `define_additions` and `define_searches` for laws on sums and households. Used by `quota_conflicts`, which finds conflicts and checks
-//! them; by `define_cost_bounds` and `loosening_by_proof`, which weigh quotas; and by the meaning of `why`.
+//! Conflicts: quotas of a pool that can't be met together. The definitions are in `specs/`. Stands on `define_pools` and `laws_basic`, on
+//! `define_additions` for standings, and on `define_searches` for a law on households. Used by `quota_conflicts`, which finds and checks
+//! conflicts; by `define_cost_bounds` and `loosening_by_proof`, which weigh quotas; and by the meaning of `why`.
 //!
 //! The functions have no body: their contracts are laws over the definitions, and worked examples. The promise that matters most is
 //! `conflict_leaves_no_panel`.
@@ -30,7 +30,7 @@ pub enum Counted {
     OfHousehold(usize),
 }
 
-/// Which end of the bounds a quota is.
+/// Which of the two bounds a quota is.
 #[derive(Clone, Copy, Debug, PartialEq, Eq)]
 pub enum Side {
     /// The least number of a panel's members whom the quota counts.

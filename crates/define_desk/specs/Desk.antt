@@ -135,7 +135,7 @@ leaving tables reply = record { tables = tables; reply = reply }
 abbrev pub withdrawn_body : List ℕ → List ℕ
 withdrawn_body id = codes "{\"id\":" ++ quoted id ++ codes ",\"withdrawn\":true}"
 
--- the reply to a withdrawal by the key of a volunteer. The office refuses it if it comes too late, and for nothing else
+-- the reply to a withdrawal by the key of a volunteer. The office refuses it if it comes too late, and for no other reason
 abbrev pub withdrawal_reply : Entry → Outcome → Reply
 withdrawal_reply entry (Replies change reply) = told (withdrawn_body entry.id)
 withdrawal_reply entry (Refuses refusal) = too_late

@@ -108,8 +108,8 @@ module _ (weights : List ℕ) (row : ℕ) (inside : row < length weights) (some 
       let same = only_row weights row (ticket_of (sum weights) group) (record { exists = inside; first = first; below = below }) in
       rw (lt-ltb group (sum weights * groups_per_ticket (sum weights)) accepted) (eq-eqb (row_of weights (ticket_of (sum weights) group)) row (sym same))
 
--- if exactly the numbers in `low..high` pass a test, and `high ≤ first + n`, then of the `n` numbers from `first` on, `high - max low
--- first` pass it: those below `high` and at least `low`
+-- let exactly the numbers in `low..high` pass a test, and let `high ≤ first + n`. Of the `n` numbers from `first` on, those below `high`
+-- and at least `low` pass: `high - max low first` numbers
 pub count_between : (p : ℕ → Bool) (low high : ℕ) → ((x : ℕ) → p x ≡ true → (low ≤ x) × (x < high)) → ((x : ℕ) → low ≤ x → x < high → p x ≡ true) →
     (first n : ℕ) → high ≤ first + n → length (filter p (range_with_len first n)) ≡ high - (low + (first - low))
 count_between p low high is only first zero l = omega arith

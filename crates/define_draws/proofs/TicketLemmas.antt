@@ -37,11 +37,11 @@ only_row (weight ∷ weights) (suc row) ticket h =
     let rest : HoldsTicket weights row (ticket - weight) = record { exists = omega (arith, h.exists); first = omega (arith, h.first); below = omega (arith, h.below) } in
     rw (le-ltb ticket weight above) (ap suc (only_row weights row (ticket - weight) rest))
 
--- a row's range ends within the sum of all weights
+-- a row's range ends at the sum of all weights, or before it
 pub range_within : (weights : List ℕ) (row : ℕ) → row < length weights → first_ticket weights row + get_or weights row 0 ≤ sum weights
 range_within weights row h = sum_by_more_le (λ n. n) weights row 0 h
 
--- ---- the rows of a lottery, one after the other
+-- ---- the weights of the rows of a lottery
 
 -- the weight at the place of a row is the row's weight
 pub weight_at : (rows : List LotteryRow) (j : ℕ) (row : LotteryRow) → j < length rows → row ≡ get_or rows j row → get_or (map (λ (r : LotteryRow). r.weight) rows) j 0 ≡ row.weight

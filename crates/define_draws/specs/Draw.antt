@@ -1,5 +1,5 @@
--- A draw from a lottery under a seal that is kept, given a seal and the digits of dice. Builds on Dice, Seal and Tickets. `sealed_draw`
--- draws this way.
+-- A draw from a lottery under a seal that is kept, given a seal and the digits of dice. Builds on Dice, Seal and Tickets, and on Lottery of
+-- `define_pools`. `sealed_draw` draws this way.
 use Rattle.std.specs.Prelude.{ℕ, if◌then◌else◌, List, [], map, slice_index_or, unsigned_abs, Result, Ok, Err}
 use Rattle.define_pools.specs.Lottery.{Lottery}
 use Rattle.define_draws.specs.declared.Named.{Named}

@@ -1,4 +1,5 @@
--- The seal of some bytes: their SHA-256 digest (FIPS 180-4) in lower case hexadecimal digits. `sealed_draw` makes it; summaries have it.
+-- The seal of some bytes: their SHA-256 digest (FIPS 180-4) in lower case hexadecimal digits. `sealed_draw` makes it. Draws, summaries and
+-- the office use it.
 use Rattle.std.specs.Prelude.{ℕ, Bool, List, bytes_eq, map}
 use Rattle.std.specs.Char.{to_ascii_lowercase}
 use Rattle.hex.specs.Hex.{encode_lower}

@@ -1,7 +1,9 @@
 //! A public draw: the tickets of a lottery's rows, which ticket the digits of dice name, seals, and what is drawn. The definitions are in
 //! `specs/`. Stands on `define_pools` and the toolchain's definition of SHA-256. Used by `tickets`, which reads dice and finds rows;
 //! `sealed_draw`, which draws; `define_short_draws`, which shortens lotteries; `define_made_pools`, whose summary has a seal;
-//! `define_offices`, whose rounds are sealed and drawn in this way; and the commands about seals, draws and dice.
+//! `define_offices`, whose rounds are sealed and drawn in this way; `define_desk`, which finds a volunteer by the digest of a key;
+//! `define_reports`, whose reports show draws; the crates that compute by these definitions; the commands about seals, draws and dice; and
+//! the proofs of `laws_of_offices` and `command_headline`.
 //!
 //! The functions have no body: their contracts are laws over the definitions, and worked examples. The promise that matters most is
 //! `dice_are_fair`.
@@ -67,8 +69,8 @@ pub fn accepted_groups_name_tickets()
 {}
 
 /// Fair dice give each row exactly its fraction. The accepted groups that name a row's tickets are consecutive numbers: they begin at
-/// `groups_per_ticket` times the row's first ticket, and there are `groups_per_ticket` times the row's weight of them. Each of them is a
-/// group, and the number of groups per ticket is the same for all rows.
+/// `groups_per_ticket` times the row's first ticket, and their number is `groups_per_ticket` times the row's weight. Dice can show each of
+/// these numbers: it has no more digits than a group. `groups_per_ticket` is at least 1, and the same for all rows.
 pub fn dice_are_fair()
     ensures exactly { (weights : List ℕ) (row group : ℕ) → row < length weights → 1 ≤ sum weights →
         IsTrue (names_row weights row group) ↔ ((groups_per_ticket (sum weights) * first_ticket weights row ≤ group) × (group < groups_per_ticket (sum weights) * (first_ticket weights row + slice_index weights row))) }
@@ -87,8 +89,8 @@ pub fn draws_the_row_of_the_ticket()
     ensures seal { (lottery : Lottery) (kept given digits : List ℕ) (drawn : Drawn) → draw lottery kept given digits ≡ Ok drawn → map to_ascii_lowercase given ≡ kept }
 {}
 
-/// Which tickets digits name, or why none, for totals from 1 to 10^38; and the rows of the tickets of a small lottery. Computed on the
-/// definitions.
+/// Which tickets some digits name, or why they name none, for totals from 1 to 10^38; and the rows of the tickets of a small lottery.
+/// Computed on the definitions.
 pub fn worked_draws()
     ensures three { name_ticket 3 (codes "97") ≡ Ok (record { ticket = pos 2; used = 2 }) }
     ensures refused { name_ticket 3 (codes "9") ≡ Err (DiceStop.MoreDigits 1) }

@@ -1,4 +1,5 @@
--- Reading records one by one. `wanted` is the result for all records; `before` is the value that the records before place `i` give.
+-- Reading records one by one. `wanted` is the result for all records. `before` is the value that the first `i` records give, and `place`
+-- is the number by which a fault names the next record.
 use Rattle.std.proofs.Common.{◌≡◌, ◌∙◌, ap, sym, ℕ, suc, ◌+◌, ◌<◌, ◌≤◌, add-one, List, ◌∷◌, map, length, drop, get_or, drop-cons, Option, Some, None, Result, Ok, Err}
 use Rattle.std.proofs.lemmas.List.{drop_all}
 use Rattle.define_imports.specs.Cells.{Fault, fault_or, read_from}

@@ -1,4 +1,4 @@
--- Categories that are read from records without a fault may be rules.
+-- `AreRules` holds of the categories that are read from records without a fault.
 use Rattle.std.proofs.Common.{◌≡◌, ℕ, suc, ◌+◌, ◌<◌, ◌≤◌, Bool, true, false, cond, eqb, leb, not, ◌&&◌, ◌||◌, List, [], ◌∷◌, ◌++◌, map, length, Option, Some, None, Result, Ok, refl, sym, ap, subst, ◌∙◌, arith}
 use Rattle.std.specs.List.{list_all}
 use Rattle.std.specs.Str.{bytes_eq}
@@ -76,7 +76,7 @@ room categories name h =
       | false ↦ λ e k. (let none : length (values_of categories name) ≡ 0 = ap (λ (vs : List BoundedValue). length vs) (values_none categories name e) in omega arith, λ f. leb-false 20 (length categories) k)
     ]) refl h
 
--- ---- categories that may be rules
+-- ---- categories after each record
 
 -- what holds of categories while they are read
 pub record AreDrafts (categories : List Category) : Type 0 where
@@ -128,7 +128,7 @@ category_grows category value good new inside h =
     (and_from (A && leb (length values) 50) (all_different (value_names values)) (and_from A (leb (length values) 50) b.0 few) apart)
     (list_all-push is_value category.values value d.1 good)
 
--- a rule without a fault is added to categories that may be rules
+-- if `AreDrafts` holds of categories, it still holds after a rule without a fault is added
 kept : (categories : List Category) (rule : Rule) → AreDrafts categories → Fits categories rule → AreDrafts (with_rule categories rule)
 kept categories rule drafts fit =
     let name = rule.category in
@@ -170,7 +170,7 @@ read_keeps {V} P kind_of after step place before (fields ∷ later) value p h =
       | Some kind ↦ λ e k. absurd cc
     ]) refl h
 
--- the categories that are read from at least one record may be rules
+-- `AreRules` holds of the categories that are read from at least one record
 pub rules_are_right : (header first : List (List ℕ)) (later : List (List (List ℕ))) (categories : List Category) →
     read_from (rule_kind header) (after_rule header) 2 [] (first ∷ later) ≡ Ok categories → AreRules categories
 rules_are_right header first later categories h =

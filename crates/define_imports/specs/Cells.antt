@@ -1,5 +1,6 @@
 -- Files of CSV: their records, the fields of a record by the names of the columns, and the first fault of a file. Builds on the reading of
--- CSV that the toolchain's `csv` defines. Rules and Registers stand on it.
+-- CSV that the toolchain's `csv` defines. Rules and Registers stand on it, and Charters on its `Fault`. `office_import` reads cells this
+-- way; the meanings of imports in `command_stores` and the headline cite it.
 use Rattle.std.specs.Prelude.{ℕ, ◌+◌, ◌==◌, ◌||◌, if◌then◌else◌, Bool, List, [], ◌∷◌, reverse, count_by, position, bytes_eq, Option, Some, None, slice_index_or, Result, Ok, Err}
 use Rattle.csv.specs.Reading.{AreRecords, default_config, strip_bom}
 use Rattle.csv.specs.declared.parser.State.TheVariants as state
@@ -28,7 +29,7 @@ trim_back field = reverse (trim_front (reverse field))
 abbrev pub trimmed : List ℕ → List ℕ
 trimmed field = trim_back (trim_front field)
 
--- the field of a header gives a column this name
+-- the field of a header is `name`, without the blanks at both ends
 abbrev pub is_named : List ℕ → List ℕ → Bool
 is_named name field = bytes_eq (trimmed field) name
 

@@ -1,5 +1,5 @@
 -- How a file of CSV is read as rows of the register. It has the columns `id` and `key`, and one for each category of the rules. It may have
--- a column `household`, which is for households unless a category has this name. Builds on Cells.
+-- a column `household`, which is for households unless a category has this name. Builds on Cells, and on Facts of `define_offices`.
 use Rattle.std.specs.Prelude.{ℕ, ◌==◌, nat_le, if◌then◌else◌, Bool, not, ◌&&◌, ◌||◌, List, [], ◌∷◌, ◌++◌, map, length, codes, Option, Some, None, Result, Err, ◌≡◌}
 use Rattle.std.specs.List.{list_all}
 use Rattle.std.specs.Str.{is_utf8}

@@ -1,5 +1,5 @@
 -- How a file of CSV is read as rules: columns `category`, `name`, `min` and `max`, and a record for each value. Categories and values are
--- in the order in which they first appear. Builds on Cells.
+-- in the order in which they first appear. Builds on Cells, and on Facts of `define_offices`.
 use Rattle.std.specs.Prelude.{ℕ, ◌==◌, nat_le, if◌then◌else◌, Bool, not, ◌&&◌, ◌||◌, List, [], ◌∷◌, ◌++◌, length, codes, bytes_eq, Option, Result, Err, ◌≡◌}
 use Rattle.std.specs.List.{list_all}
 use Rattle.std.specs.Str.{is_utf8}
@@ -52,7 +52,7 @@ with_rule (category ∷ categories) rule =
     if bytes_eq rule.category category.name then record category { values = category.values ++ rule.value ∷ [] } ∷ categories
     else category ∷ with_rule categories rule
 
--- there is no room for the rule: it would be a 51st value of its category, or a 21st category
+-- there is no room for a value of the category with this name: it would be the category's 51st value, or the category would be the 21st
 abbrev pub is_full : List Category → List ℕ → Bool
 is_full categories name =
     if includes_list (category_names categories) name then nat_le 50 (length (values_of categories name)) else nat_le 20 (length categories)

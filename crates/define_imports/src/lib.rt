@@ -1,6 +1,7 @@
 //! The files that an office imports, in definitions: a charter in TOML, rules and a register in CSV; the value of a file, or its first
 //! fault. The definitions are in `specs/`. Stands on the definitions of pools and offices and on the toolchain's readings of CSV and TOML.
-//! `office_import` implements it. The functions have no body: their contracts are laws and worked examples.
+//! `office_import` implements it; `command_stores` and `command_headline` cite it. The functions have no body: their contracts are laws and
+//! worked examples.
 #![tactic(auto)]
 
 ghost use Rattle.std.specs.Prelude.{◌≡◌, [], ◌∷◌, ◌++◌, codes, List, ℕ, pos, Some, None, Ok, Result};
@@ -21,7 +22,7 @@ pub fn one_reading()
     ensures rows { (rules : List Category) (bytes : List ℕ) (first second : Result (List Given) Fault) → ReadsRows rules bytes first → ReadsRows rules bytes second → first ≡ second }
 {}
 
-/// What is read as rules may be rules of an office.
+/// `AreRules` holds of the categories that a file of rules gives, so an office may have them as its rules.
 pub fn read_rules_are_rules()
     ensures { (records : List (List (List ℕ))) (categories : List Category) → rules_of records ≡ Ok categories → AreRules categories }
 {}

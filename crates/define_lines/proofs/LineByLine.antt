@@ -64,8 +64,9 @@ module _ {P X : Type 0} (reader : Reader P X) where
 
   -- ---- a text that is read is the spelling of its value
 
-  -- Two premises. After a line without a fault, the progress is right and has this line appended to its lines so far. If a text ends with a
-  -- value, the text of its lines, followed by its last bytes, is the spelling of this value
+  -- Two premises. `line_adds`: after a line without a fault, the progress is right and has this line appended to its lines so far.
+  -- `last_is_spelled`: if `at_last` returns a value, `IsValue` holds of it, and its spelling is the text of the lines so far, followed by
+  -- the last bytes
   module _ (IsRight : P → Type 0) (lines_so_far : P → List (List ℕ)) (IsValue : X → Type 0) (spelling : X → List ℕ)
       (line_adds : (progress : P) (line : List ℕ) → IsRight progress → reader.line_kind progress line ≡ None → IsRight (reader.after_line progress line) × (lines_so_far (reader.after_line progress line) ≡ lines_so_far progress ++ line ∷ []))
       (last_is_spelled : (number : ℕ) (progress : P) (bytes : List ℕ) (value : X) → IsRight progress → reader.at_last number progress bytes ≡ Ok value → IsValue value × (text_of (lines_so_far progress) ++ bytes ≡ spelling value)) where

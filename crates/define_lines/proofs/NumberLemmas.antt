@@ -32,7 +32,7 @@ number_spelled limit n field h =
     let parts = and_parts (bytes_eq (decimal value) field) (leb value limit) found.0 in
     subst (λ m. (decimal m ≡ field) × (m ≤ limit)) found.1 (bytes_are (decimal value) field parts.0, leb-true value limit parts.1)
 
--- if no number up to the limit has the field as its digits, the field is read as no number
+-- if the field isn't the digits of any number up to the limit, `number_up_to` returns None for it
 pub no_number : (limit : ℕ) (field : List ℕ) → ((n : ℕ) → n ≤ limit → decimal n ≢ field) → number_up_to limit field ≡ None
 no_number limit field h =
     (elim (number_up_to limit field) as (λ o. number_up_to limit field ≡ o → o ≡ None) [

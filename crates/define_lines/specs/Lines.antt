@@ -1,5 +1,5 @@
--- Texts made of lines: a TAB separates two fields, and an LF ends each line. Also what the fault of a text is. Reading.antt and the
--- definitions of each text use this file.
+-- Texts made of lines: a TAB separates two fields, and an LF ends each line. Also what the fault of a text is. Reading.antt uses this file,
+-- and so do the definitions of each text, and of the lines that commands and the office print.
 use Rattle.std.specs.Prelude.{ℕ, ◌==◌, List, [], ◌∷◌, ◌++◌}
 use Rattle.std.specs.List.{flat_map, join_with_byte, slice_split}
 

@@ -1,4 +1,5 @@
--- The one spelling of a number: digits without a leading zero, after `-` if the number is below 0. The definitions of each text use it.
+-- The one spelling of a number: digits without a leading zero, after `-` if the number is below 0. The definitions of each text use it, and
+-- so do the crates that read and write texts.
 use Rattle.std.specs.Prelude.{ℕ, ℤ, nat_le, if◌then◌else◌, ◌&&◌, List, bytes_eq, unsigned_abs, Option, Some, None}
 use Rattle.std.specs.Fmt.{decimal, signed_decimal}
 use Rattle.std.specs.Str.Parse.{digits_value, signed_digits_value}

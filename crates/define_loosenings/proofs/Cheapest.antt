@@ -1,4 +1,4 @@
--- `first_cheapest` returns None only for an empty list. In a list that is in order, it returns the first of those with the least cost.
+-- `first_cheapest` returns None only for an empty list. In a list that is `Ordered`, it returns the first of those with the least cost.
 use Rattle.std.proofs.Common.{◌≡◌, ℕ, ◌≤◌, ◌<◌, Bool, true, false, cond, ltb, List, [], ◌∷◌, Option, Some, None, refl, arith, subst}
 use Rattle.std.specs.Prelude.{Contains}
 use Rattle.std.specs.List.{AllByRecursion}

@@ -1,5 +1,5 @@
--- Go through lists of counts in order, and keep each that costs less than the one kept so far: the one kept at the end is the first of
--- those with the least cost.
+-- A search goes through lists of counts, and keeps a list if it costs less than the one kept so far. The list kept at the end is then the
+-- first of those with the least cost.
 use Rattle.std.proofs.Common.{◌≡◌, ℕ, Bool, true, false, cond, ltb, List, [], ◌∷◌, fold, Option, Some, None, refl, sym, ◌∙◌, arith}
 use Rattle.std.specs.List.{AllByRecursion}
 use Rattle.std.proofs.lemmas.Bool.{ltb-true, ltb-false, lt-ltb, le-ltb}

@@ -61,7 +61,7 @@ module _ (pool : Pool) (alike : ℕ → ℕ → Bool) (makes : MakesClasses pool
 
 -- ---- least loosenings
 
--- a pool whose list of quota panels isn't empty has one
+-- if a pool's list of quota panels isn't empty, there is a quota panel
 some_panel : (pool : Pool) → panels pool ≢ [] → (panel : List ℕ) × (is_quota_panel pool panel ≡ true)
 some_panel pool some = by (panels pool) refl (each_filter_passes (λ panel. is_quota_panel pool panel ≡ true) (is_quota_panel pool) (λ panel h. h) _)
   where

@@ -1,6 +1,6 @@
 -- The search for the cheapest team, front by front, with its visits. To enter a front is one visit; the empty front counts as one even if
 -- it isn't live. From an entered front its children are tried, the greatest count first, and each child that is live at that moment is
--- entered. Builds on Costs. `quota_loosen` searches this way.
+-- entered. Builds on Costs, and on Classes, Compositions and Fronts of `define_searches`. `quota_loosen` searches this way.
 use Rattle.std.specs.Prelude.{ℕ, ◌+◌, nat_lt, if◌then◌else◌, Bool, true, ◌&&◌, List, [], ◌∷◌, ◌++◌, fold, Option, Some, None}
 use Rattle.define_searches.specs.Classes.{Class, Classes}
 use Rattle.define_searches.specs.Compositions.{counts_of, takes_one_a_household}

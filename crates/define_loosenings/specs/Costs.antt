@@ -1,5 +1,5 @@
--- The counts of teams by classes, and what they cost. Builds on Teams, and on Classes of `define_searches`. The search for a least
--- loosening uses these costs.
+-- The counts of teams by classes, and what they cost. Builds on Teams, and on Classes, Compositions and Fronts of `define_searches`. The
+-- search for a least loosening uses these costs.
 use Rattle.std.specs.Prelude.{ℕ, ◌+◌, ◌-◌, ◌==◌, nat_lt, if◌then◌else◌, Bool, true, ◌&&◌, List, [], ◌∷◌, filter, sum_by, Option, Some, None}
 use Rattle.std.specs.List.{enumerate_from}
 use Rattle.define_searches.specs.declared.Bounds.{Bounds}
@@ -12,7 +12,7 @@ use Rattle.define_loosenings.specs.Teams.{missed_by}
 abbrev pub makes_team : Classes → List ℕ → Bool
 makes_team all counts = taken_of (λ class. true) all.classes counts == all.size && takes_one_a_household all.classes counts
 
--- the counts of all teams, in order
+-- the counts of all teams, in the order of `all_counts`
 abbrev pub team_counts : Classes → List (List ℕ)
 team_counts all = filter (makes_team all) (all_counts all.classes)
 

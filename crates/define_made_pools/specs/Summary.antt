@@ -1,5 +1,5 @@
--- The summary of a run that found an answer: a line for each number, and the seal of the bundle. Builds on Seal of `define_draws`.
--- `office_reports` writes it.
+-- The summary of a run that found an answer: a line for each number, and the seal of the bundle. Builds on Lottery of `define_pools`,
+-- BundleText of `define_bundles`, Seal of `define_draws`, Fractions of `frac128`, and Lines of `define_lines`. `office_reports` writes it.
 use Rattle.std.specs.Prelude.{ℕ, min, max, List, [], ◌∷◌, ◌++◌, codes, length, unwrap_or}
 use Rattle.std.specs.Fmt.{decimal}
 use Rattle.std.specs.List.{reduce}

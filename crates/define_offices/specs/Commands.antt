@@ -20,9 +20,9 @@ pub data Command : Type 0 where
   SetCharter : (charter : Charter) → Command
   SetRules : (rules : List Category) → Command
   Register : (rows : List Given) → Command
-  -- the stated run answers an open round
+  -- an open round is to be solved by the stated run
   Solve : (round : ℕ) (limits : Limits) → Command
-  -- a proof, whoever made it, answers an open round
+  -- an open round is to be solved by a proof, whoever made it
   Keep : (round : ℕ) (proof : Proof) → Command
   Seal : (round : ℕ) → Command
   Draw : (round : ℕ) (given digits : List ℕ) → Command

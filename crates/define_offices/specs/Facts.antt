@@ -52,7 +52,7 @@ abbrev pub entry_hashes : List Entry → List (List ℕ)
 entry_hashes register = map (λ entry. entry.hash) register
 
 -- there are a charter and rules, the bundle satisfies `IsBundle`, its weights sum to its total, and its volunteers have the ids of the
--- register's rows, in order
+-- register's rows, in the same order
 pub record KeepsBundle (tables : Tables) (bundle : Bundle) : Type 0 where
   pub charter : IsTrue (is_some tables.charter)
   pub rules : IsTrue (is_some tables.rules)

@@ -1,4 +1,5 @@
--- Laws of every step of an office, and of the tables that a list of commands leaves.
+-- Laws of every step of an office, and of the tables that a list of commands leaves. The facts of tables are those of `IsTables` in
+-- Facts.antt.
 use Rattle.std.specs.Prelude.{◌≡◌, ℕ, List, [], ◌∷◌, ◌++◌, ◌≢◌, Ok, Some}
 use Rattle.std.specs.List.{AllByRecursion}
 use Rattle.define_pools.specs.Pool.{IsPool, Pool}

@@ -9,12 +9,12 @@ use Rattle.define_offices.specs.Lines.{charter_line, one_line, register_line, ru
 use Rattle.define_offices.specs.Steps.{Comes, LeadThrough, apply, applied}
 use Rattle.std.specs.List.{AllByRecursion}
 
--- if a charter is answered with a reply, the same charter, given again at once, is answered with `same` and changes nothing
+-- if a charter is given and gets a reply, the same charter, given again at once, gets the reply `same` and changes nothing
 abbrev pub CharterAgain : Type 0
 CharterAgain = (tables : Tables) (charter : Charter) (change : Option Change) (reply : Reply) → Comes tables (SetCharter charter) (Replies change reply) →
     asked (applied tables change) (SetCharter charter) ≡ IsDecided (tells (charter_line (codes "same")))
 
--- if rules are answered with a reply, the same rules, given again at once, are answered with `same` and change nothing
+-- if rules are given and get a reply, the same rules, given again at once, get the reply `same` and change nothing
 abbrev pub RulesAgain : Type 0
 RulesAgain = (tables : Tables) (rules : List Category) (change : Option Change) (reply : Reply) → Comes tables (SetRules rules) (Replies change reply) →
     asked (applied tables change) (SetRules rules) ≡ IsDecided (tells (rules_line (codes "same")))

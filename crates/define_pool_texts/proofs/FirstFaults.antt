@@ -31,8 +31,8 @@ abbrev Passes : Progress → List (List ℕ) → Type 0
 Passes progress [] = Unit {0}
 Passes progress (line ∷ lines) = (line_kind progress line ≡ None) × Passes (after_line progress line) lines
 
--- if a progress is right and the lines after it have no fault, the progress after them is right, and its lines are the earlier ones with
--- these appended
+-- if `IsRight` holds of a progress and the lines after it have no fault, `IsRight` holds of the progress after them, and its lines are the
+-- earlier ones with these appended
 passed : (progress : Progress) (lines : List (List ℕ)) → IsRight progress → Passes progress lines →
     IsRight (after_lines progress lines) × (lines_so_far (after_lines progress lines) ≡ lines_so_far progress ++ lines)
 passed progress [] right h = (right, sym (append-nil (lines_so_far progress)))

@@ -115,7 +115,7 @@ values_run second size before name done (value ∷ todo) are different few =
     said (value_is_new size before name done value new parts.0 (omega (arith, sizes)))
     (subst (λ categories. Runs (Inside (made size categories []) (none_passed second)) (map value_line todo) after) (sym (with_value-push before (named name done) value)) rest_to)
 
--- the parts of `is_category`: a right name, and at most 50 right values with different names
+-- the parts of `is_category`: the name passes `is_name`; there are at most 50 values, of different names; and each passes `is_value`
 record IsCategory (category : Category) : Type 0 where
   name : is_name category.name ≡ true
   few : length category.values ≤ 50

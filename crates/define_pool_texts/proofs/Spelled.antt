@@ -330,7 +330,7 @@ standing_fits pool passed standing id h =
     let first = no_kind (awaits_household passed) 1 _ h in
     (first.0, id_fits pool passed.standings id (no_kind (not (is_ahead passed.standings (number_of pool.volunteers id))) 9 None first.1).0)
 
--- a household line has no fault: the version is 2, no standing line came before it, and the id and the household's name are right
+-- a household line has no fault: the version is 2, no standing line came before it, the id fits, and the household's name has no fault
 record HouseholdFits (pool : Pool) (passed : Passed) (id name : List ℕ) : Type 0 where
   second : passed.second ≡ true
   no_standing : passed.standings ≡ 0

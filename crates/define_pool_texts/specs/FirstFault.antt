@@ -1,5 +1,5 @@
 -- What the laws of this crate say about the first fault of a text: which lines begin the text of some pool, and which kind of fault is the
--- lowest. Builds on PoolReading. Only these laws use it.
+-- lowest. Builds on PoolText and PoolReading. Only these laws use it.
 use Rattle.std.specs.Prelude.{◌≡◌, ℕ, ◌-◌, ◌==◌, ◌≤◌, Bool, true, false, ◌&&◌, IsTrue, List, [], ◌++◌, take, slice_index_or}
 use Rattle.std.specs.List.{fold, list_any}
 use Rattle.define_pools.specs.Pool.{Pool, IsPool, has_households}

@@ -1,5 +1,6 @@
--- How bytes are read as the text of a pool: as the pool, or as the first faulty line and its lowest kind of fault. Builds on PoolText and
--- on Building of `define_pools`. `pool_text` reads this way, and the readings of bundles and proofs include this one.
+-- How bytes are read as the text of a pool: as the pool, or as the first faulty line and its lowest kind of fault. Builds on PoolText, on
+-- Building of `define_pools`, and on Reading and Numbers of `define_lines`. `pool_text` reads this way, and the readings of bundles and
+-- proofs include this one.
 use Rattle.std.specs.Prelude.{ℕ, ◌+◌, ◌==◌, nat_lt, nat_le, if◌then◌else◌, Bool, true, false, not, ◌&&◌, ◌||◌, List, [], ◌∷◌, ◌++◌, bytes_eq, codes, Option, Some, None, Result, Ok, Err, unwrap_or, position}
 use Rattle.std.specs.Str.{is_utf8}
 use Rattle.define_pools.specs.declared.Standing.{Standing}
@@ -12,7 +13,7 @@ use Rattle.define_lines.specs.Reading.{Reader, read_lines}
 use Rattle.define_pool_texts.specs.declared.Passed.{Passed}
 use Rattle.define_pool_texts.specs.PoolText.{version_line}
 
--- the progress of a text after right lines
+-- the progress of a text after lines without a fault
 pub data Progress : Type 0 where
   -- before the first line
   Begun : Progress
@@ -89,11 +90,11 @@ is_ahead passed (Some number) = nat_le passed number
 abbrev pub awaits_household : Passed → Bool
 awaits_household passed = passed.second && passed.households == 0
 
--- the kinds of fault that an entry may have, in rising order, each with whether it applies, given the pool so far and `passed`. Kind 1: the
--- entry is unknown, or it isn't allowed here: a volunteer after a household or standing line, a household in version 1 or after a standing
--- line, or in version 2 a standing or the end before the first household line. Kind 9: a household line has an unknown id, or its volunteer
--- doesn't come after that of the household line before; or a standing line has an unknown id, or its volunteer doesn't come after that of
--- the standing line before
+-- the kinds of fault that an entry may have, in rising order, each with whether it applies, given the pool so far and `passed`. They are
+-- those of building a pool (`category_kinds` and so on), and two more. Kind 1: the entry is unknown, or it isn't allowed here: a volunteer
+-- after a household or standing line, a household in version 1 or after a standing line, or in version 2 a standing or the end before the
+-- first household line. Kind 9: a household line has an unknown id, or its volunteer doesn't come after that of the household line before;
+-- or a standing line has an unknown id, or its volunteer doesn't come after that of the standing line before
 abbrev pub entry_kinds : Pool → Passed → Entry → List (ℕ × Bool)
 entry_kinds pool passed (OfCategory name) = category_kinds pool name
 entry_kinds pool passed (OfValue value) = value_kinds pool value
@@ -116,7 +117,8 @@ size_of (first ∷ field ∷ []) = if bytes_eq first (codes "size") then unwrap_
 size_of _ = 0
 
 -- the kinds of fault that a line may have, in rising order, each with whether it applies, given the progress before it. Kind 1: the first
--- line isn't a version line, or a line follows the end. Kind 2: the line after the version has no size. Kind 11: the line isn't UTF-8
+-- line isn't a version line, or a line follows the end. Kind 2: the line after the version has no size. Each later line up to the end may
+-- have the kinds of its entry, and kind 11: the line isn't UTF-8
 abbrev pub line_kinds : Progress → List ℕ → List (ℕ × Bool)
 line_kinds Begun line = (1, not (bytes_eq line (version_line false) || bytes_eq line (version_line true))) ∷ []
 line_kinds (Versioned second) line = size_kinds (size_of (fields_of line))
@@ -135,7 +137,7 @@ after_household pool passed number name = Inside (household_set pool number name
 abbrev pub after_standing : Pool → Passed → ℕ → Standing → Progress
 after_standing pool passed number standing = Inside (standing_set pool number standing) (record passed { standings = number + 1 })
 
--- the progress after a right entry
+-- the progress after an entry without a fault
 abbrev pub after_entry : Pool → Passed → Entry → Progress
 after_entry pool passed (OfCategory name) = Inside (category_added pool name) passed
 after_entry pool passed (OfValue value) = Inside (value_added pool value) passed
@@ -149,7 +151,7 @@ after_entry pool passed Unknown = Inside pool passed
 abbrev pub none_passed : Bool → Passed
 none_passed second = record { second = second; households = 0; standings = 0 }
 
--- the progress after a right line
+-- the progress after a line without a fault
 abbrev pub after_line : Progress → List ℕ → Progress
 after_line Begun line = Versioned (bytes_eq line (version_line true))
 after_line (Versioned second) line = Inside (empty_pool (size_of (fields_of line))) (none_passed second)

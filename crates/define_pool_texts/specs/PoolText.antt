@@ -1,5 +1,5 @@
--- The text of a pool: each pool has one spelling, of version 1 without households and of version 2 with them. Builds on Pool of
--- `define_pools`. `pool_text` writes it, and the text of a bundle contains it.
+-- The text of a pool: each pool has one spelling, of version 1 without households and of version 2 with them. Builds on Pool and Building
+-- of `define_pools`, and on Lines of `define_lines`. `pool_text` writes it, and the texts of bundles and proofs contain it.
 use Rattle.std.specs.Prelude.{ℕ, Bool, true, false, List, [], ◌∷◌, ◌++◌, map, codes, slice_index_or, Option, Some, None}
 use Rattle.std.specs.List.{flat_map}
 use Rattle.std.specs.Fmt.{decimal}

@@ -1,6 +1,6 @@
 //! The text of a pool: its one spelling, and the first fault of bytes that spell no pool. The definitions are in `specs/`. Stands on
-//! `define_pools` and `define_lines`. Used by `pool_text`, which reads and writes these texts, and by `define_bundles`, whose texts contain
-//! the text of a pool.
+//! `define_pools` and `define_lines`. Used by `pool_text`, which reads and writes these texts; by `define_bundles` and
+//! `define_proof_texts`, whose texts contain the text of a pool; and by the definitions of the office, the shell and some commands.
 //!
 //! The functions have no body: their contracts are laws over the definitions, and worked examples.
 #![tactic(auto)]
@@ -45,11 +45,11 @@ pub fn one_pool_per_text()
     ensures { (first second : Pool) → IsPool first → IsPool second → spelling first ≡ spelling second → first ≡ second }
 {}
 
-/// The lines before the first faulty line begin the text of some pool, and with the faulty line they begin none. If the kind is 12, all
-/// lines that end with LF are right, but the end line is missing. If the faulty line is the third or a later one, the lines before it are
-/// the text of a pool, or become one if the end line is added. There is one exception: right lines of version 2 that still lack a household
-/// line. They count as a beginning even if no household line can follow, as when nobody can be added since an earlier category has no
-/// values; and adding the end line doesn't make them a pool's text.
+/// The lines before the first faulty line begin the text of some pool. With the faulty line they begin none, unless the kind is 12: then
+/// all lines that end with LF are right, but the end line is missing. If the faulty line is the third or a later one, the lines before it
+/// are the text of a pool, or become one if the end line is added. There is one exception: right lines of version 2 that still lack a
+/// household line. They count as a beginning even if no household line can follow, as when nobody can be added since an earlier category
+/// has no values; and adding the end line doesn't make them a pool's text.
 pub fn first_fault_is_first()
     ensures before { (bytes : List ℕ) (fault : Fault) → read bytes ≡ Err fault →
         BeginsPoolText (lines_before fault bytes) ⊎ AwaitsHousehold (lines_before fault bytes) }

@@ -8,8 +8,8 @@ use Rattle.define_pools.proofs.Orders.{Known}
 pub cancel : (a b k : ℕ) → 0 < k → a * k ≡ b * k → a ≡ b
 cancel a b k h e = le_antisymm (le_of_mul-le-mul_right (le_of_eq e) h) (le_of_mul-le-mul_right (le_of_eq (sym e)) h)
 
--- what a stage requires of a volunteer of weight `U - D` and chance `x`, if unsettled: the weight isn't negative; and if it is positive,
--- the chance is the level
+-- what a stage requires of a volunteer of weight `U - D` and chance `x` who isn't settled yet. The weight isn't negative. If it is
+-- positive, the chance is `level`
 pub record Weighs (settled : Bool) (U D x level : ℕ) : Type 0 where
   pub none_negative : settled ≡ false → D ≡ 0
   pub at_level : settled ≡ false → 0 < U → x ≡ level
@@ -33,8 +33,8 @@ total-product : (f g : ℕ → ℕ) (k : ℕ) (xs : List ℕ) → total (λ i. f
 total-product f g k [] = omega arith
 total-product f g k (x ∷ xs) = omega (arith, total-product f g k xs)
 
--- Two lotteries: the first has the total `W` and the counts `c`, the other the total `V` and the counts `d`. And a stage: its weights are
--- `U - D`, its cap is `h - k`, and those whom it settles have the count `T` in the first lottery.
+-- Take two lotteries: the first has the total `W` and the counts `c`, the other the total `V` and the counts `d`. And take a stage: its
+-- weights are `U - D`, its cap is `h - k`, and those whom it settles have the count `T` in the first lottery.
 module _ (xs : List ℕ) (settled : ℕ → Bool) (U D c d : ℕ → ℕ) (W V h k T : ℕ) where
   left : ℕ → ℕ
   left i = U i * (c i * V) + D i * (d i * W)

@@ -142,8 +142,9 @@ no_more_at_first f g t same more u eqs =
     (λ (l : t ≤ u). ⊎_elim (λ (p : t < u). absurd (omega (arith, eqs t p))) (λ (p : u ≤ t). let e : u ≡ t = omega arith in rw e (le_of_lt more)) (cases_lt t u))
     (cases_lt u t)
 
--- Take the numbers of chances up to `u` in the second lottery and in the first. If `NoMoreAtFirst` fails for them, and `Known` holds for
--- `t = 0`, it holds for each `t` up to `level`: each unsettled volunteer's chance in the second lottery is at least `t`.
+-- Take the numbers of chances up to `u` in the second lottery and in the first. If `NoMoreAtFirst` fails for them, and `Known` holds of
+-- each volunteer for `t = 0`, then `Known` holds for each `t` up to `level`: each unsettled volunteer's chance in the second lottery is
+-- at least `t`.
 pub all_reach : (xs : List ℕ) (settled : ℕ → Bool) (x y : ℕ → ℕ) (level : ℕ) →
     (NoMoreAtFirst (λ u. total (λ i. le_one (y i) u) xs) (λ u. total (λ i. le_one (x i) u) xs) → ⊥) →
     AllByRecursion (λ i. Known (settled i) (x i) (y i) level 0) xs →

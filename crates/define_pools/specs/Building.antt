@@ -1,6 +1,6 @@
 -- Building a pool step by step: what each step adds, and the kinds of fault that a step may have, by their numbers in the text of a pool.
--- If several kinds apply, the fault has the lowest. Builds on Pool. `pool_model` builds pools this way, and `define_pool_texts` uses the
--- kinds.
+-- If several kinds apply, the fault has the lowest. Builds on Lists and Pool. `pool_model` builds pools this way, and `define_pool_texts`
+-- uses the kinds. The definitions of bundles, proofs, imports and offices use parts of it, as `lowest_kind` and `category_names`.
 use Rattle.std.specs.Prelude.{ℕ, zero, suc, ◌+◌, ◌==◌, nat_lt, nat_le, if◌then◌else◌, Bool, true, not, ◌&&◌, ◌||◌, List, [], ◌∷◌, ◌++◌, map, length, bytes_eq, Option, Some, None, unwrap_or, option_map}
 use Rattle.define_pools.specs.declared.Standing.{Standing}
 use Rattle.define_pools.specs.declared.Standing.TheVariants.{Open}
@@ -81,8 +81,8 @@ abbrev pub value_added : Pool → BoundedValue → Pool
 value_added pool value = record pool { categories = with_value pool.categories value }
 
 -- the kinds of fault of a new value. Kind 1: there is no category yet, or there are volunteers already. Kind 4: an earlier value of the
--- last category has this name. Kind 5: the bounds are out of order or range. Kind 10: the name isn't allowed, or the category has 50 values
--- already
+-- last category has this name. Kind 5: the lower bound is above the upper one, or the upper one above 999. Kind 10: the name isn't
+-- allowed, or the category has 50 values already
 abbrev pub value_kinds : Pool → BoundedValue → List (ℕ × Bool)
 value_kinds pool value =
     (1, length pool.categories == 0 || nat_lt 0 (length pool.volunteers))

@@ -1,4 +1,5 @@
--- Stages, and when they certify a lottery. Builds on Lottery and Pool. The checks, the run and the proofs by additions use it.
+-- Stages, and when they certify a lottery. Builds on Lottery and Pool. The definitions of searches, runs, checks, bundles, proofs, offices
+-- and commands use it.
 use Rattle.std.specs.Prelude.{◌≡◌, ℕ, nat_lt, nat_le, ◌==◌, Bool, not, ◌||◌, IsTrue, List, [], ◌∷◌, length, filter, fold, ℤ, pos, ◌+ℤ◌, int_lt, int_le, slice_index_or}
 use Rattle.std.specs.Ordering.{int_eq}
 use Rattle.std.specs.List.{list_all, list_any}

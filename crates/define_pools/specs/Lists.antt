@@ -1,4 +1,4 @@
--- Definitions on lists, for Pool and Lottery.
+-- Definitions on lists of numbers and lists of texts. Pool, Lottery and Building use them, and so do many crates about panels or names.
 use Rattle.std.specs.Prelude.{ℕ, zero, suc, Bool, true, not, ◌&&◌, ◌==◌, nat_lt, nat_le, if◌then◌else◌, List, [], ◌∷◌, ◌++◌, map, bytes_eq}
 use Rattle.std.specs.List.{list_all, list_any}
 

@@ -1,4 +1,4 @@
--- Lotteries over a pool, and when one lottery is above another. Builds on Pool. An auditor reads this file and Pool.
+-- Lotteries over a pool, and when one lottery is above another. Builds on Lists and Pool. An auditor reads these three files.
 use Rattle.std.specs.Prelude.{◌≡◌, ℕ, ◌*◌, ◌==◌, nat_lt, nat_le, if◌then◌else◌, Bool, false, IsTrue, IsFalse, List, [], ◌∷◌, map, length, filter, sum_by}
 use Rattle.std.specs.List.{list_all}
 use Rattle.define_pools.specs.Lists.{includes, all_different, rising}

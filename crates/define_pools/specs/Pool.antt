@@ -48,7 +48,7 @@ is_household (Some name) = is_name name
 abbrev pub is_size : ℕ → Bool
 is_size size = nat_le 1 size && nat_le size 200
 
--- bounds are in order, and at most 999
+-- the lower bound is at most the upper one, which is at most 999
 abbrev pub are_bounds : ℕ → ℕ → Bool
 are_bounds lower upper = nat_le lower upper && nat_le upper 999
 
@@ -62,15 +62,15 @@ is_category category =
     is_name category.name && nat_le (length category.values) 50 && all_different (map (λ value. value.name) category.values)
     && list_all is_value category.values
 
--- for each category the place of one of its values
+-- the list of places has one place for each category, that of one of the category's values
 abbrev pub has_values : List Category → List ℕ → Bool
 has_values [] [] = true
 has_values [] (place ∷ places) = false
 has_values (category ∷ categories) [] = false
 has_values (category ∷ categories) (place ∷ places) = nat_lt place (length category.values) && has_values categories places
 
--- what makes a pool: its numbers, names and bounds are within the limits; categories have different names, and volunteers different ids;
--- and each volunteer has a value of each category
+-- the pool's numbers, names and bounds are within the limits. Its categories have different names, and its volunteers different ids. Each
+-- volunteer has a value of each category
 pub record IsPool (pool : Pool) : Type 0 where
   pub size : IsTrue (is_size pool.size)
   pub few_categories : IsTrue (nat_le (length pool.categories) 20)

@@ -108,8 +108,8 @@ module _ (bundle : Bundle) (small : length bundle.pool.volunteers ≤ 400) where
       (node_again n small (length whole + 1) (length bundle.answer.stages) node parts.0) refl
       (subst (λ lines. Runs (InTrees bundle whole (done ++ node ∷ [])) (map node_line todo) (InTrees bundle whole lines)) (append_assoc done (node ∷ []) todo) rest)
 
-  -- if the later trees are in their ranges, and all trees together are as many as the stages and at most `most_trees`, then after the lines
-  -- of one tree, those of the later trees and the last line lead to the text's end
+  -- let the later trees be in their ranges, and all trees together be as many as the stages and at most `most_trees`. After the lines of
+  -- one tree, the lines of the later trees and the last line lead to the text's end
   later_run : (whole : List (List TreeLine)) (lines : List TreeLine) (later : List (List TreeLine)) → (length whole + 1) + length later ≡ length bundle.answer.stages → (length whole + 1) + length later ≤ most_trees →
       keep_ranges n later ≡ true →
       Runs (InTrees bundle whole lines) (trees_from ((length whole + 1) + 1) later ++ close_line ∷ []) (Closed (OfLottery bundle.pool bundle.answer (whole ++ lines ∷ later)))
@@ -178,7 +178,7 @@ module _ (pool : Pool) (small : length pool.volunteers ≤ 400) where
 opens : (lines : List (List ℕ)) (after : Progress) → Runs Opened lines after → Runs Begun (proof_line ∷ lines) after
 opens lines after runs = (line_lacks_feed (codes "proof" ∷ codes "1" ∷ []) (plain_field (codes "proof") refl, (plain_field (codes "1") refl, tt)), refl, runs)
 
--- if lines lead to the end with a proof, and their text is the proof's spelling, the spelling is read as this proof
+-- if reading `lines` from the beginning ends in `Closed proof`, and their text is the proof's spelling, that spelling is read as `proof`
 runs_are_read : (lines : List (List ℕ)) (proof : Proof) → Runs Begun lines (Closed proof) → text_of lines ≡ proof_spelling proof → read_proof (proof_spelling proof) ≡ Ok proof
 runs_are_read lines proof runs same =
     ap read_proof (sym same) ∙ reading.text_is_read reader (Closed proof) proof (λ number. refl) 1 Begun lines runs

@@ -219,7 +219,7 @@ line_adds (Closed proof) line right h = cc
 
 -- ---- the lines of a whole text
 
--- if the text ends with a proof, its lines and the last bytes are the spelling of this proof
+-- if `at_last` returns a proof, `IsProof` holds of it, and the lines so far and the last bytes are its spelling
 last_is_spelled : (number : ℕ) (progress : Progress) (bytes : List ℕ) (proof : Proof) → IsRight progress → at_last number progress bytes ≡ Ok proof →
     IsProof proof × (text_of (lines_so_far progress) ++ bytes ≡ proof_spelling proof)
 last_is_spelled number Begun bytes proof right h = cc

@@ -1,7 +1,7 @@
 //! The text of a proof, which shows that a lottery is leximin greatest or that a pool has no quota panel; and the first fault of bytes
-//! that are no proof's text. The definitions are in `specs/`. Stands on `define_additions`, `define_bundles` and `define_lines`. Used by
-//! `proof_model` and `proof_text`, which hold, read and write proofs; `proof_verify`, whose refusals name lines; the commands about
-//! proofs, and the office.
+//! that are no proof's text. The definitions are in `specs/`. Stands on `define_additions`, `define_bundles`, `define_pool_texts` and
+//! `define_lines`. Used by `proof_model` and `proof_text`, which hold, read and write proofs; by `proof_verify`, whose refusals name lines;
+//! by the commands about proofs, and by the office.
 //!
 //! The functions have no body. Their contracts are the promises: laws over the definitions, and worked examples.
 #![tactic(auto)]

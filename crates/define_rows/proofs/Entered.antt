@@ -1,4 +1,4 @@
--- Properties of the variable that enters, in a table in order.
+-- Properties of the variable that enters, in a table in order (`IsInOrder`).
 use Rattle.std.proofs.Common.{◌≡◌, ℕ, suc, ◌+◌, ◌-◌, ◌<◌, ◌≤◌, Bool, true, false, cond, not, ◌&&◌, List, [], ◌∷◌, length, map, get_or, Option, Some, None, ℤ, pos, ◌*ℤ◌, refl, sym, ap, ◌∙◌, subst, arith, inl, inr, ◌⊎◌, ⊎_elim}
 use Rattle.std.specs.Prelude.{int_lt, slice_index, count_by}
 use Rattle.std.specs.Ordering.{int_eq}

@@ -1,4 +1,5 @@
--- The search for the row whose basic variable leaves, which keeps the best row so far; and that it finds one.
+-- A search for the row whose basic variable leaves, which keeps the best of the rows that it has passed (`IsBest`). In a table in order
+-- with a stage open, it finds a row.
 use Rattle.std.proofs.Common.{◌≡◌, ◌≢◌, ℕ, zero, suc, ◌+◌, ◌<◌, ◌≤◌, Bool, true, false, not, ◌&&◌, ◌||◌, [], length, Option, Some, None, pos, ◌≤ℤ◌, refl, ap, ap₂, ◌∙◌, subst, arith, inl, inr, ◌⊎◌, ⊎_elim}
 use Rattle.std.specs.Prelude.{int_lt}
 use Rattle.std.specs.Option.{option_map, option_and_then}

@@ -1,4 +1,4 @@
--- Each step keeps the record of which classes the closed stages settled.
+-- Each step keeps `KeepsStages`: the record of settled classes still agrees with the closed rows.
 use Rattle.std.proofs.Common.{◌≡◌, ℕ, zero, suc, ◌+◌, ◌<◌, ◌≤◌, Bool, true, false, cond, not, ◌||◌, List, [], ◌∷◌, ◌++◌, length, map, get_or, set, replicate, Ok, ℤ, pos, ◌≤ℤ◌, ◌<ℤ◌, refl, sym, ap, ◌∙◌, subst, arith, inl, inr, ◌⊎◌}
 use Rattle.std.specs.Prelude.{int_lt, slice_index, count_by}
 use Rattle.std.proofs.lemmas.Int.{ints}

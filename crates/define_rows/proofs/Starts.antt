@@ -1,4 +1,4 @@
--- The first table is in order.
+-- The first table is in order (`IsInOrder`).
 use Rattle.std.proofs.Common.{◌≡◌, ◌≢◌, ℕ, zero, suc, ◌+◌, ◌^◌, ◌<◌, ◌≤◌, false, List, [], ◌∷◌, length, map, get_or, set, replicate, Ok, ℤ, pos, ◌+ℤ◌, ◌*ℤ◌, neg_ℤ, ◌≤ℤ◌, ◌<ℤ◌, refl, sym, ap, ap₂, ◌∙◌, subst, arith, ⊎_elim, length-set}
 use Rattle.std.specs.Prelude.{unsigned_abs, slice_index, sum}
 use Rattle.std.specs.Int.{◌∣◌}

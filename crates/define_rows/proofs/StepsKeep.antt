@@ -1,4 +1,4 @@
--- Entering a stage, adding a column and closing a stage keep a table in order.
+-- Entering a stage, adding a column and closing a stage keep a table in order (`IsInOrder`).
 use Rattle.std.proofs.Common.{◌≡◌, ◌≢◌, ℕ, zero, suc, ◌+◌, ◌-◌, ◌<◌, ◌≤◌, Bool, true, false, cond, not, ◌&&◌, List, [], ◌∷◌, ◌++◌, length, map, get_or, Option, Some, None, ℤ, pos, ◌≤ℤ◌, ◌<ℤ◌, refl, sym, ap, ◌∙◌, subst, arith, inl, inr, ◌⊎◌, ⊎_elim}
 use Rattle.std.specs.Prelude.{int_lt, slice_index, slice_index_or, count_by, unwrap_or}
 use Rattle.std.specs.Ordering.{int_eq}
@@ -114,7 +114,7 @@ settled-lt (x ∷ xs) (true ∷ was) (suc t) u p = omega (arith, settled-lt xs w
 settled-lt (x ∷ xs) (false ∷ was) (suc t) u p =
     omega (arith, settled-lt xs was t u p, sum_by-cons (λ (b : Bool). cond b 1 0) false was, sum_by-cons (λ (b : Bool). cond b 1 0) (int_lt (pos 0) x) (settled_by xs was))
 
--- if the sum over the marked classes is above 0, some marked class has an entry above 0
+-- if the sum of size times entry over the marked classes is above 0, some marked class has an entry above 0
 some_term : (marks : List Bool) (sizes : List ℕ) (xs : List ℤ) → pos 0 <ℤ sum_of_products (sizes_where marks sizes) xs → (t : ℕ) × (get_or marks t false ≡ true) × (int_lt (pos 0) (get_or xs t (pos 0)) ≡ true)
 some_term [] sizes xs l = absurd (omega (arith, ints))
 some_term (mark ∷ marks) [] xs l = absurd (omega (arith, ints))

@@ -1,4 +1,4 @@
--- Bland's rule: which variable enters, and in which row it becomes basic. Builds on Table. `exact_table` chooses by it.
+-- Bland's rule: which variable enters, and in which row it becomes basic. Builds on Table. `define_runs` and `exact_table` choose by it.
 use Rattle.std.specs.Prelude.{ℕ, Bool, not, ◌&&◌, ◌||◌, Option, Some, None, ℤ, pos, ◌*ℤ◌, int_lt}
 use Rattle.std.specs.Ordering.{int_eq}
 use Rattle.std.specs.List.{find, list_all, position}
@@ -15,7 +15,7 @@ abbrev pub basic_row : Table → Var → Option ℕ
 basic_row table v = position (λ x. is_same x v) table.basic
 
 -- the variable that enters, given the row in which the stage's variable is basic. If the stage's variable isn't basic, it enters; else the
--- first eligible variable, in order, whose coefficient in row `open_row` is below 0
+-- first eligible variable, in the order of `variables`, whose coefficient in row `open_row` is below 0
 abbrev pub entering_from : Table → Option ℕ → Option Var
 entering_from table None = Some (stage_variable table)
 entering_from table (Some open_row) = find (λ v. is_eligible table v && int_lt (coefficient_at table open_row v) (pos 0)) (variables table)
@@ -29,8 +29,8 @@ abbrev pub may_leave : Table → Var → ℕ → Bool
 may_leave table v i = int_lt (pos 0) (coefficient_at table i v)
 
 -- the first of two rows is preferred to the second, if the basic variables of both may leave. Each row is given by its right side, its
--- coefficient and its basic variable. The lesser ratio of right side to coefficient is preferred; of equal ratios, the basic variable that
--- comes first in order
+-- coefficient and its basic variable. The lesser ratio of right side to coefficient is preferred; if the ratios are equal, the row whose
+-- basic variable comes before the other one (`comes_before`)
 abbrev pub goes_before : ℤ → ℤ → Var → ℤ → ℤ → Var → Bool
 goes_before b c x other_b other_c y =
     int_lt (b *ℤ other_c) (other_b *ℤ c) || int_eq (b *ℤ other_c) (other_b *ℤ c) && comes_before x y

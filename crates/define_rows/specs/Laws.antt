@@ -1,5 +1,5 @@
--- Laws that the functions of this crate promise: each step keeps a table in order, a basic variable leaves when one enters, and closing a
--- stage settles a class.
+-- Laws that the functions of this crate promise: each step keeps a table in order (`IsInOrder`), a basic variable leaves when another
+-- variable enters, and closing a stage settles a class.
 use Rattle.std.specs.Prelude.{◌≡◌, ◌≢◌, ℕ, ◌<◌, ◌≤◌, true, false, List, [], length, sum, Some, None, Ok, slice_index, slice_index_or}
 use Rattle.std.specs.List.{All}
 use Rattle.define_rows.specs.declared.Var.{Var}
@@ -32,7 +32,7 @@ pub record MayEnter (table : Table) : Type 0 where
   pub shut : table.in_stage ≡ false
   pub unsettled : settled_count table < length table.sizes
 
--- a table in order stays in order when a stage is entered that may be entered
+-- if a stage may be entered (`MayEnter`), the table is in order after it is entered
 abbrev pub EnterKeepsOrder : Type 0
 EnterKeepsOrder = (table : Table) → MayEnter table → IsInOrder (enter_stage table)
 
@@ -43,7 +43,7 @@ pub record MayAdd (table : Table) (counts : List ℕ) : Type 0 where
   pub bounds : (t : ℕ) → t < length table.sizes → slice_index counts t ≤ slice_index table.sizes t
   pub fresh : (c : ℕ) → c < length table.columns → slice_index_or table.columns c [] ≢ counts
 
--- a table in order stays in order when a column is added that may be added
+-- if a column may be added (`MayAdd`), the table is in order after it is added
 abbrev pub AddKeepsOrder : Type 0
 AddKeepsOrder = (table : Table) (counts : List ℕ) → MayAdd table counts → IsInOrder (add_column table counts)
 

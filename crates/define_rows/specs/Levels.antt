@@ -46,8 +46,8 @@ pub record HasLevels (table : Table) : Type 0 where
   pub whole : sum_by (λ there. value there.column) (solution table) ≡ scale
   -- the count of class t is its size times the sum of its levels
   pub counts : (t : ℕ) → t < length table.sizes → count_of table value t ≡ slice_index table.sizes t * class_levels table level t
-  -- as `counts`, for the count of class t over `common`, a common multiple of the values' denominators; this count is multiplied by the
-  -- scale, and the other side by `common`
+  -- let `common` be a common multiple of the values' denominators. The scale times the count of class t over `common` is `common` times the
+  -- size of class t times the sum of its levels
   pub counts_over : (common t : ℕ) → All (λ there. (lowest_of there.side there.coefficient).den ∣ common) (solution table) → t < length table.sizes →
       scale * count_over table common t ≡ common * (slice_index table.sizes t * class_levels table level t)
 

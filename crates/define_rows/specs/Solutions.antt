@@ -1,5 +1,5 @@
--- The solution of a table in order: columns of positive value, in rising order, whose values sum to one. Builds on InOrder. `define_runs`
--- spreads the columns over panels.
+-- The solution of a table in order: columns of positive value, in rising order, whose values sum to one. Builds on InOrder and Steps.
+-- `define_runs` spreads the columns over panels.
 use Rattle.std.specs.Prelude.{◌≡◌, ℕ, ◌*◌, ◌/◌, ◌<◌, [], length, sum_by, slice_index_or}
 use Rattle.std.specs.Int.{◌∣◌}
 use Rattle.std.specs.List.{All, AllPairs}

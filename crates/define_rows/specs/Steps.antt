@@ -1,5 +1,5 @@
--- The steps other than the pivot: entering and closing a stage, and adding a column. Also the solution. Builds on Table. `exact_table`
--- makes these steps.
+-- The steps other than the pivot: entering and closing a stage, and adding a column. Also the solution. Builds on Choice and Table. The run
+-- of `define_runs` and `exact_table` make these steps.
 use Rattle.std.specs.Prelude.{if◌then◌else◌, ℕ, Bool, true, false, not, ◌||◌, List, [], ◌∷◌, ◌++◌, map, length, Option, Some, None, ℤ, pos, int_lt, unsigned_abs, unwrap_or}
 use Rattle.std.specs.List.{filter_map, range_with_len}
 use Rattle.std.specs.Option.{option_and_then}

@@ -1,4 +1,4 @@
-//! Rows as values. `exact_table` makes and changes them, `panel_search` prices in them.
+//! Rows as values. `exact_table` makes and changes them, `panel_search` and `pricing_pool` price in them.
 
 ghost use Rattle.std.specs.Prelude.{◌≡◌, length, IfOk};
 
@@ -11,7 +11,7 @@ use std::marker::Model;
 pub struct Row {
     /// The right side.
     pub b: i128,
-    /// The entries, one for each class in order.
+    /// The entries, one for each class, in class order.
     pub a: Vec<i128>,
 }
 

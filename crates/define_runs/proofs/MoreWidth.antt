@@ -1,4 +1,4 @@
--- A run that ended with an answer has the same answer under greater limits; one that ended without a panel ends so again.
+-- A run that ended with an answer has the same answer under greater limits. A run that ended with `NoPanel` ends with it again.
 use Rattle.std.proofs.Common.{◌≡◌, ℕ, zero, suc, ◌≤◌, Bool, true, false, cond, leb, ltb, List, [], length, map, Option, Some, None, Result, Ok, Err, refl, sym, ap, ◌∙◌, subst, arith}
 use Rattle.std.specs.Prelude.{slice_index_or}
 use Rattle.define_pools.specs.Lottery.{Lottery}
@@ -27,7 +27,7 @@ pub record Allows (limits more : RunLimits) : Type 0 where
   pub opening : limits.opening ≤ more.opening
   pub pricing : limits.pricing ≤ more.pricing
 
--- true if the run stopped, so that it has neither an answer nor the result that there is no panel
+-- true if the run stopped before it had a result, which is an answer or that there is no panel
 abbrev pub stops : Ending → Bool
 stops NoPanel = false
 stops (Found last answer) = false

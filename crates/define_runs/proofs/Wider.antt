@@ -21,7 +21,7 @@ use Rattle.define_rows.specs.Table.{Table, basic_at, coefficient, coefficient_at
 use Rattle.define_rows.specs.Width.{after, all_in_turn, operation, outcome, reach_from, reach_operations, reach_step, width_limit}
 use Rattle.define_rows.proofs.PivotLaws.{after-Ok_parts, operation-Ok_parts}
 
--- ---- steps that don't pass
+-- ---- operations that don't pass the width
 
 -- if `first` succeeds, `second` succeeds with the same outcome
 abbrev pub Lasts : {A : Type 0} → Result A Pass → Result A Pass → Type 0

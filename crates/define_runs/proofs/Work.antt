@@ -95,7 +95,7 @@ module _ (all : Classes) (limits : RunLimits) (table : Table) (limited : KeepsLi
 -- ---- the whole run
 
 module _ (all : Classes) (limits : RunLimits) (limited : KeepsLimits all) (ranges : AreRunLimits limits) where
-  -- a run that has come to `next` ends after `steps` more steps, with this ending
+  -- from `next` on, a run ends after `steps` more steps, with this ending
   record ComesTo (next : Next) : Type 0 where
     ending : Ending
     steps : ℕ

@@ -1,4 +1,5 @@
--- The properties that each table of a run has. Builds on Run. `leximin_run` and `laws_of_runs` use them.
+-- The properties that each table of a run has, and the ranges of a run's limits. Builds on Run, and on Laws of `define_rows`. Work,
+-- `leximin_run` and `laws_of_runs` use them, and Facts of `define_offices` uses the ranges.
 use Rattle.std.specs.Prelude.{◌≡◌, ◌≢◌, ℕ, ◌<◌, ◌≤◌, true, List, length, take, slice_index, Contains, Some, None}
 use Rattle.std.specs.List.{All}
 use Rattle.define_rows.specs.Choice.{choice}

@@ -38,7 +38,7 @@ OneEndingOverBudgets = (pool : Pool) (limits other : Limits) (first second : End
 abbrev pub LimitsKeepAnswer : Type 0
 LimitsKeepAnswer = (pool : Pool) (limits more : Limits) (answer : Answer) → AllowsMore limits more → RunFinds pool limits answer → RunFinds pool more answer
 
--- under greater limits, a run that found no panel finds none
+-- if a run finds that there is no quota panel, it also finds this under greater limits
 abbrev pub LimitsKeepNoPanel : Type 0
 LimitsKeepNoPanel = (pool : Pool) (limits more : Limits) → AllowsMore limits more → RunEnds pool limits NoPanel → RunEnds pool more NoPanel
 

@@ -60,7 +60,7 @@ pub data Next : Type 0 where
   GoOn : (table : Table) → Next
   Ended : (ending : Ending) → Next
 
--- the rows of the closed stages, in order
+-- the rows of the closed stages, in the order in which the stages were closed
 abbrev pub closed_rows : Table → List Row
 closed_rows table = map (row_at table) table.closed
 
@@ -90,7 +90,7 @@ abbrev pub priced : Table → Option (List ℕ) → Next
 priced table (Some counts) = GoOn (add_column table counts)
 priced table None = GoOn (close_stage table)
 
--- how many visits a pricing makes, piece by piece in waves
+-- how many visits a pricing makes if its pieces are searched in waves
 unfoldable pub pricing_visits : Classes → List Row → Row → ℕ
 pricing_visits all closed row = (best_in_waves all closed row).visits
 

@@ -27,8 +27,8 @@ pub use ranges::{
 pub use sizes::RunSizes;
 
 /// A run has one ending under its limits. Under the same width and other budgets of pivots and visits it has the same ending, unless a
-/// budget is spent in one of the two runs. Two runs over one pool that end with an answer or without a panel have the same result, whatever
-/// their widths and budgets.
+/// budget is spent in one of the two runs. If two runs over one pool each end with an answer or with `NoPanel`, they have the same result,
+/// whatever their widths and budgets.
 pub fn one_ending()
     ensures limits { (pool : Pool) (limits : Seen) (first second : Ending) → RunEnds pool limits first → RunEnds pool limits second → first ≡ second }
     ensures budgets { OneEndingOverBudgets }
@@ -37,7 +37,7 @@ pub fn one_ending()
 {}
 
 /// A run that didn't spend a budget has the same ending with greater budgets. If each limit is at least as great, the width included, a run
-/// that found an answer finds the same one, and a run that found no panel finds none.
+/// that found an answer finds the same one, and a run that found that there is no quota panel finds this again.
 pub fn greater_limits_keep_endings()
     ensures budgets { BudgetsKeepEnding }
     ensures answers { LimitsKeepAnswer }
@@ -52,8 +52,8 @@ pub fn each_run_ends()
     ensures pool { EachRunEnds }
 {}
 
-/// Each table of a run is in order, its columns are compositions, and its closed rows were priced out: no composition that attains the rows
-/// closed earlier weighs more in a closed row than its right side.
+/// Each table of a run is in order (`IsInOrder` of `define_rows`), its columns are compositions, and its closed rows were priced out: no
+/// composition that attains the rows closed earlier weighs more in a closed row than its right side.
 pub fn reached_is_kept()
     ensures { ReachedIsKept }
 {}

@@ -1,4 +1,4 @@
--- Pricing finds the best composition, and none exactly if no composition qualifies.
+-- Pricing finds the best composition. It finds nothing exactly if no composition qualifies.
 use Rattle.std.proofs.Common.{◌≡◌, ℕ, Bool, true, false, cond, List, [], ◌∷◌, ◌++◌, filter, Option, Some, None, ℤ, refl, sym, ap, subst, arith}
 use Rattle.std.specs.Prelude.{int_le, int_lt, Contains, unwrap_or, ◌↔◌}
 use Rattle.std.specs.List.{AllByRecursion}

@@ -98,7 +98,8 @@ module _ (alike : ℕ → ℕ → Bool) (same : IsEquivalenceTest alike) (count 
   leaders_below =
       each_filter (λ leader. leader < count) leads (range_with_len 0 count) (each_range (λ leader. leads leader ≡ true → leader < count) 0 count (λ k low high t. omega arith))
 
-  -- if `f` is equal on alike volunteers, its sum over a panel is the sum, over the leaders, of `f` times the members taken of their class
+  -- if `f` is equal on alike volunteers, its sum over a panel is the sum over the leaders of `f` times how many members of the leader's
+  -- class are on the panel
   pub by_class : (f : ℕ → ℕ) → ((i j : ℕ) → i < count → j < count → alike i j ≡ true → f i ≡ f j) → (panel : List ℕ) → AllByRecursion (λ i. i < count) panel →
       total f panel ≡ total (λ leader. taken alike leader panel * f leader) (leaders alike count)
   by_class f respects [] below = sym (total-zero (λ leader. 0 * f leader) (λ leader. omega arith) (leaders alike count))

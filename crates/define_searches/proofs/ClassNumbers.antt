@@ -1,4 +1,4 @@
--- The number of a volunteer's class.
+-- Laws on the number of a volunteer's class, which is its place in the list of classes.
 use Rattle.std.proofs.Common.{◌≡◌, ℕ, zero, suc, ◌+◌, ◌≤◌, ◌<◌, Bool, true, false, cond, List, [], ◌∷◌, map, length, get_or, refl, sym, ap, ◌∙◌, arith, subst}
 use Rattle.std.specs.List.{position_or_len}
 use Rattle.std.proofs.lemmas.Bool.{false≢true}
@@ -21,7 +21,8 @@ place p (x ∷ xs) = cond (p x) 0 (1 + place p xs)
 place_is : {X : Type 0} (p : X → Bool) (xs : List X) → position_or_len p xs ≡ place p xs
 place_is p xs = sym (is_position_or_len (place p) p refl (λ x xs. refl) xs)
 
--- if exactly one element passes a test, the first place that passes is in the list, and its element passes
+-- `place_below` and `place_passes`: if exactly one element passes a test, the first place that passes is in the list, and its element
+-- passes
 place_below : (p : ℕ → Bool) (xs : List ℕ) → total (λ x. one_if (p x)) xs ≡ 1 → place p xs < length xs
 place_below p [] one = absurd (omega arith)
 place_below p (x ∷ xs) one =

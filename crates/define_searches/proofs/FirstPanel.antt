@@ -188,7 +188,7 @@ module _ (alike : ℕ → ℕ → Bool) (same : IsEquivalenceTest alike) (count 
       (each_range (λ i. cond (in_panel i) (one_if (alike l i)) 0 ≡ cond (ltb (rank (alike l) i) (g l)) (one_if (alike l i)) 0) 0 count (λ i f m. term l i lead (omega arith))) in
       let d = first_some (alike l) (g l) count in omega (arith, a, b, c, d)
 
-  -- the first panel's composition is the given one
+  -- if each class has enough members, the first panel has exactly `g l` members of the class of each leader `l`
   composition_is : ((l : ℕ) → l < count → leads alike same count l ≡ true → g l ≤ rank (alike l) count) → composition_of alike firsts panel ≡ map g firsts
   unfolding leads
   composition_is fits = map_same (λ l. count_by (alike l) panel) g firsts
@@ -203,7 +203,7 @@ module _ (alike : ℕ → ℕ → Bool) (same : IsEquivalenceTest alike) (count 
             | false ↦ λ e. rest
           ]) refl
 
--- ---- each composition in the list
+-- ---- the first panel of each composition
 
 -- the first panel of `counts` is a quota panel, and its composition is `counts`
 abbrev pub FitsAndComposes : Pool → (ℕ → ℕ → Bool) → List ℕ → Type 0

@@ -175,7 +175,7 @@ module _ (pool : Pool) (alike : ℕ → ℕ → Bool) (makes : MakesClasses pool
     pub panel_fits : is_quota_panel pool panel ≡ true
     panel_fits = quota_from pool panel (record { size = size_is; up = up; below = below; standings = standings; quotas = meets; households = households })
 
--- ---- each composition in the list
+-- ---- each composition, as a function of the leaders
 
 -- `counts` are the values of a function `of` at the leaders `firsts`, and its value at each `l` is from `low l` to `high l`
 pub record ByLeader (low high : ℕ → ℕ) (firsts counts : List ℕ) : Type 0 where

@@ -10,7 +10,7 @@ use Rattle.define_searches.proofs.LeaderForm as by_leader
 use Rattle.define_searches.proofs.PanelCompositions.{is_capped-from_price}
 use Rattle.define_searches.proofs.PoolClasses.{compositions_same}
 
--- a composition weighs the same, taken class by class or by the classes' leaders
+-- a composition's weight, with the leaders' weights as entries, is its weight as LeaderForm defines it
 pub weight_same : (w : ℕ → ℤ) (firsts counts : List ℕ) → weight_in (map w firsts) counts ≡ by_leader.composition_weight w firsts counts
 weight_same w [] [] = refl
 weight_same w [] (c ∷ counts) = refl

@@ -1,4 +1,4 @@
--- Compositions are listed in their order: each comes before all that follow.
+-- Compositions are listed in the order of `comes_before`: each comes before all that follow it.
 use Rattle.std.proofs.Common.{◌≡◌, ℕ, zero, suc, ◌+◌, ◌-◌, ◌<◌, Bool, true, false, cond, ◌&&◌, eqb, ltb, List, [], ◌∷◌, ◌++◌, map, filter, refl, arith, inl, inr, ◌⊎◌}
 use Rattle.std.specs.List.{flat_map, AllByRecursion}
 use Rattle.std.proofs.lemmas.Bool.{and_parts, eq-eqb, eqb-true, lt-ltb, ltb-true, le-ltb, or_cases}
@@ -35,13 +35,13 @@ same_first c xs ys e =
 greater_first : (c d : ℕ) (xs ys : List ℕ) → d < c → comes_before (c ∷ xs) (d ∷ ys) ≡ true
 greater_first c d xs ys l = let less : ltb d c ≡ true = lt-ltb d c l in rw less refl
 
--- ---- lists in order
+-- ---- lists that are `Ordered`
 
 ordered_append : (xs ys : List (List ℕ)) → Ordered xs → Ordered ys → AllByRecursion (λ x. AllByRecursion (λ y. comes_before x y ≡ true) ys) xs → Ordered (xs ++ ys)
 ordered_append [] ys h k a = k
 ordered_append (x ∷ xs) ys h k a = (each_append (λ y. comes_before x y ≡ true) xs ys h.0 a.0, ordered_append xs ys h.1 k a.1)
 
--- in a list in order, each element comes before those that follow it
+-- in a list that is `Ordered`, each element comes before those that follow it
 pub ordered_after : (xs ys : List (List ℕ)) (y : List ℕ) → Ordered (xs ++ y ∷ ys) → AllByRecursion (λ z. comes_before y z ≡ true) ys
 ordered_after [] ys y h = h.0
 ordered_after (x ∷ xs) ys y h = ordered_after xs ys y h.1
@@ -80,6 +80,6 @@ all_ordered : (classes : List Class) → Ordered (all_counts classes)
 all_ordered [] = (tt, tt)
 all_ordered (class ∷ classes) = counted_down (all_counts classes) (all_ordered classes) class.least (class.most - class.least)
 
--- the compositions that pass a test are in order
+-- the list of the compositions that pass a test is `Ordered`
 pub compositions_ordered : (all : Classes) (p : List ℕ → Bool) → Ordered (filter p (compositions all))
 compositions_ordered all p = ordered_filter p (compositions all) (ordered_filter (is_composition all) (all_counts all.classes) (all_ordered all.classes))

@@ -25,7 +25,8 @@ use Rattle.define_searches.proofs.Households.{alike_number, one_of_number}
 
 -- ---- lists with a count for each leader
 
--- if P holds of each element of the lists `F` of all counts joined, it holds of each element of `F c`
+-- let the lists `F` of all counts from `least + more` down to `least` be joined, and `c` be one of these counts. If P holds of each element
+-- of the joined list, it holds of each element of `F c`
 at_count : (P : List ℕ → Type 0) (F : ℕ → List (List ℕ)) (least more c : ℕ) → least ≤ c → c ≤ least + more → AllByRecursion P (flat_map F (counts_down least more)) → AllByRecursion P (F c)
 at_count P F least zero c l m each =
     let s : least ≡ c = omega arith in
@@ -230,7 +231,7 @@ capped_from_compositions pool alike respects earlier stage weigh capped =
     rw (attained, weight) at here)
     (choices pool.size (everybody pool)))
 
--- if no list weighs more than the floor, each weighs at most the floor
+-- if `first_greatest` finds nothing, each list weighs at most the floor
 none_above_floor : (weight : List ℕ → ℤ) (floor : ℤ) (xs : List (List ℕ)) → first_greatest weight floor xs ≡ None → AllByRecursion (λ counts. int_le (weight counts) floor ≡ true) xs
 none_above_floor weight floor [] e = tt
 none_above_floor weight floor (counts ∷ rest) e =

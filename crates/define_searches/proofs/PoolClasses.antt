@@ -1,4 +1,4 @@
--- The classes of a pool have the same compositions and the same first panels as the form by leaders of LeaderForm.
+-- The classes of a pool have the same compositions and the same first panels as in LeaderForm, where each class is given by its leader.
 use Rattle.std.proofs.Common.{◌≡◌, ℕ, zero, suc, ◌+◌, ◌*◌, ◌≤◌, ◌<◌, Bool, true, false, cond, ◌&&◌, eqb, leb, ltb, List, [], ◌∷◌, map, length, filter, take, count_by, sum_by, slice_index, Option, None, Some, refl, sym, ap, ◌∙◌, ⊎_elim, arith, subst}
 use Rattle.std.specs.Prelude.{MatchOption, ◌↔◌, slice_get}
 use Rattle.std.specs.List.{flat_map, list_all, AllByRecursion, range_with_len, enumerate_from}
@@ -23,7 +23,7 @@ use Rattle.define_searches.proofs.PanelCompositions.{no_panel}
 use Rattle.define_searches.proofs.FirstPanel.{FitsAndComposes, filter_increases, holds_filter, each_first_panel}
 use Rattle.define_searches.proofs.LeaderPanels.{least_to_most}
 
--- ---- the classes are in order
+-- ---- the classes are `IsSearchable`: the least of each is at most its most
 
 pub classes_in_order : (pool : Pool) (alike : ℕ → ℕ → Bool) → IsSearchable (classes_by alike pool)
 classes_in_order pool alike = record {

@@ -64,7 +64,7 @@ pub record KeepsLimits (all : Classes) : Type 0 where
   pub few_categories : length all.bounds ≤ 20
   -- at most 50 values a category
   pub few_values : All (λ values. length values ≤ 50) all.bounds
-  -- the bounds of each value are in order and at most 999
+  -- each value's lower bound is at most its upper bound, which is at most 999
   pub bounds : All (λ values. All (λ bound. (bound.lower ≤ bound.upper) × (bound.upper ≤ 999)) values) all.bounds
   -- at most 400 classes
   pub few_classes : length all.classes ≤ 400

@@ -60,11 +60,11 @@ abbrev pub is_composition : Classes → List ℕ → Bool
 is_composition all counts =
     taken_of (λ class. true) all.classes counts == all.size && meets_bounds all.bounds all.classes counts && takes_one_a_household all.classes counts
 
--- all compositions, in order
+-- all compositions, in the order of `all_counts`
 abbrev pub compositions : Classes → List (List ℕ)
 compositions all = filter (is_composition all) (all_counts all.classes)
 
--- the first composition in order
+-- the first of all compositions, or None if there is none
 abbrev pub first_composition : Classes → Option (List ℕ)
 first_composition all = slice_get (compositions all) 0
 

@@ -1,5 +1,5 @@
--- Fronts: counts for the first classes. A front is live if it may still lead to a composition that is sought. Builds on Compositions. The
--- searches enter live fronts.
+-- Fronts: counts for the first classes. A front is live if it may still lead to a composition that is sought. Builds on Classes,
+-- Compositions and the rows of `define_rows`. The searches enter live fronts.
 use Rattle.std.specs.Prelude.{◌≡◌, ℕ, ◌+◌, ◌-◌, ◌^◌, ◌<◌, nat_le, if◌then◌else◌, Bool, true, ◌&&◌, List, [], ◌∷◌, ◌++◌, drop, length, map, replicate, take, fold, sum_by, ℤ, pos, ◌+ℤ◌, int_lt, int_le}
 use Rattle.std.specs.List.{list_all, enumerate_from, AllByRecursion}
 use Rattle.define_rows.specs.Row.{Row, reach}

@@ -1,5 +1,5 @@
--- Stages of a certificate as rows over classes. Builds on Classes, and on Certificate of `define_pools`. The laws of the run and the
--- checks use them.
+-- Stages of a certificate as rows over classes. Builds on Classes, on Certificate of `define_pools`, and on the rows of `define_rows`. The
+-- laws of the run and the checks use them.
 use Rattle.std.specs.Prelude.{◌≡◌, ℕ, ◌<◌, Bool, IsTrue, List, map, length}
 use Rattle.std.specs.List.{AllByRecursion}
 use Rattle.define_pools.specs.Pool.{Pool}

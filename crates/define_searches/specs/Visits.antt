@@ -1,6 +1,6 @@
 -- The searches, front by front: what they find, and how many fronts they enter. To enter a front is one visit; the empty front counts as
 -- one even if it isn't live. From an entered front its children are tried, the greatest count first, and each child that is live at that
--- moment is entered. Builds on Fronts. `panel_search` searches this way.
+-- moment is entered. Builds on Classes, Compositions and Fronts. `panel_search` searches this way.
 use Rattle.std.specs.Prelude.{ℕ, ◌+◌, if◌then◌else◌, List, [], ◌∷◌, ◌++◌, filter, map, fold, ℤ, Option, Some, None, is_some}
 use Rattle.define_rows.specs.Row.{Row}
 use Rattle.define_searches.specs.Classes.{Class, Classes}

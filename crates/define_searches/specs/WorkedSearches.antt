@@ -1,4 +1,4 @@
--- Small pools for the worked examples of the searches and of the run.
+-- Small pools for the worked examples of the searches, the waves, the checks and the run.
 use Rattle.std.specs.Prelude.{List, [], ◌∷◌, ℤ, codes}
 use Rattle.define_pools.specs.Pool.{Pool}
 use Rattle.define_pools.specs.WorkedExamples.{person, bounded, category}

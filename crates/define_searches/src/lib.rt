@@ -1,7 +1,7 @@
 //! Classes of alike volunteers, compositions, fronts and when a front is live, and the searches with the visits that they count. The
 //! definitions are in `specs/`. Stands on `define_pools` and the rows of `define_rows`. Used by `alike`, which makes classes,
-//! `panel_search`, which searches, `define_checks`, whose check makes classes of its own, `define_waves`, `define_spreads`, `define_runs`,
-//! and the crates above these.
+//! `panel_search`, which searches, `define_checks`, whose check makes classes of its own, `laws_of_fronts`, `define_waves`,
+//! `define_spreads`, `define_runs`, `define_loosenings`, and the crates above these.
 //!
 //! The functions have no body: their contracts are laws over the definitions, and worked examples. Each law is a promise. The laws hold for
 //! every test of who is alike that makes classes, so also for a finer test, such as a check's, which compares weights too.
@@ -31,7 +31,8 @@ pub struct Bounds {
     pub upper: usize,
 }
 
-/// Volunteers of equal values and equal standing make classes, in which someone who shares a household is alone.
+/// The test `are_alike` makes classes: their members have equal values and equal standing, and someone who shares a household is in a class
+/// alone.
 pub fn alike_make_classes()
     ensures { (pool : Pool) → MakesClasses pool (are_alike pool) }
 {}
@@ -96,7 +97,8 @@ pub fn first_search_decides()
 {}
 
 /// The price is the best composition. It attains the closed rows, and weighs more in the row than the row's right side. Of all compositions
-/// that do both, none weighs more, and none that is earlier in order weighs as much. There is no price exactly if no composition does both.
+/// that do both, none weighs more, and none that comes before the price weighs as much. There is no price exactly if no composition does
+/// both.
 pub fn price_is_best()
     ensures best { (all : Classes) (closed : List Row) (priced : Row) (counts : List ℕ) → price all closed priced ≡ Some counts → IsBest all closed priced counts }
     ensures none { (all : Classes) (closed : List Row) (priced : Row) → price all closed priced ≡ None ↔ ((counts : List ℕ) → Qualifies all closed priced counts → ⊥) }

@@ -80,7 +80,7 @@ counted-moves (row ∷ rows) (count ∷ counts) total tickets i size near =
 
 -- ---- the panels that are kept
 
--- a test that all panels pass is passed by those that are kept
+-- if all panels pass a test, so do those that are kept
 pub kept_pass : (p : List ℕ → Bool) (rows : List LotteryRow) (counts : List ℕ) → list_all (λ (row : LotteryRow). p row.panel) rows ≡ true →
     list_all (λ (row : LotteryRow). p row.panel) (rows_with_tickets rows counts) ≡ true
 kept_pass p [] counts h = refl

@@ -1,5 +1,5 @@
 -- A bundle whose lottery is shortened. Its stages are those of the original bundle, and need not certify the shortened lottery. Builds on
--- Short.
+-- Short, and on BundleText of `define_bundles`.
 use Rattle.std.specs.Prelude.{ℕ}
 use Rattle.define_bundles.specs.BundleText.{Bundle}
 use Rattle.define_short_draws.specs.Short.{shortened}

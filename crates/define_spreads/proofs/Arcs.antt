@@ -50,8 +50,8 @@ module _ (f : ℕ → ℕ) (q size end : ℕ) (some : 0 < q) (whole : q * size �
   last : (x : ℕ) → size ≤ x / q + 1 → end ≤ x / q * q + q
   last x l = let more = mul-le-mul_right q l in omega (arith, more, whole)
 
-  -- if an increasing list contains all marks after its first place `x`, then `z / q`, the number of the last mark up to place z, is the
-  -- same for all z from one place of the list to before the next, and from the last place to before `end`
+  -- `z / q` is the number of the last mark up to place z. If an increasing list of places below `end` contains all marks after its first
+  -- place `x`, then `z / q` is the same for all z from one place of the list to before the next, and from the last place to before `end`
   pub steps_turn : (x : ℕ) (xs : List ℕ) → is_increasing (x ∷ xs) ≡ true → AllByRecursion (λ y. y < end) (x ∷ xs) →
       ((j : ℕ) → j < size → x < j * q → includes xs (j * q) ≡ true) → Steps (λ z. f (z / q)) end (x ∷ xs)
   steps_turn x [] up below marked =

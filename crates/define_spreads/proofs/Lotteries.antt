@@ -47,7 +47,7 @@ total-flat_map : {X Y : Type 0} (g : Y → ℕ) (f : X → List Y) (xs : List X)
 total-flat_map g f [] = refl
 total-flat_map g f (x ∷ xs) = ap (total g) (flat_map-cons f x xs) ∙ omega (arith, total-append g (f x) (flat_map f xs), total-flat_map g f xs)
 
--- ---- lists no two of which are the same
+-- ---- lists whose elements are all different
 
 abbrev Apart : List (List ℕ) → Type 0
 Apart [] = Unit {0}

@@ -245,8 +245,8 @@ module _ (all : Classes) (parting : PartVolunteers all) (counts : List ℕ) (wit
 
   -- ---- even chances
 
-  -- if `q * size` is the dial's length and each multiple of q below it is a cut, the sum over the arcs of length times `f (place / q)`, at
-  -- the arc's first place, is q times the sum of f below `size`
+  -- let `q * size` be the dial's length, and each multiple of q below it a cut. Add up, over all arcs, the arc's length times
+  -- `f (at / q)`, where `at` is the arc's first place: this is q times the sum of f below `size`
   over_arcs : (f : ℕ → ℕ) (q size : ℕ) → 0 < q → q * size ≡ len → ((j : ℕ) → j < size → includes (cuts all counts) (j * q) ≡ true) →
       total (λ a. a.1 * f (a.0 / q)) (arcs all counts) ≡ q * sum_below f size
   over_arcs f q size some whole marked = by (cuts_begin all counts)

@@ -1,5 +1,6 @@
--- Compositions with fractions, spread over panels so that all members of a class have the same chance. Builds on Compositions of
--- `define_searches`. `alike` spreads them exactly this way.
+-- Compositions with fractions, spread over panels so that all members of a class have the same chance. Builds on Classes and Compositions
+-- of `define_searches`, on Lists and Lottery of `define_pools`, and on Divisors and Fractions of `frac128`. `alike` spreads compositions
+-- exactly this way.
 use Rattle.std.specs.Prelude.{◌≡◌, ℕ, ◌+◌, ◌-◌, ◌*◌, ◌/◌, ◌^◌, ◌<◌, ◌≤◌, ◌==◌, nat_lt, nat_le, if◌then◌else◌, Bool, false, ◌&&◌, ◌||◌, IsTrue, List, [], ◌∷◌, ◌++◌, drop, filter, fold, length, map, slice_get, slice_index, sum_by, take, Contains, Some, Result, Ok, Err}
 use Rattle.std.specs.Int.{◌∣◌}
 use Rattle.std.specs.List.{All, AllByRecursion, flat_map, range_with_len}
@@ -82,7 +83,7 @@ pub record TotalPass : Type 0 where
   pub den : ℕ
 
 -- the least common multiple of `total`, the total so far, and for each part its denominator times the length of its dial. If it gets
--- greater than 10 ^ 38, the `TotalPass` of the first part that makes it so
+-- greater than 10 ^ 38, the `TotalPass` of the first part that makes it so. `place` is the place of the list's first part among all parts
 abbrev pub total_from : Classes → ℕ → ℕ → List (List ℕ × Fraction) → Result ℕ TotalPass
 total_from all place total [] = Ok total
 total_from all place total ((counts, fraction) ∷ parts) =

@@ -1,5 +1,5 @@
--- Going through the compositions below the fronts of the pieces keeps the same composition as going through all compositions. Each of these
--- fronts is an `IsFront`.
+-- The search keeps the same composition if it goes through the compositions below the fronts of the pieces alone as if it goes through
+-- all compositions. `IsFront` holds of each of these fronts.
 use Rattle.std.proofs.Common.{◌≡◌, ℕ, zero, suc, ◌+◌, ◌-◌, ◌≤◌, Bool, true, false, cond, List, [], ◌∷◌, ◌++◌, map, length, filter, take, drop, fold, ℤ, Some, refl, sym, ap, ◌∙◌, arith, subst, length-append, append_assoc}
 use Rattle.std.specs.Prelude.{int_lt, nat_le, not}
 use Rattle.std.specs.List.{flat_map, AllByRecursion, position_or_len, range_with_len}

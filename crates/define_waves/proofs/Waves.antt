@@ -37,8 +37,8 @@ keep_found weight now (Some counts) = keep weight now counts
 greatest_above : (weight : List ℕ → ℤ) (floor : ℤ) (xs : List (List ℕ)) (counts : List ℕ) → first_greatest weight floor xs ≡ Some counts → int_lt floor (weight counts) ≡ true
 greatest_above weight floor xs counts e = (greatest_is (λ x. Unit {0}) weight floor xs counts (each_everywhere (λ x. Unit {0}) (λ x. tt) xs) e).1
 
--- if `floor` is at least `base`, going through all of `xs` from `floor` on keeps the same as looking at the first list of greatest weight
--- above `base` alone, and keeping it if it weighs more than `floor`
+-- let `floor` be at least `base`. Going through all of `xs`, with `floor` as the floor at first, keeps the same list as looking only at the
+-- first list of greatest weight above `base`, and keeping it if it weighs more than `floor`
 found_keeps : (weight : List ℕ → ℤ) (base floor : ℤ) (kept : Option (List ℕ)) (xs : List (List ℕ)) → IsAtLeast floor base →
     keep_found weight (floor, kept) (first_greatest weight base xs) ≡ fold (keep weight) (floor, kept) xs
 found_keeps weight base floor kept [] h = refl

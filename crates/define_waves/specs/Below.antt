@@ -1,5 +1,5 @@
 -- Fronts, the compositions that begin with a front, the best of them, and the search below a front with a floor of its own. Builds on
--- Visits of `define_searches`. `panel_search` searches this way.
+-- Classes, Compositions, Fronts and Visits of `define_searches`. `panel_search` searches this way.
 use Rattle.std.specs.Prelude.{ℕ, ◌==◌, ◌≤◌, ◌<◌, if◌then◌else◌, Bool, IsTrue, List, filter, map, length, slice_index, Contains, ℤ, int_lt, Option, None}
 use Rattle.std.specs.List.{starts_with}
 use Rattle.define_rows.specs.Row.{Row}
@@ -18,7 +18,7 @@ pub record IsFront (all : Classes) (front : List ℕ) : Type 0 where
 abbrev pub begins_with : List ℕ → List ℕ → Bool
 begins_with front counts = starts_with (λ c d. c == d) counts front
 
--- the compositions that begin with this front, in order
+-- the compositions that begin with this front, in the order of `compositions`
 abbrev pub below : Classes → List ℕ → List (List ℕ)
 below all front = filter (begins_with front) (compositions all)
 

@@ -1,6 +1,6 @@
 -- The search for the best composition in pieces, which run in waves. A piece is the search below one front. All pieces of a wave begin with
--- the same floor, so each can run without the others, and the number of workers changes neither the result nor the visits. Builds on Below.
--- `pricing_pool` searches this way.
+-- the same floor, so each can run without the others, and the number of workers changes neither the result nor the visits. Builds on Below,
+-- and on Fronts and Visits of `define_searches`. `pricing_pool` searches this way.
 use Rattle.std.specs.Prelude.{ℕ, ◌+◌, ◌-◌, ◌*◌, ◌/◌, nat_le, if◌then◌else◌, List, [], ◌∷◌, ◌++◌, drop, filter, fold, length, map, take, int_lt, Option, Some, None}
 use Rattle.std.specs.List.{position_or_len, range_with_len}
 use Rattle.define_rows.specs.Row.{Row}

@@ -1,6 +1,6 @@
 //! The search for the best composition in pieces, which run in waves. The definitions are in `specs/`. Stands on `define_searches` and the
 //! rows of `define_rows`. Used by `panel_search`, which cuts a search into pieces and searches one; `pricing_pool`, which runs waves on
-//! threads; and `define_runs`, whose pricing counts the visits of this search.
+//! threads; `define_runs`, whose pricing counts the visits of this search; and `leximin_run`, which prices by it.
 //!
 //! The functions have no body. They are the promises: laws over the definitions, and worked examples.
 #![tactic(auto)]

@@ -1,5 +1,5 @@
-//! Faulty texts, for `texts`. A row has four fields with `|` between them: the line and the kind of the first fault, or zeros for none; the
-//! number of a line in a sound text; and what replaces this line and all lines after it.
+//! Faulty texts, for `texts`. A row has four fields with `|` between them: the line and the kind of the first fault, or zeros if there is
+//! none; the number of a line in a text without a fault; and what replaces this line and all lines after it.
 
 /// Rows for `FOUR`, the pool of two women and two men.
 pub(crate) const FOUR_FAULTS: &str = "\

@@ -70,7 +70,7 @@ const WORKED: &[Below<'static>] = &[
     },
 ];
 
-// The fronts of the pieces of the search with the right side 0, in order.
+// The fronts of the pieces of the search with the right side 0, in the order of the pieces.
 const PIECES: &[&[usize]] = &[&[1, 0, 1, 0], &[0, 1, 1, 0], &[0, 0, 1, 1]];
 
 // True if the front has at most one count for each class, from the least to the most of the class.

@@ -1,6 +1,7 @@
-//! Tests of the crates below the commands, by public calls alone: of texts and values, of the searches for compositions, and of the engine
-//! of `prove` and the checks. They are in a crate of their own, since a crate with tests is proved twice, the second time with its tests.
-//! No crate uses this one. The expected values are from outside: published, counted by hand, or made by another program.
+//! Tests of the crates below the commands, by public calls alone: of texts, values and digests, of doors, readers and writers, of the
+//! searches for compositions, and of the engine of `prove` and the checks. They are in a crate of their own, since a crate with tests is
+//! proved twice, the second time with its tests. No crate uses this one. The expected values are from outside: published, counted by hand,
+//! or made by another program.
 #![tactic(auto)]
 
 #[cfg(test)]

@@ -1,4 +1,4 @@
-//! The lottery of a small pool's point, by peeling.
+//! Peels panels off the point of a small pool, and tests the lottery that they make.
 
 use crate::small_pools::{ONE_OF_TWO, pool};
 use proof_limits::Budget;

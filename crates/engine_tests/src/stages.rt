@@ -1,4 +1,5 @@
-//! The stages of small pools, by the relaxation and by compositions.
+//! The chances of small pools that the relaxation finds (`relaxed_stages`), and the stages of one pool over its compositions
+//! (`column_stages`).
 
 use crate::small_pools::{ONE_OF_TWO, SmallPool, pool};
 use proof_limits::Budget;

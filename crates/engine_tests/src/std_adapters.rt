@@ -44,7 +44,7 @@ impl Write for Interrupted {
     }
 }
 
-/// Tests that a failed read is a fault and is not made again, and that a sound reader is read to its end.
+/// Tests that a failed read is a fault and is not made again, and that a reader whose reads don't fail is read to its end.
 #[test]
 fn readers_of_std_are_sources(rt: HostRuntime) -> Result<(), Fail> {
     let mut source = StdSource::new(Interrupted {

@@ -1,4 +1,5 @@
-//! Small programs over spans, each with its point or its refutation tested; tables that grow and shrink; and the stops.
+//! Small programs over spans, each with its point or its refutation tested; tables that grow and shrink; and calls that stop because the
+//! pivots are spent or a number is too wide.
 
 ghost use Rattle.std.specs.Prelude.{◌≡◌, IfOk};
 
@@ -92,7 +93,7 @@ fn refutes(program: &SmallProgram, multipliers: &[Narrow]) -> bool {
     total < 0
 }
 
-// True if a run finds rightly whether the program has a point, and its point or its refutation is right.
+// True if a run finds a point exactly if the program has one, and the point keeps the spans, or the multipliers refute the program.
 fn is_right(alloc: Global, program: &SmallProgram, budget: &mut Budget) -> Result<bool, ProveStop> {
     let mut table = table_of(alloc, program)?;
     let columns = [
@@ -173,15 +174,15 @@ fn sizes_and_stops(rt: HostRuntime) -> Result<(), Fail> {
     let alloc = rt.alloc();
     let unit = span((0, 1));
     let rows = [span((5, 5)), span((-9, 9))];
-    // a pivot on y makes an entry of 5 * 5 + 7 * 3, which is 46
-    for (width, pivots) in &[(45, 9), (46, 0), (46, 9)] {
+    // a pivot on y makes an entry of -7
+    for (width, pivots) in &[(6, 9), (7, 0), (7, 9)] {
         let mut table = grown(alloc)?;
         let mut budget = Budget::new(*pivots, 0);
         table.set_width(narrow(*width));
         assert!(rt; table.columns() == 2 && table.rows() == 2);
         match table.run(&[unit, unit], &rows, &mut budget) {
-            Ok(found) => assert!(rt; found && *width == 46 && budget.pivots() == 8),
-            Err(ProveStop::BeyondWidth) => assert!(rt; *width == 45),
+            Ok(found) => assert!(rt; found && *width == 7 && budget.pivots() == 8),
+            Err(ProveStop::BeyondWidth) => assert!(rt; *width == 6),
             Err(stop) => assert!(rt;
                 *pivots == 0 && matches!(stop, ProveStop::Spent(Limit::Pivots))
             ),
@@ -211,9 +212,9 @@ fn wide_table(alloc: Global) -> Result<Table, ProveStop> {
     Ok(table)
 }
 
-// Returns the operation that passes 2^62 and its two numbers, if it stopped a call.
-fn passed(made: Result<(), ProveStop>) -> Option<(Op, i128, i128)> {
-    match &made {
+// Returns the operation that passes 2^62 and its two numbers, if it stopped a run.
+fn passed(made: &Result<bool, ProveStop>) -> Option<(Op, i128, i128)> {
+    match made {
         Err(ProveStop::Wide(pass)) => Some((pass.op(), pass.x(), pass.y())),
         _ => None,
     }
@@ -225,7 +226,11 @@ fn wide_stops(rt: HostRuntime) -> Result<(), Fail> {
     assert!(rt;
         table.columns() == 1 && table.rows() == 2 && table.denominator() == Narrow::GREATEST
     );
-    let stop = passed(table.add_column(&[Narrow::ZERO, narrow(2)], 0));
-    assert!(rt; stop == Some((Op::Sub, DOUBLE, 0)));
+    // the second row becomes x + 2 y, and its entry at y is 2^63
+    table.add_column(&[Narrow::ZERO, narrow(2)], 0)?;
+    let unit = span((0, 1));
+    let one = span((1, 1));
+    let made = table.run(&[unit, unit], &[one, one], &mut Budget::new(9, 0));
+    assert!(rt; passed(&made) == Some((Op::Add, DOUBLE, 0)));
     Ok(())
 }

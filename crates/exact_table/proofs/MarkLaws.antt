@@ -99,6 +99,6 @@ length-settled_marks stage [] marks = refl
 length-settled_marks stage (x ∷ xs) [] = refl
 length-settled_marks stage (x ∷ xs) (at ∷ marks) = ap suc (length-settled_marks stage xs marks)
 
--- marks stay right when one more stage is entered
+-- if `AreMarks` holds of marks after `stages` stages were entered, it still holds after one more is entered
 pub AreMarks-later : (stages : ℕ) (marks : List ℕ) → AreMarks marks stages → AreMarks marks (stages + 1)
 AreMarks-later stages marks h = λ k d l n. omega (arith, h k d l n)

@@ -19,7 +19,7 @@ pub record IsLeaver (table : Table) (v : Var) (row : ℕ) (side coefficient : �
   pub some_side : pos 0 ≤ℤ side
   pub positive : pos 0 <ℤ coefficient
 
--- the one that Bland's rule prefers of row `i` and the best row so far, when `v` enters; row `i` if there is no best row so far
+-- row `i` or the best row so far, whichever Bland's rule prefers when `v` enters; row `i` if there is no best row so far
 abbrev pub better : Table → Var → ℕ → Option ℕ → Option ℕ
 better table v i None = Some i
 better table v i (Some b) = if leaves_before table v i b then Some i else Some b

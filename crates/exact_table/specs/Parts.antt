@@ -1,5 +1,5 @@
--- The parts of the table besides its rows, and the conditions that they meet. Builds on Marks, and on Table and InOrder of `define_rows`.
--- Used by the modules `frame`, `choosing`, `pivoting`, `rows` and `table`.
+-- The parts of the table besides its rows, and the conditions that they meet. Builds on Marks, and on Table, Choice and InOrder of
+-- `define_rows`. Used by the modules `frame`, `choosing`, `pivoting`, `rows` and `table`.
 use Rattle.std.specs.Prelude.{◌≡◌, ◌≢◌, ℕ, ◌+◌, ◌-◌, nat_lt, ◌<◌, ◌≤◌, ◌^◌, ◌≤ℤ◌, ◌<ℤ◌, ℤ, pos, unsigned_abs, Bool, true, if◌then◌else◌, Option, Some, None, List, [], length, take, slice_index, slice_index_or}
 use Rattle.std.specs.List.{All}
 use Rattle.define_rows.specs.declared.Var.{Var}
@@ -33,7 +33,7 @@ frame_of sizes settled_at stages columns closed in_stage bits pivots = record {
   pivots = pivots;
 }
 
--- the conditions on the parts: a mark for each class, room for a closed row for each class, and numbers within their limits
+-- the conditions on the parts: there is a mark for each class, `closed` has a place for each class, and numbers are within their limits
 pub record IsFrame (sizes settled_at : List ℕ) (stages : ℕ) (columns : List (List ℕ)) (closed : List ℕ) (in_stage : Bool) (bits : ℕ) : Type 0 where
   pub some_each : All (λ size. 1 ≤ size) sizes
   pub marks_each : length settled_at ≡ length sizes

@@ -138,7 +138,7 @@ fn first_column(frame: &Frame, rows: &[Row], at: usize) -> Option<Var>
     None
 }
 
-// Returns the first variable in order that may enter, or None.
+// Returns the first variable that may enter, in the order slacks, stage variables, columns. None if none may.
 fn first_to_enter(frame: &Frame, rows: &[Row], at: usize) -> Option<Var>
     requires rows { AreRows (with_rows frame.now rows.now []) }
     requires closed { All (λ i. i < length rows.now) frame.now.closed }
@@ -261,7 +261,7 @@ fn row_to_leave(frame: &Frame, rows: &[Row], basic: &[Var], variable: Var) -> Op
     }
 }
 
-// Returns the variable that enters: the stage's variable if it isn't basic, else the first in order that may enter, or None if none may.
+// Returns the variable that enters: the stage's variable if it isn't basic, else the first variable that may enter, or None if none may.
 fn entering(frame: &Frame, rows: &[Row], basic: &[Var]) -> Option<Var>
     requires rows { AreRows (with_rows frame.now rows.now []) }
     requires closed { All (λ i. i < length rows.now) frame.now.closed }

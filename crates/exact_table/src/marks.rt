@@ -1,4 +1,4 @@
-//! For each class the stage at whose close it was settled. A helper of `frame`.
+//! Marks of classes: a settled class's mark is the number of the stage at whose close it was settled. A helper of `frame`.
 
 ghost use Rattle.std.specs.Prelude.{◌≡◌, ◌==◌, ◌&&◌, if◌then◌else◌, count_by, length, replicate, IfOk, pos, int_lt};
 ghost use Rattle.exact_table.specs.Marks.{never, settled_of, settled_marks};

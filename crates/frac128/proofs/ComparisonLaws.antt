@@ -1,4 +1,5 @@
--- Laws of the comparison of two fractions, `nat_cmp (an * bd) (bn * ad)` for an/ad and bn/bd.
+-- Laws of the comparison of two fractions, `nat_cmp (an * bd) (bn * ad)` for an/ad and bn/bd. The quotient of an/ad is `an / ad`, rounded
+-- down.
 use Rattle.std.proofs.Common.{◌≡◌, ◌≢◌, ℕ, ◌+◌, ◌*◌, ◌/◌, ◌%◌, ◌<◌, ◌≤◌, ◌⊎◌, inl, inr, sym, ◌∙◌, ap, subst, arith}
 use Rattle.std.specs.Ordering.{nat_cmp}
 use Rattle.std.proofs.lemmas.Bool.Decides.{nat_tests}

@@ -1,4 +1,4 @@
--- Laws of the greatest common divisor.
+-- Laws of the greatest common divisor, of two numbers and of a list, and of the least common multiple of two numbers.
 use Rattle.std.proofs.Common.{◌≡◌, ◌≢◌, ℕ, ℤ, zero, suc, pos, negsuc, neg_ℤ, unsigned_abs, ◌*◌, ◌/◌, ◌%◌, ◌<◌, ◌≤◌, max, Bool, true, false, List, [], ◌∷◌, map, refl, sym, ◌∙◌, ap, subst, inl, inr, ◌⊎◌, arith, zero-mul, eq-zero-or-pos}
 use Rattle.std.specs.Prelude.{◌&&◌, if◌then◌else◌, int_div}
 use Rattle.std.specs.Int.{IsGcd, ◌∣◌}

@@ -1,4 +1,5 @@
--- Common divisors and common multiples of whole numbers of any size. Uses no other file. `define_rows` and `define_spreads` use it.
+-- Common divisors and common multiples of whole numbers of any size. Uses no other file. Fractions builds on it; the exact table, spreading
+-- and the run use it too.
 use Rattle.std.specs.Prelude.{ℕ, zero, suc, ◌*◌, ◌/◌, ◌%◌, max, ◌==◌, ◌&&◌, if◌then◌else◌, Bool, List}
 use Rattle.std.specs.Int.{IsGcd, ◌∣◌}
 use Rattle.std.specs.List.{fold}

@@ -1,4 +1,5 @@
--- Fractions of whole numbers, in lowest terms. Builds on Divisors. The table, spreading, the run and summaries use it.
+-- Fractions of whole numbers, in lowest terms. Builds on Divisors. The exact table, spreading, the run, and the texts that show chances use
+-- it.
 use Rattle.std.specs.Prelude.{◌≡◌, ℕ, ◌/◌, ◌<◌, List, ◌∷◌, ◌++◌}
 use Rattle.std.specs.Fmt.{decimal}
 use Rattle.frac128.specs.Divisors.{gcd_of}

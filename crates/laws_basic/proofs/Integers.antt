@@ -133,7 +133,7 @@ same_pos m n e = omega (arith, ints)
 pub zero-mul : (z : ℤ) → pos 0 *ℤ z ≡ pos 0
 zero-mul z = omega (arith, ints)
 
--- `up z - down z` is `z`: the product of `c` with `z` is `c` times `up z` less `c` times `down z`, written without differences
+-- `z` is `up z` less `down z`, so `c` times `z` is `c * up z` less `c * down z`. The law says this as an equation of natural numbers
 pub product-parts : (c : ℕ) (z : ℤ) → up (pos c *ℤ z) + c * down z ≡ c * up z + down (pos c *ℤ z)
 product-parts c z = omega (arith, ints, product_is (pos c) z)
 

@@ -1,4 +1,4 @@
--- Elements of lists in their places, and two lists side by side.
+-- Laws on the element at a place of a list, if an element is replaced or appended, and on `FirstHave`.
 use Rattle.std.proofs.Common.{◌≡◌, ℕ, zero, suc, ◌+◌, ◌<◌, Bool, true, false, eqb, List, [], ◌∷◌, ◌++◌, length, set, Some, refl, sym, ap, ◌∙◌, arith, subst, length-append, ◌⊎◌, inl, inr}
 use Rattle.std.specs.Prelude.{slice_get}
 use Rattle.std.specs.List.{list_all}

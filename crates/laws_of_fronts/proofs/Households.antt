@@ -100,7 +100,7 @@ module _ (all : Classes) (front : List ℕ) (class : Class) (count : ℕ) (rest 
         | false ↦ λ room. sym (two_taken own same room)
       ]) refl
 
--- ---- the same laws for equal values, as the code has them
+-- ---- what holds of a value holds of an equal one, as the contracts of the code need it
 
 pub few_same : (homes homes' : List ℕ) → homes ≡ homes' → AreFew homes' → AreFew homes
 few_same homes homes' e few = subst AreFew (sym e) few

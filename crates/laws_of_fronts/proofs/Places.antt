@@ -1,4 +1,4 @@
--- The element at a place of a list that is made place by place.
+-- The element at place `i` of the list that `f` makes of the numbers below `n` is `f i`.
 use Rattle.std.proofs.Common.{◌≡◌, ℕ, ◌<◌, true, ltb, List, map, length, get_or, Option, ap, ◌∙◌, arith}
 use Rattle.std.specs.List.{range_with_len}
 use Rattle.std.proofs.lemmas.Bool.{lt-ltb}

@@ -1,4 +1,5 @@
--- A tally stays right for its front when the search comes to a class or leaves it, and when members of the class are taken or given back.
+-- A tally stays right for its front (`Tracks`) if the search begins a class or ends it, and if members of the class are taken or given
+-- back.
 use Rattle.std.proofs.Common.{◌≡◌, ℕ, ◌+◌, ◌*◌, ◌≤◌, ◌<◌, Bool, true, false, cond, ◌&&◌, List, [], ◌∷◌, ◌++◌, length, sum_by, take, drop, get_or, replicate, refl, sym, ap, ◌∙◌, arith, subst}
 use Rattle.std.specs.Prelude.{slice_index, slice_index_or}
 use Rattle.std.specs.List.{AllByRecursion}
@@ -99,7 +100,7 @@ taken_more all front class count stands p =
 
 -- ---- steps of a tally
 
--- If the search comes to a class, its `most` is subtracted from what the later classes can give. The tally is then right for the front with
+-- If the search begins a class, its `most` is subtracted from what the later classes can give. The tally is then right for the front with
 -- only the classes after this one still to come.
 pub begun : (all : Classes) (front : List ℕ) (class : Class) (rest : List Class) (before after : FrontTally) → HasPlaces all.bounds class → Tracks all front (class ∷ rest) before →
     after.taken ≡ before.taken → after.held ≡ before.held → after.later_taken + class.most ≡ before.later_taken → HasMore class.values class.most after.later before.later →
@@ -235,7 +236,7 @@ can_give_back all front class count rest tally limits places stands tracks c bel
     taken_more all front class count stands (has_value c v) ∙ ap (λ b. taken_of (has_value c v) all.classes front + cond b count 0) own in
     omega (arith, tracks.held c v (omega (arith, places.one_each)) (omega arith))
 
--- ---- the same laws for equal values, as the code has them
+-- ---- what holds of a value holds of an equal one, as the contracts of the code need it
 
 pub stands_there : (all : Classes) (i : ℕ) (classes : List Class) (class : Class) → i < length all.classes → classes ≡ all.classes → class ≡ get_or classes i class → Stands all i class
 stands_there all i classes class below e is = record { below = below; is = is ∙ ap (λ cs. get_or cs i class) e }

@@ -1,4 +1,4 @@
--- Two lists side by side, for tables and weights of which there is one for each row.
+-- Two lists whose elements belong together place by place, as rows and their tables or weights. Weights builds on it.
 use Rattle.std.specs.Prelude.{◌≡◌, ℕ, List, length, slice_get, Some}
 
 -- the two lists have the same length, and P holds of any two elements in the same place

@@ -1,4 +1,5 @@
--- What a search counts at the front that it has entered. Builds on Tallies, and on Fronts of `define_searches`.
+-- What a search counts at the front that it has entered. Builds on Tallies, and on Classes, Compositions and Fronts of `define_searches`.
+-- `panel_search`, `check_search`, `quota_loosen` and `alike` use it.
 use Rattle.std.specs.Prelude.{◌≡◌, ℕ, ◌*◌, ◌≤◌, ◌<◌, true, List, length, slice_index, slice_get, get_or, Some}
 use Rattle.define_searches.specs.Classes.{Class, Classes, volunteer_count}
 use Rattle.define_searches.specs.Compositions.{taken_of, has_value, is_of_household}

@@ -1,5 +1,5 @@
--- The greatest sums of units in a row, and the weights of fronts in it. Builds on Fronts of `define_searches`. `panel_search` and
--- `check_search` keep both as tables.
+-- The greatest sums of units in a row, and the weights of fronts in it. Builds on Beside, on Row of `define_rows`, and on Classes,
+-- Compositions and Fronts of `define_searches`. `panel_search` and `check_search` keep both as tables.
 use Rattle.std.specs.Prelude.{◌≡◌, ℕ, ◌+◌, ◌*◌, ◌^◌, ◌≤◌, ◌<◌, List, length, drop, take, ℤ, pos, ◌+ℤ◌, unsigned_abs, slice_index_or, slice_get, Some}
 use Rattle.std.specs.Int.{int_max}
 use Rattle.laws_of_fronts.specs.Beside.{EachHas}

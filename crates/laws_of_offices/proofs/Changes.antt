@@ -14,7 +14,7 @@ pub record HasSame (old new : Tables) : Type 0 where
   pub rules : is_some old.rules ≡ true → is_some new.rules ≡ true
   pub ids : entry_ids old.register ≡ entry_ids new.register
 
--- if `new` has the same as `old`, `KeepsRound` holds over `new` of each round of which it holds over `old`
+-- if `HasSame old new` holds, a round that satisfies `KeepsRound` over `old` satisfies it over `new`
 pub KeepsRound-in : (old new : Tables) → HasSame old new → (round : Round) → KeepsRound old round → KeepsRound new round
 KeepsRound-in old new same Open kept = tt
 KeepsRound-in old new same (Solved bundle) kept =
@@ -59,8 +59,8 @@ with_rounds tables rounds keeps closed each = record {
   rounds = λ place round at. KeepsRound-in tables (record tables { rounds = rounds }) (record { charter = λ h. h; rules = λ h. h; ids = refl }) round (each place round at);
 }
 
--- if the facts hold of tables, a change of a round keeps dropouts, and `KeepsRound` holds of the changed round, then the facts hold of the
--- tables with this round changed
+-- if the facts hold of tables, `change` leaves a dropout in each round that has one, and `KeepsRound` holds of the changed round, then the
+-- facts hold of the tables with this round changed
 module _ (tables : Tables) (keeps : IsTables tables) (change : Round → Round) (drops : (round : Round) → has_drop round ≡ true → has_drop (change round) ≡ true) where
   changed_place : (place : ℕ) → ((old : Round) → round_at tables.rounds place ≡ Some old → KeepsRound tables (change old)) →
       IsTables (record tables { rounds = changed_at change tables.rounds place })

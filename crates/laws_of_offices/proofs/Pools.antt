@@ -13,7 +13,7 @@ use Rattle.define_offices.specs.Facts.{IsTables, entry_ids, is_entry}
 use Rattle.define_offices.specs.Pools.{after_withdrawals, drawn_of, first_pool, next_pool, next_standing, numbers_of, open_pool, pool_after, pool_by, pool_if, pool_of, restood, restood_pool, round_pool, volunteer_of}
 use Rattle.laws_of_offices.proofs.Rounds.{drawn_before}
 
--- ---- other standings change nothing else
+-- ---- if volunteers get other standings, nothing else of the pool changes
 
 pub map-restood : {X : Type 0} (f : Volunteer → X) → ((v : Volunteer) (standing : Standing) → f (record v { standing = standing }) ≡ f v) →
     (other : ℕ → Standing → Standing) (i : ℕ) (volunteers : List Volunteer) → map f (restood other i volunteers) ≡ map f volunteers

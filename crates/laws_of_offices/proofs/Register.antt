@@ -1,4 +1,4 @@
--- Rows added by an import keep the facts of a register, and none is added once enrolling is over.
+-- The facts of `IsTables` about the register still hold after an import adds rows. Once enrolling is over, an import adds no row.
 use Rattle.std.proofs.Common.{◌≡◌, ℕ, ◌<◌, Bool, true, false, cond, leb, not, ◌&&◌, ◌||◌, List, [], ◌∷◌, ◌++◌, length, Option, Some, None, Result, Ok, Err, refl, sym, ap, ◌∙◌, arith, subst}
 use Rattle.std.specs.List.{list_all}
 use Rattle.std.specs.Str.{bytes_eq}

@@ -26,7 +26,7 @@ use Rattle.laws_of_offices.proofs.Later.{Grows, StaysSolved, IsSealed, IsDrawn, 
 same_bytes : (xs : List ℕ) → bytes_eq xs xs ≡ true
 same_bytes xs = (bytes_eq-Decides xs xs).1 refl
 
--- ---- the round of a number, later
+-- ---- the round with a number, in later tables
 
 -- the round with `number` has grown from `round`
 record GoesOn (rounds : List Round) (number : ℕ) (round : Round) : Type 0 where
@@ -52,7 +52,7 @@ goes_on : (change : Round → Round) (rounds new : List Round) (number : ℕ) (r
 goes_on change rounds new number round at grow = named_goes_on (changed_named change rounds number) new grow number (change round) (named_there change rounds number round at)
 
 module _ (before later : Tables) where
-  -- ---- a seal again
+  -- ---- a seal that is given again
 
   sealed_tells : {bundle : Bundle} {next : Round} → Grows (Sealed bundle) next → (number : ℕ) → seal_in later number (Some next) ≡ tells (seal_line bundle)
   sealed_tells (StaysSealed bundle) number = refl
@@ -70,7 +70,7 @@ module _ (before later : Tables) where
   seal_again number change reply (Some (Sealed bundle)) at h grow = absurd (cc)
   seal_again number change reply (Some (Drawn bundle digits dropped)) at h grow = absurd (cc)
 
-  -- ---- a solve or a proof again
+  -- ---- a solve or a proof that is given again
 
   solved_tells : {bundle : Bundle} {next : Round} → Grows (Solved bundle) next → (number : ℕ) → solve_in later number (Some next) ≡ IsDecided (tells (solved_line number bundle))
   solved_tells (StaysSolved bundle) number = refl
@@ -105,7 +105,7 @@ module _ (before later : Tables) where
   settled_again number change reply (Leaves stays) grow = absurd stays
   settled_again number change reply (Answers pool found open_round right same) grow = answered_again number pool found change reply open_round.open_now same grow
 
-  -- ---- a draw again
+  -- ---- a draw that is given again
 
   record IsDrawnSo (bundle : Bundle) (given digits : List ℕ) (drawn : draws.Drawn) : Type 0 where
     sealed : is_seal (bundle_seal bundle) given ≡ true
@@ -151,7 +151,7 @@ module _ (before later : Tables) where
   draw_again number given digits change reply (Some (Drawn bundle kept dropped)) at h grow =
       absurd (same_draw_changes_nothing bundle kept given digits change reply (not (is_seal (bundle_seal bundle) given)) (bytes_eq kept digits) _ _ _ h)
 
-  -- ---- a drop again
+  -- ---- a drop that is given again
 
   includes_more : (dropped more : List (List ℕ)) (id : List ℕ) → includes_list ((dropped ++ id ∷ []) ++ more) id ≡ true
   includes_more dropped more id =
@@ -189,7 +189,7 @@ module _ (before later : Tables) where
       let on = goes_on (dropped_out id) before.rounds later.rounds number (Drawn bundle digits dropped) at (subst (λ c. RoundsGrow (apply before c).rounds later.rounds) (sym so.same) grow) in
       rw on.there (dropped_tells on.grows dropped number id refl so.member ∙ ap (λ r. Replies None r) so.told)
 
-  -- ---- a next round again
+  -- ---- `NextRound` given again
 
   end_there : (rounds : List Round) (last : Round) → round_at (rounds ++ last ∷ []) (length rounds) ≡ Some last
   end_there [] last = refl

@@ -20,7 +20,7 @@ round_at-changed change (first ∷ rounds) (suc p) zero round h = inl h
 round_at-changed change (first ∷ rounds) (suc p) (suc q) round h =
     elim (round_at-changed change rounds p q round h) [ inl same ↦ inl same | inr changed ↦ inr (record { old = changed.old; there = changed.there; is = changed.is }) ]
 
--- if a change keeps dropouts, the rounds before the last stay closed
+-- if `change` leaves a dropout in each round that has one, `closed_but_last` still holds after one round is changed
 pub closed-changed : (change : Round → Round) → ((round : Round) → has_drop round ≡ true → has_drop (change round) ≡ true) → (rounds : List Round) (p : ℕ) →
     closed_but_last rounds ≡ true → closed_but_last (changed_at change rounds p) ≡ true
 closed-changed change keeps [] p h = h

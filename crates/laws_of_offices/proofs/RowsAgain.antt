@@ -154,7 +154,7 @@ kept_fits categories register given fit kept =
     let values = same_names_are given.values kept.entry.values (and_parts (bytes_eq (seal_of given.key) kept.entry.hash) (same_names given.values kept.entry.values) parts.0).1 in
     subst (λ v. fits_rules categories v ≡ true) (sym values) each
 
--- ---- the import again
+-- ---- an import that is given again
 
 -- if rows were added, there are rules
 rules_with_rows : (rules : Option (List Category)) (register : List Entry) (old added : List Entry) (change : Change) → addition added ≡ Some change → RowsStay (old ++ added) register → rows_fit rules register ≡ true →
@@ -200,7 +200,7 @@ module _ (before later : Tables) (keeps : IsTables later) where
   register_again rows change reply None h stay = absurd (cc)
   register_again rows change reply (Some categories) h stay = checked_again rows change reply (list_all (λ (g : Given). fits_rules categories g.values) rows) _ h stay
 
--- ---- a withdrawal again
+-- ---- a withdrawal that is given again
 
 pub place_from : (register : List Entry) (hash : List ℕ) (i : ℕ) (found : ℕ × Entry) → place_of_hash register hash i ≡ Some found → i ≤ found.0
 place_from [] hash i found h = absurd (cc)

@@ -1,4 +1,4 @@
--- The facts hold of the tables that each step and each list of commands leaves. A command has one outcome.
+-- The facts of `IsTables` hold of the tables that each step and each list of commands leaves. A command has one outcome.
 use Rattle.std.proofs.Common.{◌≡◌, ℕ, zero, suc, Bool, true, false, cond, List, [], ◌∷◌, ◌++◌, Option, Some, None, is_some, Result, Ok, Err, refl, sym, ap, ◌∙◌, subst}
 use Rattle.std.specs.List.{AllByRecursion}
 use Rattle.std.proofs.lemmas.Bool.{false≢true}
@@ -36,7 +36,7 @@ use Rattle.laws_of_offices.proofs.Changes.{changed_keeps}
 use Rattle.laws_of_offices.proofs.Outcomes.{charter_keeps, draw_keeps, drop_keeps, next_keeps, register_keeps, rules_keep, seal_keeps, show_keeps, withdraw_keeps}
 use Rattle.laws_of_offices.proofs.Pools.{pool_of_has}
 
--- ---- answers that are right
+-- ---- answers that are certified and in the ranges of a bundle
 
 -- the answer is certified, and in the ranges of a bundle
 pub record IsProved (pool : Pool) (answer : Answer) : Type 0 where
@@ -70,7 +70,7 @@ pub record IsOpenRound (tables : Tables) (number : ℕ) (pool : Pool) : Type 0 w
   pub open_now : named_round tables.rounds number ≡ Some Open
   pub pool_is : pool_of tables number ≡ Ok pool
 
--- the outcome of a solve or a proof: the tables stay, or an open round gets an answer that is right
+-- the outcome of a solve or a proof: the tables stay, or an open round gets an answer of which `IsRight` holds
 pub data Settles (tables : Tables) (number : ℕ) (outcome : Outcome) : Type 0 where
   Leaves : Stays outcome → Settles tables number outcome
   Answers : (pool : Pool) (found : Answered) → IsOpenRound tables number pool → IsRight pool found → outcome ≡ answered number pool found → Settles tables number outcome

@@ -1,6 +1,7 @@
 //! Laws over the office of `define_offices`: what every step keeps, what is true of all tables that a list of commands leaves, and what a
-//! command does when it is given again. Stands on `define_offices` and `laws_of_runs`. Used by `office_core`, `office_desk`, `office_pools`
-//! and `office_steps`. The functions have no body: their contracts are the laws, and each is a promise.
+//! command does when it is given again. Stands on `define_offices` and `laws_of_runs`. Used by `office_core`, `office_desk`,
+//! `office_pools`, `office_steps`, `command_stores` and `command_headline`. The functions have no body: their contracts are the laws, and
+//! each is a promise.
 #![tactic(auto)]
 
 ghost use Rattle.define_offices.specs.Laws.{ChangesChange, CommandsHaveOutcomes, FoldsAreGreatest, FoldsAreTables, FoldsGrow, PoolsArePools, StepsAreFunctions, StepsKeepCertified, StepsKeepTables};
@@ -47,8 +48,8 @@ pub fn repeats_change_nothing()
     ensures others { RepeatsChangeNothing }
 {}
 
-/// If a list of commands leaves some tables, the list with one more command at its end leaves the tables to which this command leads from
-/// there.
+/// If a list of commands leaves some tables, and one more command leads from these tables to others, the list with this command at its end
+/// leaves those others.
 pub fn folds_grow()
     ensures { FoldsGrow }
 {}

@@ -24,7 +24,8 @@ before true b h = absurd (false≢true (sym h))
 before false b h = h
 
 module _ (pool : Pool) (lottery : Lottery) (scale : ℕ) (some : 0 < scale) where
-  -- each unsettled volunteer's count, times the scale, is the total times the levels so far, Z, plus the levels of later stages
+  -- each unsettled volunteer's count, times the scale, is the total times a sum: Z, which is the sum of the levels so far, plus the levels
+  -- of later stages
   Rest : List Stage → List Closed → ℕ → Type 0
   Rest earlier later Z = (i : ℕ) → i < length pool.volunteers → is_settled earlier i ≡ false → count lottery i * scale ≡ lottery.total * (Z + levels_to_come earlier later i)
 
@@ -68,7 +69,7 @@ module _ (pool : Pool) (lottery : Lottery) (scale : ℕ) (some : 0 < scale) wher
   stages_hold earlier (closed ∷ later) Z hold rest =
       (stage_holds earlier closed later Z hold.0 rest, stages_hold (closed.stage ∷ earlier) later (Z + closed.level) hold.1 (next earlier closed later Z rest))
 
-  -- closed stages hold if they satisfy their conditions and the counts are sums of levels
+  -- closed stages hold of a lottery if `StagesStand` and `CountsAreLevels` hold of them
   pub holds_from_levels : (closed : List Closed) → StagesStand pool lottery [] closed → CountsAreLevels pool lottery scale closed → StagesHold pool lottery [] (map (λ closed. closed.stage) closed)
   unfolding Rest
   holds_from_levels closed hold levels = stages_hold [] closed 0 hold (λ i l u. let e = levels i l in omega (arith, e))

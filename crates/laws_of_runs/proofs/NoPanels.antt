@@ -1,4 +1,4 @@
--- A run ends with no panel exactly if the pool has no quota panel and the opening search is within its budget.
+-- A run ends with `NoPanel` exactly if the pool has no quota panel and the opening search is within its budget.
 use Rattle.std.proofs.Common.{◌≡◌, ℕ, ◌≤◌, Bool, true, cond, List, [], ◌∷◌, None, Result, Ok, Err, refl, sym, ap, ◌∙◌, inl, inr, ◌⊎◌}
 use Rattle.std.proofs.lemmas.Bool.{false≢true, le-ltb}
 use Rattle.std.specs.Prelude.{slice_get}
@@ -19,7 +19,7 @@ nothing_first : (xs : List (List ℕ)) → slice_get xs 0 ≡ None → xs ≡ []
 nothing_first [] e = refl
 nothing_first (x ∷ xs) e = absurd cc
 
--- spreading ends with a lottery or with a total that passes its limit, never with no panel
+-- spreading ends with a lottery or with a total that passes its limit; a run that ends by spreading never ends with `NoPanel`
 some_answer : (all : Classes) (table : Table) → NoPanel ≡ answered all table (spread all (parts_of table)) → ⊥
 some_answer all table e = by (spread all (parts_of table)) e
   where
@@ -27,7 +27,7 @@ some_answer all table e = by (spread all (parts_of table)) e
     by (Ok lottery) f = cc
     by (Err pass) f = cc
 
--- a run that ends with no panel ends at its opening
+-- a run that ends with `NoPanel` ends at its opening
 at_opening : (all : Classes) (limits : RunLimits) → Ends all limits NoPanel → FindsNone all limits NoPanel
 at_opening all limits ends = by (ends_at all limits ends.steps NoPanel ends.there)
   where

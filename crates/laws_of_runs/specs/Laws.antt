@@ -1,4 +1,5 @@
--- What each ending of a run shows about the pool, for any test of who is alike that makes classes. Builds on Run of `define_runs`.
+-- What each ending of a run shows about the pool, for any test of who is alike that makes classes. Builds on Run and Keeps of
+-- `define_runs`, the definitions below them, and Ranges of `define_bundles`. The contracts of this crate's laws use it.
 use Rattle.std.specs.Prelude.{◌≡◌, ℕ, ◌≤◌, Bool, []}
 use Rattle.define_bundles.specs.Ranges.{IsInRanges}
 use Rattle.define_pools.specs.Certificate.{Answer, Certifies}
@@ -11,16 +12,16 @@ use Rattle.define_searches.specs.Classes.{MakesClasses, classes_by}
 use Rattle.define_searches.specs.Visits.{first_search}
 use Rattle.define_spreads.specs.Spreading.{greatest_total}
 
--- if a run ends with no panel, the pool has no quota panel
+-- if a run ends with `NoPanel`, the pool has no quota panel
 abbrev pub NoPanelWhereNone : Type 0
 NoPanelWhereNone = (pool : Pool) (alike : ℕ → ℕ → Bool) → MakesClasses pool alike → (limits : RunLimits) → Ends (classes_by alike pool) limits NoPanel → panels pool ≡ []
 
--- if a run ends with no panel, the opening search made at most as many visits as its budget
+-- if a run ends with `NoPanel`, the opening search made at most as many visits as its budget
 abbrev pub NoPanelIsWithin : Type 0
 NoPanelIsWithin = (pool : Pool) (alike : ℕ → ℕ → Bool) → MakesClasses pool alike → (limits : RunLimits) → Ends (classes_by alike pool) limits NoPanel →
     (first_search (classes_by alike pool)).visits ≤ limits.opening
 
--- if a pool has no quota panel, and the opening search stays within its budget, the run ends with no panel
+-- if a pool has no quota panel, and the opening search stays within its budget, the run ends with `NoPanel`
 abbrev pub NoneEndsSo : Type 0
 NoneEndsSo = (pool : Pool) (alike : ℕ → ℕ → Bool) → MakesClasses pool alike → (limits : RunLimits) → panels pool ≡ [] →
     (first_search (classes_by alike pool)).visits ≤ limits.opening → Ends (classes_by alike pool) limits NoPanel

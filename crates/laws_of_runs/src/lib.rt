@@ -1,6 +1,6 @@
 //! Laws of the run: what its endings show about the pool. Stands on `define_runs` and the definitions below it, on the ranges of a bundle
 //! (`define_bundles`), and on `laws_basic`. Used by `leximin_run`, whose promises rest on these laws, by the commands `lottery` and `make`,
-//! and by the laws of the office.
+//! by the laws of the office, and by the proofs of `command_headline`.
 //!
 //! The functions have no body. Their contracts are the laws, and the promises of this crate.
 #![tactic(auto)]
@@ -13,7 +13,7 @@ ghost use Rattle.laws_of_runs.specs.Laws.{FoundIsCertified, FoundIsGreatest, Fou
 
 use define_runs::worked_runs;
 
-/// A run ends with no panel exactly if the pool has no quota panel and the opening search is within its budget.
+/// A run ends with `NoPanel` exactly if the pool has no quota panel and the opening search is within its budget.
 pub fn no_panel_where_none()
     ensures none { NoPanelWhereNone }
     ensures within { NoPanelIsWithin }
@@ -26,8 +26,8 @@ pub fn found_is_lottery()
     ensures within { FoundIsWithin }
 {}
 
-/// Stages hold of a lottery if each satisfies the conditions that aren't on counts, and each volunteer's chance is the sum of the levels
-/// of the stages at which the volunteer was unsettled.
+/// Stages hold of a lottery if each satisfies the conditions that aren't on counts (`StageStands`), and each volunteer's chance is the sum
+/// of the levels of the stages at which the volunteer was unsettled (`CountsAreLevels`).
 pub fn levels_make_stages()
     ensures { LevelsMakeStages }
 {}

@@ -5,8 +5,8 @@ ghost use Rattle.define_pools.specs.Certificate.{Certifies};
 ghost use Rattle.define_pools.specs.WorkedExamples.{four, four_lottery, four_stages, row, stage};
 ghost use Rattle.laws_worked.specs.Pools.{drawn, one_woman, one_woman_lottery};
 
-/// Certificates that don't hold because of a stage's weights: too few, though the missing ones would be 0; too many; one below 0 for a
-/// volunteer who is unsettled; none above 0.
+/// Certificates that don't hold because of a stage's weights: there are too few, though the missing ones would be 0; there are too many; a
+/// volunteer who is unsettled has one below 0; or none is above 0.
 pub fn weights_that_refuse()
     ensures too_few { ¬ Certifies four four_lottery (stage (pos 1) (pos 1 ∷ pos 1 ∷ pos 0 ∷ []) ∷ stage (pos 0) (negsuc 0 ∷ negsuc 0 ∷ pos 1 ∷ pos 1 ∷ []) ∷ []) }
     ensures too_many { ¬ Certifies four four_lottery (stage (pos 1) (pos 1 ∷ pos 1 ∷ pos 0 ∷ pos 0 ∷ pos 5 ∷ []) ∷ stage (pos 0) (negsuc 0 ∷ negsuc 0 ∷ pos 1 ∷ pos 1 ∷ []) ∷ []) }

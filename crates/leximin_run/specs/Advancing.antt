@@ -1,4 +1,5 @@
--- One step of a run, as the code makes it. Builds on Run and Keeps of `define_runs`. Used by the modules `running` and `solving`.
+-- One step of a run, as the code makes it. Builds on Run and Keeps of `define_runs`, and on InOrder, Row and Table of `define_rows`. Used
+-- by the modules `running` and `solving`.
 use Rattle.std.specs.Prelude.{◌≡◌, ◌≤◌, Bool, true, false, List, length, Some, Result, Ok, Err}
 use Rattle.define_rows.specs.InOrder.{settled_count}
 use Rattle.define_rows.specs.Row.{Row}

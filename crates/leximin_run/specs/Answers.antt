@@ -1,4 +1,4 @@
--- The answers of a run. Builds on Run of `define_runs`. The promises of `solve` use them.
+-- The answers of a run. Builds on Run of `define_runs`. The promises of `solve` use them, and so do `command_pools` and `office_core`.
 use Rattle.std.specs.Prelude.{◌≡◌, [], ℕ, ℤ, pos, length, Option, Some, None, Result, Ok, Err}
 use Rattle.define_bundles.specs.Ranges.{IsInRanges}
 use Rattle.define_pools.specs.Certificate.{Certifies}

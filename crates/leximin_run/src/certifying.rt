@@ -11,7 +11,7 @@ use panel_search::Row;
 use pool_model::{Certificate, Stage};
 use std::alloc::{AllocError, Global};
 
-/// Returns the stages of the closed rows, in order.
+/// Returns the stages of the closed rows, in the order of the rows.
 pub(crate) fn certificate(
     alloc: Global,
     classes: &Classes,

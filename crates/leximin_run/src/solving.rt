@@ -39,7 +39,7 @@ pub fn solve<R: Threads + Sync, W: Watch + Sync>(
     requires few_workers { workers ≤ 64 }
     ensures run { TellsEnding (classes_of pool.now) (run_limits limits) result }
     ensures certified { IsCertified pool.now result }
-    // So the lottery can be put into a bundle.
+    // A lottery that is found is in the ranges of a bundle, so it can be put into one.
     ensures ranges { KeepsRanges pool.now result }
 {
     match solve_sized(rt, alloc, pool, limits, workers, watch) {

@@ -1,4 +1,5 @@
--- The sizes of a search's table.
+-- A search's table has a column for each span of columns, and a row for each span of rows. The contracts of src/programs.rt,
+-- src/searches.rt and src/answers.rt cite it.
 use Rattle.std.specs.Prelude.{◌≡◌, List, length}
 use Rattle.proof_limits.specs.Spans.{Ends}
 use Rattle.proof_table.specs.Sizes.{TableSizes}

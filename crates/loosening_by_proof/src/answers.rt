@@ -55,8 +55,8 @@ fn answered(alloc: Global, pool: &Pool, budget: &mut Budget) -> Result<Option<Lo
     }
 }
 
-/// Returns a number that each team costs at least, shown by leaves alone. Leaves are made as long as no point of the relaxation misses the
-/// bounds by at most the number shown so far. Stops as lost if a leaf shows no greater number. None means that there is no team.
+/// Returns a number that each team costs at least, shown by leaves alone. Makes leaves until some point of the relaxation misses the bounds
+/// by at most the number shown so far. Stops as lost if a leaf shows no greater number. None means that there is no team.
 fn cost_shown(
     alloc: Global,
     pool: &Pool,

@@ -80,7 +80,7 @@ fn joined(
     Ok(all)
 }
 
-/// True if more is asked for than can be given, and both sums fit.
+/// True if the weighted quotas ask for more than the volunteers can give, and both sums fit.
 fn is_more_asked(pool: &Pool, weighted: &[WeightedQuota], standings: &[Standing]) -> bool
     requires { length standings.now ≡ length pool.now.volunteers }
     ensures { OnTrue result (given_of pool.now weighted.now standings.now < asked_of pool.now weighted.now standings.now) }
@@ -94,8 +94,8 @@ fn is_more_asked(pool: &Pool, weighted: &[WeightedQuota], standings: &[Standing]
     }
 }
 
-/// Returns a number of times with `given + greatest * times < asked`, or None if no more is asked for than can be given, or a sum doesn't
-/// fit.
+/// Returns a number `times` with `given + greatest * times < asked`. Here `asked` is what the weighted quotas ask for, and `given` is the
+/// most that can be given. Returns None if `asked` is at most `given`, or if one of these sums doesn't fit `usize`.
 fn times_beyond(
     pool: &Pool,
     weighted: &[WeightedQuota],

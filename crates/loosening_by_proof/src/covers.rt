@@ -35,8 +35,8 @@ pub(crate) fn covers(
     Ok(end.is_some())
 }
 
-/// Returns the place after the tree that begins at a place, if the tree shows that each team that keeps the standings costs at least
-/// `least`.
+/// Returns the place after the tree that begins at place `at`, if this tree shows that each team that keeps the standings costs at least
+/// `least`, else None.
 fn end_of_tree(
     alloc: Global,
     pool: &Pool,
@@ -87,8 +87,8 @@ fn leaf_costs(
     Ok(is_reached(shown, least))
 }
 
-/// True if a leaf shows that each team costs at least `least`, given what it shows: that each costs at least `shown`, or, if that is None,
-/// that there is no team.
+/// True if what a leaf shows implies that each team costs at least `least`. The leaf shows that each team costs at least `shown`, or, if
+/// that is None, that there is no team.
 fn is_reached(shown: Option<usize>, least: usize) -> bool
     ensures { OnTrue result ((cost : ℕ) → IsAtLeast shown cost → least ≤ cost) }
 {

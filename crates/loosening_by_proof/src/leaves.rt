@@ -1,5 +1,5 @@
-//! Makes a leaf of the multipliers with which a table refutes that a team misses the bounds by at most a number. This module promises
-//! nothing: `bounds` computes what a leaf shows.
+//! Makes a leaf of the multipliers with which a table refutes that some team misses the bounds by at most a given number of people in all.
+//! This module promises nothing: `bounds` computes what a leaf shows.
 
 use crate::bounds::Leaf;
 use define_conflicts::{Counted, Quota, Side, WeightedQuota};

@@ -1,7 +1,7 @@
 //! A least loosening of a pool's quotas, by integer programs. Stands on the engine of `prove` (`proof_branching`, `proof_program`,
 //! `proof_stages`, `proof_table`, `proof_limits`), which searches; on `quota_conflicts`, for what quotas ask for and what can be given; on
-//! `quota_loosen`, for the loosening of a team; and on the definitions and laws of `define_cost_bounds`. Used by the command
-//! `loosen-by-proof`.
+//! `quota_loosen`, for the loosening of a team; on `pool_model`; and on the definitions and laws of `define_cost_bounds`. Used by
+//! `command_loosen`, for the command `loosen-by-proof`.
 //!
 //! Promises: this crate itself checks what `loosen_by_proof` returns, by adding and comparing whole numbers (`bounds`, `covers`, `teams`).
 //! So a loosening that it returns is least, and if it returns that there is no team, there is none, whatever the search did. If there are

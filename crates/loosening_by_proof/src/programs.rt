@@ -1,6 +1,6 @@
 //! The table of a pool's program in which the number of a value's members may miss its bounds. Each value has two columns more: by how many
 //! members it is below its lower bound, and by how many it is above its upper bound. A last row has the sum of all these. Promises: the
-//! sizes.
+//! sizes of the table.
 
 ghost use Rattle.std.specs.Prelude.{◌≡◌, length, IfOk, OnOk};
 ghost use Rattle.loosening_by_proof.specs.Searches.{AreSizes};

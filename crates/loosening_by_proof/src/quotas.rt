@@ -1,4 +1,4 @@
-//! The quotas of all values of a pool with weights, in the order of the definition.
+//! The quotas of all values of a pool with weights, in the order of `value_quotas` of `define_cost_bounds`.
 
 ghost use Rattle.std.specs.Prelude.{◌≡◌, ◌++◌, [], ◌∷◌, IfOk, OnOk};
 ghost use Rattle.define_conflicts.specs.LeastMisses.{quotas_of};

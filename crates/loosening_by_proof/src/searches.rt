@@ -1,5 +1,6 @@
 //! Searches for a team that misses the bounds of values by few people in all, or for leaves and trees that show that there is none. Stands
-//! on the engine of `prove`. Promises: the budget that is spent, and the stops.
+//! on the engine of `prove`. Promises: nothing of the budget is given back, and a search for a team that doesn't stop spends at least one
+//! node.
 
 ghost use Rattle.std.specs.Prelude.{◌≡◌, ◌<◌, length, IfOk, IfSome, OnOk, pos, ◌≤ℤ◌};
 ghost use Rattle.proof_limits.specs.Budgets.{SpendsOn};

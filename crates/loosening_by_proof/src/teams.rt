@@ -39,7 +39,7 @@ fn number_of_household(volunteers: &[Volunteer], members: &[usize], i: usize) ->
         .count()
 }
 
-/// Returns what a team costs, or None if that doesn't fit.
+/// Returns what a team costs, or None if that doesn't fit `usize`.
 pub(crate) fn team_cost(pool: &Pool, team: &Panel) -> Option<usize>
     requires { IsTrue (is_team_of pool.now team.now) }
     ensures { IfSome result (λ cost. cost ≡ team_cost_of pool.now team.now) }
@@ -47,7 +47,7 @@ pub(crate) fn team_cost(pool: &Pool, team: &Panel) -> Option<usize>
     cost(pool.categories(), pool.volunteers(), team.members())
 }
 
-/// Returns the sum over the values of all categories of how far the members miss their bounds, or None if that doesn't fit.
+/// Returns the sum over the values of all categories of how far the members miss their bounds, or None if that doesn't fit `usize`.
 fn cost(categories: &[Category], volunteers: &[Volunteer], members: &[usize]) -> Option<usize>
     requires { IsTrue (list_all (λ i. nat_lt i (length volunteers.now)) members.now) }
     ensures { IfSome result (λ cost. cost ≡ sum_by (λ (c, category).
@@ -62,7 +62,7 @@ fn cost(categories: &[Category], volunteers: &[Volunteer], members: &[usize]) ->
     Some(sum)
 }
 
-/// Returns the sum over the values of a category of how far the members miss their bounds, or None if that doesn't fit.
+/// Returns the sum over the values of a category of how far the members miss their bounds, or None if that doesn't fit `usize`.
 fn category_cost(
     values: &[BoundedValue],
     volunteers: &[Volunteer],
@@ -82,7 +82,7 @@ fn category_cost(
     Some(sum)
 }
 
-/// Returns how far a number is below the least or above the greatest number of a value, or None if that doesn't fit.
+/// Returns how far a number is below the least or above the greatest number of a value, or None if that doesn't fit `usize`.
 fn missed_by(value: &BoundedValue, number: usize) -> Option<usize>
     ensures { IfSome result (λ missed. missed ≡ missed_by_number value.now.lower value.now.upper number) }
 {

@@ -56,7 +56,7 @@ module _ (told : Option Tables) (loaded : Tables) (command : Command) (after : O
   acts_on (Err act.KeeperFault) is same = same
   acts_on (Err act.OutOfMemory) is same = same
 
--- ---- the facts of tables after a change
+-- ---- `IsTables` holds after a change
 
 pub change_keeps : (told : Option Tables) (loaded : Tables) (command : Command) (change : Option office.Change) (reply : office.Reply) → IsTables loaded → IsCommand command → IfSome told (λ kept. loaded ≡ kept) →
     Comes loaded command (Replies change reply) → IfSome told (λ kept. IsTables (applied kept change))

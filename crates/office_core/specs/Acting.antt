@@ -1,4 +1,5 @@
--- What a call of `act` returns, and what it does to the tables that the keeper tells. The promises of `act` and `act_over` use it.
+-- What a call of `act` returns, and what it does to the tables that the keeper tells. The promises of `act` and `act_over` use it, and so
+-- do those of the commands over a store, of `office_desk` and of `office_http`.
 use Rattle.std.specs.Prelude.{◌≡◌, ◌≤◌, ℕ, List, [], ◌∷◌, ◌++◌, IfSome, Option, Some, None, Result, Ok, Err, option_map, ⊤}
 use Rattle.define_checks.specs.Reasons as reasons
 use Rattle.define_runs.specs.Run.{Ending}
@@ -39,8 +40,8 @@ pub record HasOutcomeOver (tables : Tables) (before : Option Tables) (command : 
   pub comes : Comes tables command outcome
   pub leaves : after ≡ option_map (λ told. tables_after told outcome) before
 
--- a reply or a refusal is that of the command's outcome over these tables. After a fault of the keeper, and if memory runs out, the tables
--- that the keeper tells are as before
+-- a reply, a refusal, a stop of the run or a refused proof is that of the command's outcome over these tables. After a fault of the keeper,
+-- and if memory runs out, the tables that the keeper tells are as before
 abbrev pub ActsOver : Tables → Option Tables → office.Command → Result Reply ActStop → Option Tables → Type 0
 ActsOver tables before command (Ok reply) after =
     (change : Option office.Change) × HasOutcomeOver tables before command (Replies change (seen_reply reply)) after

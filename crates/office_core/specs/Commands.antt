@@ -1,4 +1,5 @@
--- Commands of the program as commands of the definitions.
+-- The command of `define_offices` for each command of the program, and how many workers a solve may ask for. The contracts of this crate
+-- and of the commands over a store cite it.
 use Rattle.std.specs.Prelude.{◌≤◌, ⊤}
 use Rattle.define_offices.specs.Commands as office
 use Rattle.office_core.specs.declared.commands.Command.{Command}

@@ -1,4 +1,5 @@
--- Which outcome of the definitions a result of `decide` is. The promise of `decide` uses it.
+-- Which outcome of the definitions a result of `decide` is. The promises of `decide`, `act` and `act_over` use it, and so do the commands
+-- over a store.
 use Rattle.std.specs.Prelude.{◌≡◌, Option, Some, Result, Ok, Err, option_map, ⊤}
 use Rattle.define_checks.specs.Reasons as reasons
 use Rattle.define_pools.specs.Pool.{Pool}

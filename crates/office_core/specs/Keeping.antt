@@ -1,4 +1,5 @@
--- How a call of a keeper counts faults, and what it does to the place and the tables that the keeper tells. The trait `Keeper` uses it.
+-- How a call of a keeper counts faults, and what it does to the place and the tables that the keeper tells. The contracts of the trait
+-- `Keeper`, of the keepers of `office_keeper` and of the calls over a keeper use it.
 use Rattle.std.specs.Prelude.{◌≡◌, ◌≤◌, ℕ, List, Option, Result, Ok, Err, option_map}
 use Rattle.outside.specs.Faults.{Rose}
 use Rattle.define_offices.specs.Commands.{Change}

@@ -1,4 +1,4 @@
--- Replies by the method of a page.
+-- What a page replies to a request with its own method, and to one with another method, which it doesn't allow.
 use Rattle.std.proofs.Common.{◌≡◌, ℕ, Bool, true, false, cond, List, Some, ap}
 use Rattle.std.specs.Prelude.{codes}
 use Rattle.std.specs.Str.{bytes_eq}

@@ -1,4 +1,4 @@
--- How a request ends: withdrawals, and requests that leave the tables.
+-- How a request ends: withdrawals, and requests that don't change the tables.
 use Rattle.std.proofs.Common.{◌≡◌, ℕ, List, [], ◌∷◌, Option, Some, None, Result, Ok, Err, inl, inr, option_map, refl, sym, ap, ◌∙◌, subst}
 use Rattle.std.specs.Prelude.{IfSome, codes, map}
 use Rattle.define_draws.specs.Seal.{seal_of}
@@ -69,7 +69,7 @@ module _ (before : Option Tables) (tables : Tables) (key : List ℕ) (after : Op
       EndsAs before (withdrawal tables (key ∷ [])) after (sent_of (refusal_reply (stop_refusal stop)))
   stopped_ends stop sent tells acts = stopped_with (with_hash tables.register (seal_of key)) stop sent refl tells acts
 
--- ---- replies that leave the tables
+-- ---- replies that don't change the tables
 
 kept_so : (before : Option Tables) (tables : Tables) → IfSome before (λ kept. tables ≡ kept) → before ≡ option_map (λ t. tables) before
 kept_so None tables e = refl

@@ -1,4 +1,4 @@
--- Digits that name a ticket are text.
+-- Digits that name a ticket are UTF-8.
 use Rattle.std.proofs.Common.{◌≡◌, ℕ, ◌<◌, Bool, true, false, not, List, length, get_or, ltb, Option, Some, None, refl, arith}
 use Rattle.std.specs.Prelude.{is_ok, position}
 use Rattle.std.specs.Char.{is_ascii_digit}

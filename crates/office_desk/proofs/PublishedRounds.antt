@@ -1,4 +1,4 @@
--- What is published of the round with a number, and that published bundles and digits are sound.
+-- What is published of the round with a number, and that `IsSound` holds of it.
 use Rattle.std.proofs.Common.{◌≡◌, ℕ, zero, suc, List, [], ◌∷◌, map, length, Option, Some, None, refl}
 use Rattle.define_offices.specs.declared.Phase.{Phase}
 use Rattle.define_offices.specs.declared.Phase.TheVariants as phase
@@ -36,7 +36,7 @@ phase_of_last [] = refl
 phase_of_last (round ∷ []) = refl
 phase_of_last (round ∷ next ∷ later) = phase_of_last (next ∷ later)
 
--- ---- published bundles and digits are sound
+-- ---- `IsSound` holds of what is published
 
 round_sound : (tables : Tables) (round : Round) → KeepsRound tables round → IsSound (published round)
 round_sound tables Open h = tt

@@ -1,4 +1,5 @@
--- What the desk sends for a request, and what it does to the tables that the keeper tells. The promise of `answer` uses it.
+-- What the desk sends for a request, and what it does to the tables that the keeper tells. Used by the promise of `answer`, the module
+-- `withdrawing`, and Visits of `office_http`.
 use Rattle.std.specs.Prelude.{◌≡◌, ◌≤◌, ◌==◌, ℕ, Option, option_map}
 use Rattle.std.specs.Bool.{MatchBool}
 use Rattle.define_offices.specs.Tables.{Tables}
@@ -21,7 +22,8 @@ pub data IsReplyTo (before : Option Tables) (request : Request) (after : Option 
   Unavailable : sent ≡ sent_of unavailable → after ≡ before → IsReplyTo before request after sent
   NoMemory : sent ≡ sent_of out_of_memory → after ≡ before → IsReplyTo before request after sent
 
--- what is sent, by what the bytes ask for. If the bytes are too large or no request, the tables stay as they are
+-- `sent` is a right reply to what the bytes ask for, and `after` are the tables after it. If the bytes are too large or no request, the
+-- tables stay as they are
 abbrev pub IsDeskAnswer : Option Tables → Asking → Option Tables → Sent → Type 0
 IsDeskAnswer before TooLarge after sent = (sent ≡ sent_of too_large) × (after ≡ before)
 IsDeskAnswer before NoRequest after sent = (sent ≡ sent_of bad_request) × (after ≡ before)

@@ -1,4 +1,4 @@
--- Numbers of volunteers. Used by the module `public_pages`.
+-- The condition that each of some numbers of volunteers is below a count. Used by the module `public_pages`.
 use Rattle.std.specs.Prelude.{ℕ, nat_lt, IsTrue, List}
 use Rattle.std.specs.List.{list_all}
 

@@ -1,4 +1,4 @@
--- The replies that refuse a request. Used by the modules `refusals` and `answers`.
+-- The replies that refuse a request. Used by the modules `refusals` and `answers`, and by Contents.
 use Rattle.std.specs.Prelude.{codes}
 use Rattle.define_desk.specs.Replies.{Reply, bad_request, not_allowed, not_found, out_of_memory, too_large, too_late, unavailable, unknown_key}
 use Rattle.office_desk.specs.declared.refusals.Refusal.{Refusal}

@@ -1,4 +1,4 @@
--- What the desk sends. The promises of `answer` and `unwell` use it.
+-- What the desk sends. Used by the promises of `answer` and `unwell`, by most modules and specs of this crate, and by `office_http`.
 use Rattle.std.specs.Prelude.{ℕ, List}
 use Rattle.define_desk.specs.Replies.{Reply, reply_text}
 

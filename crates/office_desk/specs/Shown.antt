@@ -1,4 +1,5 @@
--- What is published of a round, as a value of the program. Used by the module `published` and by the pages that show it.
+-- What contracts see of `Published`, which is what is published of a round, and when it is sound: a total agrees, and digits name a ticket.
+-- Used by the module `published` and by the pages that show it.
 use Rattle.std.specs.Prelude.{◌≡◌, ℕ, List, is_ok, true, ⊤}
 use Rattle.define_pools.specs.Lottery.{TotalAgrees}
 use Rattle.define_bundles.specs.BundleText.{Bundle}

@@ -1,4 +1,4 @@
-//! What the desk sends.
+//! What the desk sends, as a value: a status, and the bytes of a reply.
 
 ghost use Rattle.std.specs.Prelude.{◌≡◌};
 ghost use Rattle.office_desk.specs.Sent.{sent_of};

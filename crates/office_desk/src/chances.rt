@@ -15,7 +15,8 @@ use office_tables::{drawn_by, is_member};
 use pool_model::{Lottery, Name, Pool, Volunteer, chances};
 use std::alloc::{AllocError, Global};
 
-/// Returns the chance of the volunteer with this id, in lowest terms; or None if no bundle is published or no volunteer of it has the id.
+/// Returns the chance of the volunteer with this id, in lowest terms; or None if no bundle is published, or no volunteer of the bundle's
+/// pool has the id.
 pub(crate) fn chance_of(
     alloc: Global,
     published: &Published<'_>,
@@ -89,7 +90,7 @@ fn fraction_text(alloc: Global, count: i128, total: i128) -> Result<String, Allo
     format!(in alloc; "{}", lowest(count, total))
 }
 
-/// Returns whether the volunteer with this id was drawn, once the round is drawn.
+/// Returns whether the volunteer with this id was drawn, or None if no draw is published.
 pub(crate) fn is_drawn(
     alloc: Global,
     published: &Published<'_>,

@@ -1,4 +1,4 @@
-//! What a volunteer sees.
+//! The page `/me`: what a volunteer sees with their key.
 
 ghost use Rattle.std.specs.Prelude.{◌≡◌, [], ◌∷◌, codes, length, map, option_map, IfOk};
 ghost use Rattle.define_offices.specs.Deciding.{with_hash};

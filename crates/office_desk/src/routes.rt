@@ -1,4 +1,4 @@
-//! Pages by their paths.
+//! Which page a path names.
 
 ghost use Rattle.std.specs.Prelude.{◌≡◌, codes, IsTrue, option_map};
 ghost use Rattle.std.specs.Char.{is_ascii_digit};

@@ -80,7 +80,7 @@ abbrev pub EndsBy : Visit → Result ℕ LinkFault → Type 0
 EndsBy it (Ok status) = EndsWith it status
 EndsBy it (Err fault) = IsBroken it
 
--- the visit ended as `EndsBy` says, and no more of the link was read than one request may have
+-- the visit ended as `EndsBy` says, and at most as many bytes of the link were read as one request may have
 pub record IsAttended (it : Visit) : Type 0 where
   pub ends : EndsBy it it.ended
   pub read : LosesAtMost most_read it.link.left it.link_after.left

@@ -68,7 +68,7 @@ with_value-push [] category value = refl
 with_value-push (first ∷ []) category value = refl
 with_value-push (first ∷ next ∷ later) category value = ap (λ rest. first ∷ rest) (with_value-push (next ∷ later) category value)
 
--- the pool with a category that has its values up to place `i`
+-- the pool with one more category: `draft`, with its first `i` values alone
 abbrev pub with_values : Pool → Category → ℕ → Pool
 with_values pool draft i = record pool { categories = pool.categories ++ record { name = draft.name; values = take i draft.values } ∷ [] }
 

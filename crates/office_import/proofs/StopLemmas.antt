@@ -1,4 +1,4 @@
--- When a reader's stop or result is right for a file.
+-- When a reader's stop is right for a file (`IsFault`), and when its result is (`Reads`).
 use Rattle.std.proofs.Common.{◌≡◌, ◌∙◌, ℕ, ap, sym, subst, Option, Some, Result, Ok, Err}
 use Rattle.define_imports.specs.Cells.{Fault}
 use Rattle.office_import.specs.declared.stops.ImportStop.{ImportStop}
@@ -7,7 +7,7 @@ use Rattle.pool_model.specs.declared.building.BuildStop.{BuildStop}
 use Rattle.pool_model.specs.declared.building.BuildStop.TheVariants.{Kind, OutOfMemory as NoMemory}
 use Rattle.office_import.specs.Answers.{IsFault, Reads, Tells, stopped}
 
--- a stop for the fault that a file has is right
+-- if a file has a fault, a stop for this fault is right
 pub stop_for : {T : Type 0} (said : Result T Fault) (f : Fault) → said ≡ Err f → (stop : ImportStop) → IsFault (λ g. g ≡ f) stop → IsFault (λ g. said ≡ Err g) stop
 stop_for said f e (fault g) h = e ∙ ap Err (sym h)
 stop_for said f e OutOfMemory h = tt

@@ -1,4 +1,5 @@
--- The code's values in the form of the definitions, and one step of the code on them.
+-- The rule of `define_imports` that a rule of the code is, and the categories after a value is added to one of them. The contracts of
+-- `drafts` and `rules` cite it.
 use Rattle.std.specs.Prelude.{ℕ, zero, suc, List, [], ◌∷◌, ◌++◌}
 use Rattle.define_pools.specs.Pool.{BoundedValue, Category}
 use Rattle.define_imports.specs.Rules as words

@@ -202,7 +202,7 @@ fn are_digits(field: &[u8]) -> bool
     field.iter().all(|byte| b'0' <= *byte && *byte <= b'9')
 }
 
-/// Returns the number that at most 9 digits write.
+/// Returns the number that 1 to 9 digits spell.
 fn number_of(digits: &[u8]) -> usize
     requires { IsTrue (is_short_number digits.now) }
     ensures { result ≡ digits_value 10 digits.now }

@@ -73,14 +73,14 @@ pub(crate) fn fault_at(place: usize, kind: u8) -> ImportStop
     ImportStop::Fault(ImportFault { place, kind })
 }
 
-/// Returns the stop for a header that isn't right.
+/// Returns the stop for a faulty header: record 1, kind 2.
 pub(crate) fn header_fault() -> ImportStop
     ensures { IsFault (λ fault. fault ≡ fault_in_header) result }
 {
     fault_at(1, 2)
 }
 
-/// Returns the stop for the record at `place`.
+/// Returns the reader's stop if `stop` refuses the record at `place`, or says that memory ran out there.
 pub(crate) fn stop_at(place: usize, stop: BuildStop) -> ImportStop
     ensures { result ≡ stopped place stop }
 {

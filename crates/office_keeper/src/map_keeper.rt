@@ -1,4 +1,4 @@
-//! `MapKeeper`, a keeper in memory.
+//! `MapKeeper`, a keeper that keeps the tables in memory.
 
 ghost use Rattle.std.specs.Prelude.{◌≡◌, ◌≤◌, Some, None, IfOk, OnErr, OnOk};
 ghost use Rattle.define_offices.specs.Facts.{IsTables};

@@ -1,4 +1,5 @@
-//! Reads the rows of a store as tables. It trusts nothing in the store: it tests numbers, places and texts, and then the facts of tables.
+//! Reads the rows of a store as tables. It trusts nothing in the store: it tests numbers, places and texts, and then the facts that
+//! `tables_of` lists.
 
 use crate::writing::{DRAWN, OPEN, SEALED, SOLVED};
 use bundle_text::{Bundle, ReadBundle, read_bundle};

@@ -1,4 +1,4 @@
-//! A keeper in a file.
+//! `SqliteKeeper`, a keeper that keeps the tables in a file.
 
 ghost use Rattle.std.specs.Prelude.{◌≡◌, Err, IfOk, None, OnErr, OnOk, Some, option_map};
 ghost use Rattle.office_core.specs.declared.keeper.KeeperStop.TheVariants.{Failed};

@@ -1,4 +1,4 @@
-//! A keeper over a connection that it is given.
+//! `SqliteOver`, a keeper that keeps the tables in the database of a connection that it is given.
 
 ghost use Rattle.std.specs.Prelude.{◌≡◌, Err, IsErr, None, OnErr, OnOk, true, false};
 ghost use Rattle.office_core.specs.declared.keeper.KeeperStop.TheVariants.{Failed};

@@ -17,8 +17,8 @@ pub(crate) const SEALED: i64 = 2;
 
 pub(crate) const DRAWN: i64 = 3;
 
-/// Writes a change and commits it. A call that fails leaves the store as it is. If the change is of a round that isn't in the right phase,
-/// or of a place without a row, the call succeeds and nothing changes.
+/// Writes a change and commits it. A call that fails leaves the store as it is. If the change is of a round that isn't in the phase that
+/// the change needs, or of a place without a row, the call succeeds and nothing changes.
 pub(crate) fn write_change<S: Alter>(
     alloc: Global,
     connection: &mut Connection<S>,

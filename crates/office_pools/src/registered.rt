@@ -23,7 +23,7 @@ pub(crate) fn first_pool(
     Ok(Pool::from_parts(charter.size(), categories, volunteers))
 }
 
-/// Returns the rows of a register as volunteers, in order.
+/// Returns the rows of a register as volunteers, in the register's order.
 fn volunteers_of(
     alloc: Global,
     categories: &[Category],

@@ -9,7 +9,7 @@ use Rattle.define_made_pools.specs.MadePools.{made_categories, made_pool, made_v
 use Rattle.define_made_pools.proofs.Volunteers.{members_are_counted}
 use Rattle.office_reports.specs.Making.{categories_by, values_behind, with_values}
 
--- three steps after the state before the numbers of volunteer `i` is the state before those of volunteer `i + 1`
+-- three steps of the generator lead from the state before the numbers of volunteer `i` to the state before those of volunteer `i + 1`
 pub three_more : (seed i : ℕ) → next_state (next_state (next_state (state seed (3 * i)))) ≡ state seed (3 * (i + 1))
 unfolding state
 three_more seed i = let e : 3 * (i + 1) ≡ suc (suc (suc (3 * i))) = omega arith in rw e refl

@@ -1,5 +1,5 @@
--- The values, the categories and the volunteer that each step of making a pool makes. Builds on MadePools of `define_made_pools`. The
--- contracts of `generator` and `made_pools` cite it.
+-- The values, the categories and the volunteers that the steps of making a pool make. Builds on Generator and MadePools of
+-- `define_made_pools`, and on Pool and Building of `define_pools`. The contracts of `generator` and `made_pools` cite it.
 use Rattle.std.specs.Prelude.{ℕ, ◌==◌, ◌%◌, ◌<◌, None, List, [], ◌∷◌, count_by, codes, map, slice_index}
 use Rattle.std.specs.List.{enumerate_from}
 use Rattle.define_pools.specs.declared.Standing.TheVariants.{Open}

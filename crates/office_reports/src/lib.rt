@@ -1,6 +1,6 @@
-//! Pools that are made from a number, and the summary of a run: the texts of a command that makes a large pool and solves it. Stands on
-//! `define_made_pools`, the pools of `pool_model`, the bundles of `bundle_text`, and the seals of `sealed_draw`. `command_pools` uses it
-//! for the command `make`, and `engine_tests` tests it.
+//! Pools that are made from a number, and the text that summarizes a run. Stands on `define_made_pools`, the pools of `pool_model`, the
+//! bundles of `bundle_text`, and the seals of `sealed_draw`. `command_pools` uses it for the command `make`, which makes a pool, solves it
+//! and prints the summary; `engine_tests` tests it.
 //!
 //! Promises: `made_pool` returns exactly the pool of the definitions, and `run_summary` exactly their summary.
 #![tactic(auto)]

@@ -11,7 +11,7 @@ use Rattle.office_requests.specs.Heads.{pairs_at, values_with}
 
 -- ---- one field after the other
 
--- `values`, followed by those of the fields from `at` on, are all values of the fields with this name
+-- `values`, followed by the values with this name among the fields from `at` on, are the values with this name among all fields
 abbrev pub AreValuesAt : List ℕ → List ℕ → List HeaderSpan → ℕ → List (List ℕ) → Type 0
 AreValuesAt name head fields at values = values ++ values_with name (pairs_at head (drop at fields)) ≡ values_with name (pairs_at head fields)
 

@@ -8,7 +8,8 @@ pub count_after : (bytes room : List ℕ) (taken left count : ℕ) → taken ≤
 count_after bytes room taken left count fits few all =
     omega (arith, length-append bytes (take taken room), length-take-le taken room fits)
 
--- if the room of a read is at most `most` less the bytes read before, at most `most` bytes are read in all after it
+-- `old` are the bytes that were read before a read into `room`, and `all` those after it. If the length of `room` is at most
+-- `most - length old`, `all` are at most `most` bytes
 pub within_after : (old room all : List ℕ) (count size most : ℕ) → all ≡ old ++ take count room → count ≤ length room → length room ≤ size → size ≤ most - length old → length old ≤ most
     → length all ≤ most
 within_after old room all count size most is fits few left within =

@@ -3,7 +3,8 @@ use Rattle.std.specs.Prelude.{◌≡◌, ℕ, ◌+◌, ◌<◌, ◌≤◌, Bool,
 use Rattle.std.specs.Io.KnownBytes.{Consumes, IsAtEnd}
 use Rattle.define_desk.specs.Requests.{head_size, most_of_body, most_of_head}
 
--- `bytes` were read. `head` is the size of their head; if they have none, they are as many as a head may have, or the link is at its end
+-- `bytes`, at most `most_of_head`, were read. `head` is the size of the head with which they begin. If it is None, `most_of_head` bytes
+-- were read, or the link is at its end
 pub record ReadsFront (old new : Option (List ℕ)) (bytes : List ℕ) (head : Option ℕ) : Type 0 where
   pub read : Consumes old new bytes
   pub head_is : head ≡ head_size bytes

@@ -1,4 +1,4 @@
-//! Where a head ends.
+//! Finds where the head of a request ends.
 
 ghost use Rattle.std.specs.Prelude.{◌≡◌};
 ghost use Rattle.define_desk.specs.Requests.{empty_line, head_size};

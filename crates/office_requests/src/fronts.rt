@@ -1,4 +1,4 @@
-//! Reads a link up to the end of a head, and skips bytes of it.
+//! Reads the bytes of a link up to the end of a request's head, and skips bytes of a link.
 
 ghost use Rattle.std.specs.Prelude.{◌≡◌, ◌≢◌, ◌≤◌, ◌+◌, IfOk, OnErr, OnOk};
 ghost use Rattle.outside.specs.Faults.{Rose};

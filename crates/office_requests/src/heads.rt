@@ -13,7 +13,7 @@ use httparse::Status;
 use httparse::spans::{EMPTY_HEADER_SPAN, HeaderSpan, RequestSpans, parse_request};
 use std::alloc::{AllocError, Global};
 
-// The most fields that a head has, and the most bytes that a body has.
+// The limits of a request: the most fields that its head may have, and the most bytes that its body may have.
 const MOST_FIELDS: usize = 64;
 
 const MOST_OF_BODY: u64 = 65536;
@@ -23,7 +23,8 @@ const MOST_OF_BODY: u64 = 65536;
 pub(crate) enum Wanted {
     /// The body is too large.
     TooLarge,
-    /// The head is that of no request.
+    /// There is no request: the bytes are no head, or the head has a field `Transfer-Encoding`, two fields `Content-Length`, or one that
+    /// is no number.
     NoRequest,
     /// The head asks for `request`, if a body of `body` bytes follows.
     Asks { request: Request, body: usize },

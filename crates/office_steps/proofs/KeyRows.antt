@@ -1,4 +1,5 @@
--- The row of a key's digest by its place, and whether the last round is open.
+-- A place found by `position` is that of the first row with the digest of a key; and a test of the last phase says whether the last round
+-- is open.
 use Rattle.std.proofs.Common.{◌≡◌, ◌≤◌, ◌<◌, ◌+◌, ℕ, zero, suc, Bool, true, false, List, [], ◌∷◌, Option, Some, None, get_or, length, refl, sym, ap, ◌∙◌, arith}
 use Rattle.std.specs.List.{position}
 use Rattle.std.specs.Str.{bytes_eq}

@@ -1,4 +1,5 @@
--- A test of two lists from the front holds exactly if they have the same length and the test holds at each place.
+-- `pointwise`, which tests two lists element by element from the front, holds exactly if they have the same length and the test of the
+-- elements holds at each place.
 use Rattle.std.proofs.Common.{◌≡◌, ℕ, suc, Bool, false, ◌&&◌, ◌==◌, List, [], ◌∷◌, length, refl, ap, ◌∙◌}
 use Rattle.std.specs.List.{list_all, zip}
 use Rattle.std.specs.Cmp.Lexicographic.{pointwise}

@@ -1,4 +1,4 @@
--- The row of a key's digest.
+-- The place of the row with a key's digest. The contract of `place_of` in src/withdrawing.rt cites it.
 use Rattle.std.specs.Prelude.{◌≡◌, ℕ, ◌<◌, List, Option, Some, None, length, slice_index_or}
 use Rattle.define_offices.specs.Deciding.{place_of_hash}
 use Rattle.define_offices.specs.Tables.{Entry}

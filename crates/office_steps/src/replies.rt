@@ -20,9 +20,9 @@ pub enum Refusal {
         /// The number of the last round.
         last: usize,
     },
-    /// A part is missing.
+    /// A part of the office's tables is missing.
     Incomplete {
-        /// The part.
+        /// Which part is missing.
         what: Part,
     },
     /// The phase of the round doesn't allow the command. For an import, it is the last round's phase.

@@ -1,5 +1,5 @@
-//! Stores that were changed by hand. A store that still keeps the facts of tables is loaded. Over any other store a call fails, counts one
-//! fault and changes nothing.
+//! Stores that were changed by hand. A store is loaded if its rows still make tables of which `IsTables` holds. Over any other store a call
+//! fails, counts one fault and changes nothing.
 
 use crate::assembly::{HOUSEHOLDS, done};
 use crate::disks::{loaded, rows_of, spelled};
@@ -77,7 +77,7 @@ const SOUND: &[&str] = &[
     "UPDATE round SET digits = '5' WHERE number = 1; UPDATE dropped SET id = 'b'",
 ];
 
-/// Changes after which the rows make no tables: one has a number, place or text that it can't have, or they break a fact of tables.
+/// Changes after which the rows make no tables: one has a number, place or text that it can't have, or they break a fact of `IsTables`.
 const UNSOUND: &[&str] = &[
     "UPDATE charter SET size = 0",
     "UPDATE charter SET size = 201",

@@ -16,7 +16,7 @@ use Rattle.sealed_draw.specs.declared.drawn.Draw.{Draw}
 use Rattle.sealed_draw.specs.Answers.{DrawSays, IsOfRow}
 use Rattle.office_tables.specs.Drawn.{Draws}
 
--- if all rows are in range, the numbers in a row's panel are below `volunteers`
+-- if `is_row` holds of all rows, the numbers in a row's panel are below `volunteers`
 panel_in_range : (volunteers : ℕ) (rows : List LotteryRow) (row : ℕ) → list_all (is_row volunteers) rows ≡ true →
     list_all (λ i. ltb i volunteers) (get_or (map (λ (r : LotteryRow). r.panel) rows) row []) ≡ true
 panel_in_range volunteers [] row h = refl

@@ -1,4 +1,4 @@
--- The tests of the parts of tables hold exactly if the facts of tables do.
+-- The tests of the parts of tables hold exactly if `IsTables` holds of the tables.
 use Rattle.std.proofs.Common.{◌≡◌, ◌↔◌, ℕ, zero, suc, Bool, true, ◌&&◌, leb, List, [], ◌∷◌, length, Option, Some, refl, subst}
 use Rattle.std.specs.List.{AllByRecursion, list_all}
 use Rattle.std.proofs.lemmas.Bool.{and_from, and_parts}
@@ -66,7 +66,7 @@ tables_of_parts tables charter rules register closed rounds =
       rounds = λ place round e. round_keeps (KeepsRound tables) tables.rounds place round rounds e;
     }
 
--- if all other facts hold, the parts are tables exactly if each round keeps its facts
+-- if all facts of `IsTables` but the one on each round hold, `IsTables` holds exactly if `KeepsRound` holds of each round
 pub left_to_rounds : (tables : Tables) (keep : Bool) → ((charter : Charter) → tables.charter ≡ Some charter → is_charter charter ≡ true) →
     ((rules : List Category) → tables.rules ≡ Some rules → AreRules rules) → is_register tables.rules tables.register ≡ true → closed_but_last tables.rounds ≡ true →
     (keep ≡ true ↔ AllByRecursion (KeepsRound tables) tables.rounds) → (keep ≡ true ↔ IsTables tables)

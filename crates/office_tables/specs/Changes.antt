@@ -16,7 +16,7 @@ seen_change (Dropped round id) = office.DroppedOut round id
 seen_change Next = office.Begun
 seen_change (Withdrawn place) = office.Withdrawn place
 
--- the round after `change`: whatever round a change names, it is made in this round; a change that names no round leaves it as it is
+-- the round after the change is made in it, even if the change names another round; a change that names no round leaves it as it is
 abbrev pub round_after : office.Change → Round → Round
 round_after (office.SolvedWith number bundle) round = solved_with bundle round
 round_after (office.SealTold number) round = seal_told round

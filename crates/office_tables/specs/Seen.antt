@@ -1,4 +1,4 @@
--- Tables by their parts.
+-- The tables that are made of given parts, and what `tables_of` may return for them.
 use Rattle.std.specs.Prelude.{◌≡◌, Option, Some, None, Result, Ok, Err, ⊤}
 use Rattle.std.specs.declared.alloc.AllocError.{AllocError}
 use Rattle.define_offices.specs.Facts.{IsTables}
@@ -9,7 +9,8 @@ use Rattle.office_tables.specs.declared.tables.Parts.{Parts}
 abbrev pub seen_parts : Parts → Tables
 seen_parts parts = record { charter = parts.charter; rules = parts.rules; register = parts.register.items; rounds = parts.rounds.items }
 
--- what `tables_of` may return: the tables of these parts if they keep all facts, else None; running out of memory is allowed at any time
+-- what `tables_of` may return: the tables of these parts if `IsTables` holds of them, else None; running out of memory is allowed at any
+-- time
 abbrev pub TellsTables : Tables → Result (Option Tables) AllocError → Type 0
 TellsTables parts (Ok (Some tables)) = (tables ≡ parts) × IsTables parts
 TellsTables parts (Ok None) = ¬ IsTables parts

@@ -59,8 +59,8 @@ pub enum Change {
     },
 }
 
-/// Returns the tables after a change. The caller must know that the changed tables keep the facts of tables. They do after each change that
-/// an office decides.
+/// Returns the tables after a change. The caller must show that `IsTables` holds of the changed tables. It does after each change that an
+/// office decides.
 pub fn apply(alloc: Global, tables: &Tables, change: &Change) -> Result<Tables, AllocError>
     requires { IsTables (applied tables.now (seen_change change.now)) }
     ensures { IfOk result (λ changed. changed ≡ applied tables.now (seen_change change.now)) }
@@ -187,7 +187,7 @@ fn push_rounds(all: &mut Vec<Round>, added: &[Round]) -> Result<(), AllocError>
     Ok(())
 }
 
-/// Returns the round after a change of it.
+/// Returns what a change makes of a round.
 fn changed_round(round: &Round, change: &Change) -> Result<Round, AllocError>
     ensures { IfOk result (λ after. after ≡ round_after (seen_change change.now) round.now) }
 {

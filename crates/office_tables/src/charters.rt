@@ -44,14 +44,14 @@ impl Charter {
         }
     }
 
-    /// The assembly's title.
+    /// Returns the assembly's title.
     pub fn title(&self) -> &Name
         ensures { result.now ≡ self.now.title }
     {
         &self.title
     }
 
-    /// The number of members of a panel, from 1 to 200.
+    /// Returns the number of members of a panel, from 1 to 200.
     pub fn size(&self) -> usize
         ensures { result ≡ self.now.size }
     {
@@ -115,7 +115,7 @@ impl Rules {
         Ok(Some(Rules { categories }))
     }
 
-    /// The categories, in order.
+    /// Returns the categories, in order.
     pub fn categories(&self) -> &[Category]
         ensures value { result.now ≡ self.now }
         ensures rules { AreRules self.now }
@@ -132,7 +132,7 @@ impl Rules {
     }
 }
 
-/// True if the categories of a pool may be rules.
+/// True if the categories of a pool may be rules: there is at least one, each has a value, and none is named `id` or `key`.
 fn are_rules(categories: &[Category]) -> bool
     ensures { result ≡ make_rules categories.now }
 {
@@ -148,7 +148,7 @@ fn have_values(categories: &[Category]) -> bool
         .all(|category| 1 <= category.values().len())
 }
 
-/// True if no category has the name of a column.
+/// True if no category is named `id` or `key`.
 fn have_free_names(categories: &[Category]) -> bool
     ensures { result ≡ list_all (λ category. not (is_taken category.name)) categories.now }
 {

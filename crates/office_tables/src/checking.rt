@@ -1,4 +1,4 @@
-//! Tests whether parts keep the facts of tables.
+//! Tests whether the facts of `IsTables` hold of the tables that are made of given parts.
 
 ghost use Rattle.std.specs.Prelude.{◌≡◌, ◌↔◌, ◌&&◌, nat_le, nat_lt, List, length, bytes_eq, IsTrue, Some, IfOk};
 ghost use Rattle.std.specs.List.{AllByRecursion, list_all, zip};
@@ -27,7 +27,7 @@ use std::alloc::{AllocError, Global};
 /// The most rows that a register has.
 const MAX_ROWS: usize = 400;
 
-/// True if the parts keep all facts of tables.
+/// True if the facts of `IsTables` hold of the tables that have these parts.
 pub(crate) fn are_tables(alloc: Global, parts: &Parts) -> Result<bool, AllocError>
     ensures { IfOk result (λ are. IsTrue are ↔ IsTables (seen_parts parts.now)) }
 {
@@ -39,7 +39,7 @@ pub(crate) fn are_tables(alloc: Global, parts: &Parts) -> Result<bool, AllocErro
     )
 }
 
-/// Does nothing; its contract says that each charter and all rules keep their facts, so `are_tables` needn't test them.
+/// Does nothing; its contract says that a charter and rules are always within their limits, so `are_tables` needn't test them.
 fn charter_and_rules_keep(parts: &Parts)
     ensures charter { (charter : SeenCharter) → parts.now.charter ≡ Some charter → IsTrue (is_charter charter) }
     ensures rules { (rules : List SeenCategory) → parts.now.rules ≡ Some rules → AreRules rules }
@@ -52,8 +52,8 @@ fn charter_and_rules_keep(parts: &Parts)
     }
 }
 
-/// True if the rows keep all facts of a register under `rules`. Compares each id and each digest with all those after it, which is fast
-/// enough at 400 rows.
+/// True if there are at most 400 rows, their ids and households are names, each fits `rules`, and their ids and digests are all different.
+/// Compares each id and each digest with all those after it, which is fast enough at 400 rows.
 fn is_register(register: &[Entry], rules: &Option<Rules>) -> bool
     ensures { result ≡ (nat_le (length register.now) 400 && list_all keeps_limits register.now && all_fit rules.now register.now
         && all_different (entry_ids register.now) && all_different (entry_hashes register.now)) }
@@ -158,7 +158,7 @@ fn have_drops(rounds: &[Round]) -> bool
     rounds.iter().all(|round| round.has_drop())
 }
 
-/// True if each round keeps its facts, which depend on charter, rules and register.
+/// True if `KeepsRound` holds of each round. That depends on charter, rules and register.
 fn rounds_keep(alloc: Global, parts: &Parts) -> Result<bool, AllocError>
     ensures { IfOk result (λ keep. IsTrue keep ↔ AllByRecursion (KeepsRound (seen_parts parts.now)) parts.now.rounds.items) }
 {
@@ -170,7 +170,7 @@ fn rounds_keep(alloc: Global, parts: &Parts) -> Result<bool, AllocError>
     Ok(true)
 }
 
-/// True if a round keeps its facts, which depend on charter, rules and register.
+/// True if `KeepsRound` holds of the round. That depends on charter, rules and register.
 fn round_keeps(alloc: Global, parts: &Parts, round: &Round) -> Result<bool, AllocError>
     ensures { IfOk result (λ keeps. IsTrue keeps ↔ KeepsRound (seen_parts parts.now) round.now) }
 {
@@ -188,7 +188,8 @@ fn round_keeps(alloc: Global, parts: &Parts, round: &Round) -> Result<bool, Allo
     }
 }
 
-/// True if there are charter and rules, the weights of the bundle sum to its total, and its ids are those of the register, in order.
+/// True if there are charter and rules, the weights of the bundle sum to its total, and the ids of its pool are those of the register, in
+/// the same order.
 fn bundle_keeps(parts: &Parts, bundle: &Bundle) -> bool
     ensures { IsTrue result ↔ KeepsBundle (seen_parts parts.now) bundle.now }
 {
@@ -199,7 +200,7 @@ fn bundle_keeps(parts: &Parts, bundle: &Bundle) -> bool
         && have_ids(bundle.pool().volunteers(), &parts.register)
 }
 
-/// True if the volunteers have the ids of the rows, in order.
+/// True if the volunteers have the ids of the rows, in the same order.
 fn have_ids(volunteers: &[Volunteer], register: &[Entry]) -> bool
     ensures { IsTrue result ↔ (ids volunteers.now ≡ entry_ids register.now) }
 {

@@ -50,28 +50,28 @@ impl Entry {
         }
     }
 
-    /// The volunteer's id.
+    /// Returns the volunteer's id.
     pub fn id(&self) -> &Name
         ensures { result.now ≡ self.now.id }
     {
         &self.id
     }
 
-    /// The digest of the volunteer's key, in 64 lower case hexadecimal digits.
+    /// Returns the digest of the volunteer's key, in 64 lower case hexadecimal digits.
     pub fn hash(&self) -> &Name
         ensures { result.now ≡ self.now.hash }
     {
         &self.hash
     }
 
-    /// For each category the name of a value.
+    /// Returns the names of values, one for each category.
     pub fn values(&self) -> &[Name]
         ensures { result.now ≡ self.now.values }
     {
         &self.values
     }
 
-    /// The name of the volunteer's household, if one is known.
+    /// Returns the name of the volunteer's household, if one is known.
     pub fn household(&self) -> &Option<Name>
         ensures { result.now ≡ self.now.household }
     {
@@ -164,28 +164,28 @@ impl Given {
         }
     }
 
-    /// The volunteer's id.
+    /// Returns the volunteer's id.
     pub fn id(&self) -> &Name
         ensures { result.now ≡ self.now.id }
     {
         &self.id
     }
 
-    /// The volunteer's key as it was given.
+    /// Returns the volunteer's key as it was given.
     pub fn key(&self) -> &Name
         ensures { result.now ≡ self.now.key }
     {
         &self.key
     }
 
-    /// For each category the name of a value.
+    /// Returns the names of values, one for each category.
     pub fn values(&self) -> &[Name]
         ensures { result.now ≡ self.now.values }
     {
         &self.values
     }
 
-    /// The name of the volunteer's household, if one is known.
+    /// Returns the name of the volunteer's household, if one is known.
     pub fn household(&self) -> &Option<Name>
         ensures { result.now ≡ self.now.household }
     {
@@ -253,7 +253,7 @@ impl Rows {
         Ok(())
     }
 
-    /// The rows, in order.
+    /// Returns the rows, in order.
     pub fn rows(&self) -> &[Given]
         ensures value { result.now ≡ self.now }
         ensures given { IsTrue (list_all is_given self.now) }

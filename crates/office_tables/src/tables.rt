@@ -25,7 +25,7 @@ pub struct Parts {
     pub rounds: Vec<Round>,
 }
 
-/// The tables of an office. They keep the facts of tables at every moment: see `tables_of`.
+/// The tables of an office. `IsTables` holds of them at every moment; `tables_of` lists its facts.
 #[derive(Debug, Drop)]
 pub struct Tables {
     parts: Parts,
@@ -59,7 +59,7 @@ impl Tables {
         Ok(Tables::from_parts(parts))
     }
 
-    /// Returns the tables of parts that keep the facts.
+    /// Returns the tables of these parts, of which `IsTables` must hold.
     pub(crate) fn from_parts(parts: Parts) -> Tables
         requires { IsTables (seen_parts parts) }
         ensures { result ≡ seen_parts parts }
@@ -74,28 +74,28 @@ impl Tables {
         let _parts = &self.parts;
     }
 
-    /// The assembly's title, and the size of its panels, if a charter was set.
+    /// Returns the charter, which has the assembly's title and the size of its panels, if one was set.
     pub fn charter(&self) -> &Option<Charter>
         ensures { result.now ≡ self.now.charter }
     {
         &self.parts.charter
     }
 
-    /// The categories with their bounds, if rules were set.
+    /// Returns the rules, which are the categories with their bounds, if rules were set.
     pub fn rules(&self) -> &Option<Rules>
         ensures { result.now ≡ self.now.rules }
     {
         &self.parts.rules
     }
 
-    /// The rows of the register, in order.
+    /// Returns the rows of the register, in order.
     pub fn register(&self) -> &[Entry]
         ensures { result.now ≡ self.now.register }
     {
         &self.parts.register
     }
 
-    /// The rounds, numbered from 1: the first has number 1.
+    /// Returns the rounds, in order. The first has the number 1.
     pub fn rounds(&self) -> &[Round]
         ensures { result.now ≡ self.now.rounds }
     {
@@ -145,7 +145,7 @@ pub(crate) fn copied_rules(rules: &Option<Rules>) -> Result<Option<Rules>, Alloc
     }
 }
 
-/// Returns the tables of these parts, or None exactly if they don't keep a fact of tables:
+/// Returns the tables of these parts, or None exactly if one of these facts doesn't hold of them:
 ///
 /// - At most 400 rows, whose ids and households are names. Ids are different, and so are the digests of keys. If there are rows, there are
 ///   rules, and each row has the name of one value of each category.

@@ -10,7 +10,7 @@ front_and_rest bytes items room at count same copied =
     let front : take count room ≡ take count (drop at items) = copied ∙ ap (take count) (take_rest bytes at) ∙ ap (λ xs. take count (drop at xs)) same in
     sym (take-append-drop count (drop at items)) ∙ ap (λ xs. xs ++ drop count (drop at items)) (sym front) ∙ ap (λ xs. take count room ++ xs) (drop-drop count at items)
 
--- if nothing was copied into a room that isn't empty, nothing was left
+-- if a room isn't empty and no byte was copied into it, no byte was left
 pub none_left : (bytes items room : List ℕ) (at count size : ℕ) → bytes ≡ items → count ≡ min size (length (take (length bytes - at) (drop at bytes))) → length room ≡ size
     → count ≡ 0 → 0 < length room → drop (at + count) items ≡ []
 none_left bytes items room at count size same counted sized zero some =

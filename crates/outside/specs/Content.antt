@@ -1,5 +1,5 @@
--- What calls do to the bytes of an object: `Some` of the bytes if the object can tell them, else `None`. The contracts of sources and sinks
--- cite it.
+-- What calls do to the bytes of an object: `Some` of the bytes if the object can tell them, else `None`. The contracts of sinks, of links
+-- and of `read_all` cite it, and so do the shell of the commands and `office_http`.
 use Rattle.std.specs.Prelude.{◌≡◌, ◌<◌, ℕ, List, [], length, Option, Some, None, take, ⊤}
 use Rattle.std.specs.Io.KnownBytes.{Appends, Consumes}
 

@@ -1,5 +1,5 @@
 -- A link is a source and a sink in one. A door gives links. This says what the calls of a door do to its links, and what a link and a door
--- in memory are. Builds on Memory. Their contracts cite it.
+-- in memory are. Builds on Faults and Memory. The contracts of doors and of links in memory cite it, and so does `command_desk`.
 use Rattle.std.specs.Prelude.{ℕ, ◌+◌, ◌<◌, ◌++◌, ◌∷◌, List, [], length, min, drop, Option, Some, None, IfSome, if◌then◌else◌}
 use Rattle.outside.specs.Faults.{raised}
 use Rattle.outside.specs.Memory.{Calls, SourceState, SinkState, after_call, after_put, after_read, next_fails, no_calls}

@@ -1,4 +1,5 @@
--- A source and a sink in memory, and what a call of each does. Builds on Faults. Their contracts cite it.
+-- A source and a sink in memory, and what a call of each does. Builds on Faults. The contracts of all objects in memory cite it, the keeper
+-- of `office_keeper` included.
 use Rattle.std.specs.Prelude.{ℕ, ◌+◌, ◌-◌, ◌==◌, ◌||◌, ◌++◌, Bool, List, length, take, drop, nat_lt, if◌then◌else◌}
 use Rattle.std.specs.List.{list_any}
 use Rattle.outside.specs.Faults.{raised}

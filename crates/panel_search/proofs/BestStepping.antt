@@ -1,4 +1,4 @@
--- The children of a front one after the other, in the search for the best composition.
+-- How the search for the best composition goes through the children of a front, one after the other.
 use Rattle.std.proofs.Common.{◌≡◌, ℕ, zero, suc, ◌+◌, ◌-◌, ◌≤◌, ◌<◌, true, false, cond, ◌&&◌, List, [], ◌∷◌, ◌++◌, length, take, drop, set, filter, None, Result, Ok, Err, refl, sym, ap, ◌∙◌, arith, subst}
 use Rattle.std.specs.Prelude.{IsErr, int_le, int_lt}
 use Rattle.std.specs.List.{list_all}
@@ -75,8 +75,8 @@ children_within all closed row depth front low end now = children_best all close
 pub children_none : (all : Classes) (closed : List Row) (row : Row) (depth : ℕ) (front : List ℕ) (low end : ℕ) (now : Pricing) → end ≤ low → children_within all closed row depth front low end now ≡ now
 children_none all closed row depth front low end now l = ap (λ counts. children_best all closed row (drop (depth + 1) all.classes) front counts now) (below_none low end l)
 
--- if `low` is below `end`, the children with counts in `low..end` are searched from the greatest count down: first the child with `end -
--- 1`, then those with smaller counts
+-- if `low` is below `end`, the children with counts in `low..end` are searched from the greatest count down: first the child with
+-- `end - 1`, then those with smaller counts
 pub children_next : (all : Classes) (closed : List Row) (row : Row) (depth : ℕ) (front : List ℕ) (low end : ℕ) (now : Pricing) → low < end →
     children_within all closed row depth front low end now ≡ children_within all closed row depth front low (end - 1) (child_at all closed row depth front (end - 1) now)
 children_next all closed row depth front low end now l = ap (λ counts. children_best all closed row (drop (depth + 1) all.classes) front counts now) (below_next low end l)

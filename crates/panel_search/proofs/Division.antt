@@ -1,4 +1,4 @@
--- The pieces of a search, class by class.
+-- How a search is cut into pieces, class by class.
 use Rattle.std.proofs.Common.{◌≡◌, ℕ, zero, suc, ◌+◌, ◌-◌, ◌*◌, ◌≤◌, ◌<◌, Bool, true, false, cond, leb, ltb, ◌&&◌, List, [], ◌∷◌, ◌++◌, length, take, drop, filter, map, get_or, refl, sym, ap, ◌∙◌, arith, subst, length-append, append_assoc}
 use Rattle.std.specs.Prelude.{int_le, int_lt, ℤ, Result, Ok, Err, Vec}
 use Rattle.std.specs.Result.{IsErrAnd}

@@ -120,7 +120,7 @@ live_reached all front class count tally limits places stands live tracks here =
       room = child_households all front class count (drop (length front + 1) all.classes) _ limits stands tracks ones class.household refl ∙ both.1;
     }
 
--- ---- counts that are passed over
+-- ---- counts that make no reachable child are passed over
 
 pub below_none : (low end : ℕ) → end ≤ low → counts_below low end ≡ []
 below_none low zero l = refl

@@ -1,4 +1,4 @@
--- The search of a front's children, one after the other, step by step.
+-- How the search for the first composition goes through the children of a front, one after the other.
 use Rattle.std.proofs.Common.{◌≡◌, ℕ, ◌+◌, ◌-◌, ◌≤◌, ◌<◌, Bool, true, false, cond, List, [], ◌∷◌, ◌++◌, take, drop, filter, map, Some, None, Result, Ok, Err, refl, sym, ap, ◌∙◌, arith, subst}
 use Rattle.std.specs.Prelude.{IsErr}
 use Rattle.std.proofs.lemmas.Bool.{false≢true}
@@ -82,8 +82,8 @@ children_within all depth front low end = children_first all (drop (depth + 1) a
 pub children_none : (all : Classes) (depth : ℕ) (front : List ℕ) (low end : ℕ) → end ≤ low → children_within all depth front low end ≡ record { visits = 0; found = None }
 children_none all depth front low end l = ap (children_first all (drop (depth + 1) all.classes) front) (below_none low end l)
 
--- if `low` is below `end`, the children with counts in `low..end` are searched from the greatest count down: first the child with `end -
--- 1`, then those with smaller counts
+-- if `low` is below `end`, the children with counts in `low..end` are searched from the greatest count down: first the child with
+-- `end - 1`, then those with smaller counts
 children_next : (all : Classes) (depth : ℕ) (front : List ℕ) (low end : ℕ) → low < end → children_within all depth front low end ≡ then_next (child_at all depth front (end - 1)) (children_within all depth front low (end - 1))
 children_next all depth front low end l =
     ap (children_first all (drop (depth + 1) all.classes) front) (below_next low end l) ∙ children_more all (drop (depth + 1) all.classes) front (end - 1) (counts_below low (end - 1))
@@ -111,7 +111,7 @@ next_steps all depth low end before mid result after l left none same steps =
     subst (λ d. Steps all depth (drop (depth + 1) all.classes) d before result after) (sym (children_next all depth front low end l))
     (both all depth (drop (depth + 1) all.classes) (child_at all depth front (end - 1)) (children_within all depth front low (end - 1)) before mid result after left none same steps')
 
--- ---- entering
+-- ---- entering a front
 
 pub enter_visits : (all : Classes) (later : List Class) (front : List ℕ) → 0 < (enter_first all later front).visits
 enter_visits all [] front = omega arith

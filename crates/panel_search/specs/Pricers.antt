@@ -1,4 +1,5 @@
--- The closed rows that a pricer keeps, and a row that is priced over them. The contracts of `Pricer` and `PricedRow` cite it.
+-- The closed rows that a pricer keeps, and a row that is priced over them. The contracts of `Pricer` and `PricedRow` cite it, and so does
+-- Outcomes of `pricing_pool`.
 use Rattle.std.specs.Prelude.{List, ◌∷◌}
 use Rattle.define_rows.specs.Row.{Row}
 use Rattle.define_searches.specs.Classes.{Classes}

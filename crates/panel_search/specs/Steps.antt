@@ -31,8 +31,8 @@ counts_below low (suc n) = if nat_le low n then n ∷ counts_below low n else []
 abbrev pub LiveWithin : Classes → List ℕ → ℕ → ℕ → Type 0
 LiveWithin all front low end = (count : ℕ) → low ≤ count → count < end → is_reachable all (front ++ count ∷ []) ≡ true
 
--- a step from a front with `left` visits left: it finds what the definition says (`due`) with as many visits, or the definition needs more
--- visits than are left. If the step finds nothing, the search is at the same front again
+-- a step from a front with `left` visits left: it finds what the search of the definition, `due`, finds, with the same number of visits; or
+-- `due` needs more visits than are left. If the step finds nothing, the search is at the same front again
 abbrev pub StepsFrom : Classes → ℕ → List Class → Due → ℕ → List ℕ → Result Bool BudgetSpent → Search → Type 0
 StepsFrom all depth later due left front (Ok true) after = (left ≡ after.left + due.visits) × (due.found ≡ Some after.counts.items)
 StepsFrom all depth later due left front (Ok false) after =
@@ -42,8 +42,8 @@ StepsFrom all depth later due left front (Err spent) after = left < due.visits
 abbrev pub Steps : Classes → ℕ → List Class → Due → Search → Result Bool BudgetSpent → Search → Type 0
 Steps all depth later due before result after = StepsFrom all depth later due before.left (take depth before.counts.items) result after
 
--- a whole search with `left` visits left: it finds what the definition says (`due`) with as many visits, or the definition needs more
--- visits than are left
+-- a whole search with `left` visits left: it finds what the search of the definition, `due`, finds, with the same number of visits; or
+-- `due` needs more visits than are left
 abbrev pub Finds : Due → ℕ → Result Bool BudgetSpent → Search → Type 0
 Finds due left (Ok true) after = (left ≡ after.left + due.visits) × (due.found ≡ Some after.counts.items)
 Finds due left (Ok false) after = (left ≡ after.left + due.visits) × (due.found ≡ None)

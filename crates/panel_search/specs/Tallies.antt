@@ -1,4 +1,4 @@
--- Bounds so small that a search's sums with them fit 64 bits.
+-- Bounds that are so small that a search's sums with them fit 64 bits. The contracts of `tallies` cite it.
 use Rattle.std.specs.Prelude.{ℕ, ◌≤◌, ◌<◌, List, length}
 use Rattle.define_searches.specs.declared.Bounds.{Bounds}
 use Rattle.laws_of_fronts.specs.Tallies.{HasBound}

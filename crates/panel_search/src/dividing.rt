@@ -1,4 +1,5 @@
-//! The pieces of a search: the live fronts of the first classes, enough of them for many workers.
+//! Cuts a search into pieces. Each is the search below a live front of the first `piece_depth` classes, which are enough classes to give
+//! each of many workers a piece.
 
 ghost use Rattle.std.specs.Prelude.{◌≡◌, ◌≤◌, ◌<◌, ◌+◌, ◌++◌, [], ◌∷◌, filter, length, IfOk, OnOk, OnErr};
 ghost use Rattle.std.specs.List.{All, flat_map};

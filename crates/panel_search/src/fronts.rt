@@ -5,7 +5,7 @@ ghost use Rattle.std.specs.Prelude.{◌≡◌, ◌++◌, [], ◌∷◌, IfOk};
 use std::alloc::{AllocError, Global};
 use std::marker::Model;
 
-/// How many of each of the first classes are taken, in their order.
+/// How many members are taken of each of the first classes, in the order of the classes.
 #[derive(Debug, Drop)]
 pub struct Front {
     counts: Vec<usize>,

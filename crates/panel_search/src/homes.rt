@@ -39,8 +39,8 @@ pub(crate) fn has_one(homes: &[usize], household: Option<usize>) -> bool
     }
 }
 
-// Returns `end`: of the counts below `until`, exactly those below `end` take at most one of the household, together with those who are
-// taken already. Without a household, `end` is `until`.
+// Returns `end`: of the counts below `until`, exactly those below `end` can be added to the members who are taken already so that at most
+// one of the household is taken. Without a household, `end` is `until`.
 pub(crate) fn room(homes: &[usize], household: Option<usize>, until: usize) -> usize
     requires { IsKnownHousehold (length homes.now) household }
     ensures inside { (count : ℕ) → count < result → (count < until) × (has_room homes.now household count ≡ true) }

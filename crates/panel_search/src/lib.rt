@@ -1,6 +1,7 @@
 //! The searches for the first composition of a pool's classes, and for the best one in a row, under a budget of visits. Stands on `alike`,
-//! which makes the classes, and on `define_searches` and `define_waves`, which say what a visit is and what a search finds. Used by
-//! `pricing_pool`, which searches the pieces on threads; `leximin_run`; the command `panel`.
+//! which makes the classes, on `define_searches` and `define_waves`, which say what a visit is and what a search finds, on `define_rows`
+//! for rows, and on `laws_of_fronts`. Used by `pricing_pool`, which searches the pieces on threads, by `leximin_run`, and by the command
+//! `panel`; `engine_tests` tests it.
 //!
 //! Promises: `first`, `best`, `pieces` and `best_from`, and the calls of `Pricer` and `PricedRow`, which keep the tables that each search
 //! needs of the closed rows and of the priced row. The modules `tally`, `weighing` and `greatest` and what they use are helpers.

@@ -113,10 +113,10 @@ impl<'p> PricedRow<'p> {
         pieces(alloc, &self.terms(), nodes)
     }
 
-    /// Searches the compositions that begin with a front and weigh at least the right side in each closed row. Returns the one of greatest
-    /// weight in the row, the first of equals, or None exactly if none weighs more than the floor; and the visits of the search. Fails with
-    /// `Spent` if these are more than `nodes`. If the front isn't live above the floor, there is no visit. The front has at most one count
-    /// for each class, from the class's least to its most. All memory is taken before the first visit.
+    /// Searches the compositions that begin with a front, weigh at least the right side in each closed row, and weigh more than the floor
+    /// in the priced row. Returns the one of greatest weight in this row, the first of equals, or None if there is none; and the visits of
+    /// the search. Fails with `Spent` if these are more than `nodes`. If the front isn't live above the floor, there is no visit. The front
+    /// has at most one count for each class, from the class's least to its most. All memory is taken before the first visit.
     #[tactic(auto, using(crate::proofs::Kept::front_within))]
     pub fn best_from(
         &self,

@@ -118,8 +118,8 @@ impl<'c> Pricer<'c> {
 /// of greatest weight in `row`, the first of equals, or None if there is none; and the visits of the search. Fails with `Spent` if these
 /// are more than `nodes`. To price several rows, use a `Pricer`: it makes the tables of the closed rows once.
 ///
-/// Each of the rows has one entry per class and a reach below 2^127: the absolute value of its right side, and of each entry times its
-/// class's size. So every weight fits 128 bits. All memory is taken before the first visit.
+/// Each of the rows has one entry per class and a reach below 2^127. The reach is the absolute value of the right side, plus that of each
+/// entry times its class's size. So every weight fits 128 bits. All memory is taken before the first visit.
 pub fn best(
     alloc: Global,
     classes: &Classes,

@@ -1,5 +1,5 @@
-//! The search for the best composition, front by front, with a floor that rises as compositions are kept. A helper of `pricer` and
-//! `priced`.
+//! The search for the best composition, front by front, with a floor that rises as compositions are kept. A helper of `pricer`, `priced`
+//! and `dividing`.
 
 ghost use Rattle.std.specs.Prelude.{◌≡◌, ◌≤◌, ◌<◌, ◌+◌, ◌++◌, [], ◌∷◌, true, false, ◌&&◌, length, take, drop, int_le, int_lt, Some, None, if◌then◌else◌, IfOk, OnOk, OnErr};
 ghost use Rattle.std.specs.List.{list_all};

@@ -25,8 +25,9 @@ pub enum SearchStop {
     OutOfMemory,
 }
 
-/// Returns the first composition of the classes, in order of classes with the greater count first, or None if there is none. Fails with
-/// `Spent` if the search takes more than `nodes` visits. Each front that is entered counts one visit, also the empty front.
+/// Returns the first composition of the classes, or None if there is none. Of two compositions, the one with the greater count in the first
+/// class in which they differ comes first. Fails with `Spent` if the search takes more than `nodes` visits. Each front that is entered
+/// counts one visit, also the empty front.
 pub fn first(
     alloc: Global,
     classes: &Classes,

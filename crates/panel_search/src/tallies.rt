@@ -1,4 +1,5 @@
-//! Counters for values, 50 places for each category, and what they allow. A helper of `tally`.
+//! Counts how many members have each value, in 50 places for each category, and tests which further counts the bounds allow. A helper of
+//! `tally`.
 
 ghost use Rattle.std.specs.Prelude.{◌≡◌, ℕ, true, false, ◌≤◌, ◌<◌, ◌+◌, ◌^◌, [], length, slice_index_or};
 ghost use Rattle.laws_of_fronts.specs.Tallies.{HaveCells, CanGive, AreAtMost, HasMore, HaveBounds, AllReach, FitCells, HasBound, EachReaches, SomeFails, within_reach};

@@ -1,5 +1,5 @@
-//! What a front takes, in all, of each value and of each household, and the most that the classes after it give. The searches of
-//! `searching` and `pricing` keep one.
+//! The tally of a front: how many members it takes, in all, of each value and of each household, and the most that the classes after it
+//! give. The searches of `searching` and `pricing` keep one.
 
 ghost use Rattle.std.specs.Prelude.{◌≡◌, ℕ, ◌+◌, ◌-◌, ◌*◌, ◌≤◌, ◌<◌, ◌++◌, ◌^◌, [], ◌∷◌, IfOk, true, nat_le, ◌&&◌, drop, length};
 ghost use Rattle.laws_of_fronts.specs.Front.{Gives, AreWithin};
@@ -75,7 +75,7 @@ impl Tally {
         self.later_taken -= class.most();
     }
 
-    // Puts the class after the front back among those that are still to come.
+    // Undoes `begin_class`: the class after the front is again one of those that are still to come.
     pub(crate) fn end_class(&mut self, classes: &Classes, front: &[usize])
         requires below { length front.now < length classes.now.classes }
         requires stands { Tracks classes.now front.now (drop (length front.now + 1) classes.now.classes) self.old }

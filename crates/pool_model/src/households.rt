@@ -1,4 +1,4 @@
-//! Whether volunteers have households, and which volunteers share one. The versions of texts and the classes depend on it.
+//! Tests whether any volunteer has a household, and whether two volunteers share one. The versions of texts and the classes depend on it.
 
 ghost use Rattle.std.specs.Prelude.{◌≡◌, is_some};
 ghost use Rattle.std.specs.List.{list_any};

@@ -1,4 +1,5 @@
-//! Pools, and the calls that build one: `pool_text` reads a pool with them, and `office_reports` makes one.
+//! Pools, and the calls that build one. `pool_text`, `office_import`, `office_keeper`, `office_pools`, `office_reports` and `quota_loosen`
+//! use them.
 
 ghost use Rattle.std.specs.Prelude.{◌≡◌, ◌≢◌, ◌<◌, ◌==◌, ◌||◌, nat_le, not, [], ◌∷◌, length, map, None, Err, OnOk, OnErr, IfOk, vec_len};
 ghost use Rattle.define_pools.specs.Lists.{includes_list};
@@ -26,10 +27,11 @@ const MAX_BOUND: usize = 999;
 
 const MAX_VOLUNTEERS: usize = 400;
 
-/// A pool: the size of its panels, its categories and its volunteers, who are numbered from 0. It is always within its limits: a size
-/// from 1 to 200; at most 20 categories, 50 values a category and 400 volunteers; bounds in order and at most 999; names and ids of 1
-/// to 200 bytes of UTF-8 without a byte below 32 or 127, also those of households; different names and ids, though volunteers may share
-/// a household; and one value per category for each volunteer.
+/// A pool: the size of its panels, its categories and its volunteers, who are numbered from 0. It is always within these limits. The size
+/// is from 1 to 200. There are at most 20 categories, 50 values a category and 400 volunteers. A lower bound is at most its upper bound,
+/// which is at most 999. Each id and each name, also of a household, has 1 to 200 bytes of UTF-8, none of which is below 32 or is 127. No
+/// two categories have the same name, no two values of a category, and no two volunteers the same id. Each volunteer has one value of each
+/// category.
 #[derive(Debug, Drop)]
 pub struct Pool {
     size: usize,
@@ -121,8 +123,8 @@ impl Pool {
         })
     }
 
-    /// Returns the kind of fault of a category of this name: 1 if there are volunteers, 3 if an earlier category has this name, 10
-    /// if the name isn't allowed or there are 20 categories; the lowest that applies, or None.
+    /// Returns the lowest kind of fault that a new category of this name has, or None: 1 if the pool has volunteers already, 3 if an
+    /// earlier category has this name, 10 if the name isn't allowed or the pool has 20 categories already.
     pub fn category_kind(&self, name: &[u8]) -> Option<u8>
         ensures { result ≡ category_kind self.now name.now }
     {
@@ -161,9 +163,9 @@ impl Pool {
         Ok(())
     }
 
-    /// Returns the kind of fault of a value of this name and these bounds in the last category: 1 if there is no category or there
-    /// are volunteers, 4 if an earlier value of the category has this name, 5 if the bounds are out of order or above 999, 10 if
-    /// the name isn't allowed or there are 50 values; the lowest that applies, or None.
+    /// Returns the lowest kind of fault that a new value of the last category with this name and these bounds has, or None: 1 if the pool
+    /// has no category, or has volunteers already; 4 if an earlier value of the category has this name; 5 if the lower bound is above the
+    /// upper one, or the upper one above 999; 10 if the name isn't allowed or the category has 50 values already.
     pub fn value_kind(&self, name: &[u8], lower: usize, upper: usize) -> Option<u8>
         ensures { result ≡ value_kind self.now (record { name = name.now; lower = lower; upper = upper }) }
     {
@@ -212,9 +214,9 @@ impl Pool {
         Ok(())
     }
 
-    /// Returns the kind of fault of a volunteer with this id and these names of values, one for each category: 6 if a name isn't that of
-    /// a value of its category, 7 if the number of names isn't that of categories, 8 if an earlier volunteer has this id, 10 if the id
-    /// isn't allowed or there are 400 volunteers; the lowest that applies, or None.
+    /// Returns the lowest kind of fault that a volunteer with this id and these names of values has, or None: 6 if a name isn't that of a
+    /// value of its category, 7 if there aren't as many names as categories, 8 if an earlier volunteer has this id, 10 if the id isn't
+    /// allowed or the pool has 400 volunteers already.
     pub fn volunteer_kind(&self, id: &[u8], values: &[&[u8]]) -> Option<u8>
         ensures { result ≡ volunteer_kind self.now id.now (map (λ name. name.now) values.now) }
     {

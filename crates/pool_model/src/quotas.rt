@@ -1,4 +1,4 @@
-//! Whether a panel is a quota panel of a pool. `quota_conflicts` and tests call it; the checks have a faster test of their own.
+//! Tests whether a panel is a quota panel of a pool. `quota_conflicts` and tests call `fits`; the checks have a faster test of their own.
 
 ghost use Rattle.std.specs.Prelude.{◌≡◌, IsTrue, nat_lt, count_by, length};
 ghost use Rattle.std.specs.List.{list_all, enumerate_from};

@@ -1,4 +1,4 @@
--- What the readers of a pool's text return. Their contracts cite it.
+-- What the readers of a pool's text return. Their contracts cite it, and so do the readers of bundles and proofs.
 use Rattle.std.specs.Prelude.{◌≡◌, ◌≤◌, ℕ, Option, Some, None, Result, Ok, Err, ⊤}
 use Rattle.define_pools.specs.Pool.{Pool}
 use Rattle.define_lines.specs.Lines.{Fault}

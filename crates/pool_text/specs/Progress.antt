@@ -1,4 +1,4 @@
--- The code's progress in the form of the definitions. The contracts of the readers of bundles and proofs cite it.
+-- The code's progress in the form of the definitions. The contracts of this crate's readers, and of those of bundles and proofs, cite it.
 use Rattle.std.specs.Prelude.{ℕ, Option, Some, None}
 use Rattle.define_pools.specs.Pool.{Pool}
 use Rattle.define_pool_texts.specs.PoolReading as words

@@ -190,7 +190,7 @@ fn number_of(volunteers: &[Volunteer], id: &[u8]) -> Option<usize>
         .position(|volunteer| id == volunteer.id().as_bytes())
 }
 
-/// Adds to the pool a right entry, whose new name or id is UTF-8. Returns what `read_entry` returns.
+/// Adds to the pool an entry without a fault, whose new name or id is UTF-8. Returns what `read_entry` returns.
 fn add_entry(
     pool: &mut Pool,
     passed: Passed,

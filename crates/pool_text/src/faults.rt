@@ -17,9 +17,9 @@ pub struct PoolFault {
     /// - 6 a field at the place of a category is none of its values
     /// - 7 there isn't exactly one field for each category
     /// - 8 an earlier volunteer has this id
-    /// - 9 a household or standing line, if no volunteer with its id comes after the volunteer of the last line of the same sort
-    /// - 10 a new name or a household's isn't 1 to 200 bytes or has a byte below 32 or the byte 127; or this is a category after the
-    ///   20th, a value after the 50th of its category or a volunteer after the 400th
+    /// - 9 no volunteer with the id of this household or standing line comes after the volunteer of the last line of the same sort
+    /// - 10 a new name or id, or a household's name, isn't 1 to 200 bytes, or has a byte below 32 or the byte 127; or this is a category
+    ///   after the 20th, a value after the 50th of its category or a volunteer after the 400th
     /// - 11 the line isn't UTF-8
     /// - 12 the lines run out before the end
     pub kind: u8,

@@ -28,7 +28,7 @@ pub fn read_pool(alloc: Global, bytes: &[u8]) -> Result<Pool, ReadPool>
     ensures read { (pool : Words) → IsPool pool → bytes.now ≡ spelling pool → Reads (Ok pool) result }
     // The result is the pool or the fault of the definition `read`.
     ensures exact { Reads (read bytes.now) result }
-    // Memory runs out only if the first two lines are right and a third one is ended by LF.
+    // Memory runs out only if the first two lines have no fault and a third one is ended by LF.
     ensures memory { result ≡ Err OutOfMemory → IsRightBefore 3 (read bytes.now) × (3 < length (pieces_of bytes.now)) }
 {
     read_lines(alloc, bytes)

@@ -1,5 +1,5 @@
--- What the searches of a wave's pieces answer, worker by worker. Builds on Waves of `define_waves`. The contracts of `wave`, `workers` and
--- `waves` cite it.
+-- What the searches of a wave's pieces answer, worker by worker. Builds on Visits of `define_searches`, Below of `define_waves`, and
+-- Answers and Pricers of `panel_search`. SoFar and the contracts of `wave`, `workers` and `waves` cite it.
 use Rattle.std.specs.Prelude.{◌≡◌, ℕ, ◌+◌, ◌*◌, ◌/◌, ◌%◌, ◌<◌, ◌≤◌, List, [], length, slice_get, slice_index_or, ◌++◌, Vec, vec_items, ℤ, Option, Some, Result, Ok, Err}
 use Rattle.std.specs.declared.alloc.Global.{Global}
 use Rattle.std.specs.declared.alloc.AllocError.{AllocError}
@@ -17,8 +17,8 @@ Outcome = Result (Option (List ℕ × ℤ) × ℕ) SearchStop
 abbrev pub search_at : Priced → List (List ℕ) → ℤ → ℕ → Pricing
 search_at priced fronts floor place = search_from priced.classes priced.closed priced.row (slice_index_or fronts place []) floor
 
--- `outcomes` are those of worker `worker`: outcome `i` is that of the piece at place `worker + i * workers`. Each such place below
--- `places` has its outcome
+-- `outcomes` are those of worker `worker`: outcome `i` is that of the piece at place `worker + i * workers`. Each of these places that is
+-- below `places` has an outcome
 pub record AreOf (search : ℕ → Pricing) (nodes workers worker places : ℕ) (outcomes : List Outcome) : Type 0 where
   pub each : (i : ℕ) (outcome : Outcome) → slice_get outcomes i ≡ Some outcome → AnswersWeighed (search (worker + i * workers)) nodes outcome
   pub all : places ≤ worker + length outcomes * workers

@@ -1,4 +1,5 @@
--- The outcome of waves, piece by piece. Builds on Waves of `define_waves`. The contracts of `waves` and `pricing` cite it.
+-- The outcome of waves, piece by piece. Builds on Outcomes, and on Visits of `define_searches`. The contracts of `waves` and `pricing` cite
+-- it.
 use Rattle.std.specs.Prelude.{◌≡◌, ℕ, ◌+◌, ◌<◌, ◌≤◌, if◌then◌else◌, List, ℤ, int_lt, Option, Some, None, Result, Ok, Err}
 use Rattle.define_searches.specs.Visits.{Pricing}
 use Rattle.panel_search.specs.declared.searching.SearchStop.{SearchStop}

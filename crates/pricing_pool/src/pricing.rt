@@ -24,8 +24,9 @@ const WAVE: usize = 16;
 /// of greatest weight in `row`, the first of equals, or None if there is none; and the visits of the search in waves. From 1 to 64 workers
 /// search its pieces on threads, and the watch is told the number of each piece as it starts. Neither changes the answer.
 ///
-/// Each of the rows has one entry per class and a reach below 2^127: the absolute value of its right side, and of each entry times its
-/// class's size. Fails with `Spent` exactly if the visits exceed `nodes`, unless memory runs out, which is allowed at any time.
+/// Each of the rows has one entry per class and a reach below 2^127. The reach is the absolute value of the right side, plus that of each
+/// entry times its class's size. Fails with `Spent` exactly if the visits exceed `nodes`, unless memory runs out, which is allowed at any
+/// time.
 pub fn best_by<R: Threads + Sync, W: Watch + Sync>(
     rt: &R,
     alloc: Global,
@@ -68,7 +69,7 @@ pub fn price_by<R: Threads + Sync, W: Watch + Sync>(
     search_waves(rt, alloc, workers as usize, watch, &priced, nodes)
 }
 
-/// Searches in waves for a row that is being priced.
+/// Searches in waves for the best composition in a row that is priced.
 fn search_waves<R: Threads + Sync, W: Watch + Sync>(
     rt: &R,
     alloc: Global,

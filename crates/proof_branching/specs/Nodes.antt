@@ -13,7 +13,7 @@ IsAtNode spans Empty = Unit {0}
 IsAtNode spans (Whole point) = IsWithin spans point.items
 IsAtNode spans (Broken split) = split.column < length spans
 
--- the stop is `Lost`, as what the table gave can't be right, or says that memory runs out
+-- the stop is `Lost`, since what the table gave can't be right, or `OutOfMemory`
 abbrev pub IsLostOrMemory : ProveStop → Type 0
 IsLostOrMemory (Wide pass) = ⊥
 IsLostOrMemory BeyondWidth = ⊥

@@ -1,9 +1,9 @@
 //! The search for a point of whole numbers that keeps the spans of a table's columns and rows: if the table's point is not whole, a
 //! column's span is split there and both parts are searched. The same search, run to its end, lists the steps that show that there is no
 //! such point. Stands on `proof_table` and `proof_limits`; `proof_stages`, `proof_peeling`, `proof_run`, `quota_conflicts` and
-//! `loosening_by_proof` stand on it. It knows nothing of proofs: `proof_run` turns the steps into the lines of trees.
-//! Promises: a point lies in the columns' spans, each call ends and spends what its clauses say, and each stop is right. That a point
-//! keeps the rows, or that there is none, is no promise: callers test points, and `proof_verify` tests proofs.
+//! `loosening_by_proof` stand on it. It knows nothing of proofs: `proof_run` and `quota_conflicts` turn the steps into the lines of trees.
+//! Promises: a point lies in the columns' spans, and each call ends, spends what its clauses say, and stops only as they allow. That a
+//! point keeps the rows' spans, or that there is none, is no promise: callers test points, and `proof_verify` tests proofs.
 #![tactic(auto)]
 
 mod nodes;

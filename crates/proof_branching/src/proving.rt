@@ -1,5 +1,5 @@
-//! The search as a list of steps that show that there is no whole point. Stands on `nodes`, `path` and `refutations`; `proof_run` turns the
-//! steps into trees.
+//! The search as a list of steps that show that there is no whole point. Stands on `nodes`, `path` and `refutations`; `proof_run` and
+//! `quota_conflicts` turn the steps into trees.
 
 ghost use Rattle.std.specs.Prelude.{◌≡◌, ◌<◌, IfErr, IfSome, OnOk, length};
 ghost use Rattle.proof_table.specs.Sizes.{SameSizes};
@@ -14,9 +14,9 @@ use proof_limits::{Budget, ProveStop, Span};
 use proof_table::Table;
 use std::alloc::Global;
 
-/// Searches all nodes, and returns a step for each, in order: a split if the table's point is not whole, or a refutation if there is no
-/// point. The steps of a split's lower part come before those of the upper part. `numbers` has the number of each row. The multiplier of
-/// the row of weights, if there is one, becomes the scale. Returns None if some node has a whole point.
+/// Searches all nodes, and returns a step for each: a split if the table's point is not whole, or a refutation if there is no point. A
+/// split is followed by the steps of its lower part, and then by those of its upper part. `numbers` has the number of each row. The
+/// multiplier of the row of weights, if there is one, becomes the scale. Returns None if some node has a whole point.
 pub fn prove_empty(
     alloc: Global,
     table: &mut Table,

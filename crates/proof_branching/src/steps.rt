@@ -1,5 +1,5 @@
-//! The steps of a search that shows that there is no whole point, one for each node. `proving` lists them, and `proof_run` turns each into
-//! a line of a tree.
+//! The steps of a search that shows that there is no whole point, one for each node. `proving` lists them, and `proof_run` and
+//! `quota_conflicts` turn each into a line of a tree.
 
 /// The multipliers by which a table refutes a node, in lowest terms.
 #[derive(Debug, Drop)]

@@ -12,7 +12,7 @@ pub record Left : Type 0 where
 abbrev pub unspent : ℕ → ℕ → Left
 unspent pivots nodes = record { pivots = pivots; nodes = nodes; most_pivots = pivots; most_nodes = nodes }
 
--- no more is left than the whole run may spend
+-- what is left is at most what the whole run may spend
 pub record IsWithinMost (left : Left) : Type 0 where
   pub pivots : left.pivots ≤ left.most_pivots
   pub nodes : left.nodes ≤ left.most_nodes

@@ -1,7 +1,7 @@
 //! Proofs as values: that a lottery is leximin greatest, or that a pool has no quota panel. Contracts see them as the proofs of
 //! `define_additions`. Stands on `bundle_text`, `pool_model` and `define_proof_texts`. Used by `proof_text`, `proof_verify`, `proof_run`,
-//! the commands about proofs, the shell and the office. Promises: each call returns exactly the value that its clause names, and the
-//! numbers of a `Proof` are in the ranges that a text can spell.
+//! `quota_conflicts`, the commands about proofs, the shell and the office. Promises: each call returns exactly the value that its contract
+//! names, and the numbers of a `Proof` are in the ranges that a text can spell.
 #![tactic(auto)]
 
 mod leaves;

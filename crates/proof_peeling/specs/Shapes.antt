@@ -1,4 +1,5 @@
--- The lengths of the lists of a run of peeling and of a tail.
+-- How many columns and rows the tables of a `PanelMix` and of a `PeelingRun` have, and how many parts the run's remainders have.
+-- The contracts of `tails` and `lotteries` cite it.
 use Rattle.std.specs.Prelude.{◌≡◌, ◌+◌, length, IfSome}
 use Rattle.proof_peeling.specs.declared.lotteries.PeelingRun.{PeelingRun}
 use Rattle.proof_peeling.specs.declared.tails.PanelMix.{PanelMix}

@@ -1,18 +1,22 @@
 //! Makes a lottery over panels that gives each volunteer the chance of a point. Panels are peeled off the point one after the other. If a
 //! remainder is left, an exact table looks for weights of the panels seen that make it up. Stands on `proof_stages`, `proof_program`,
-//! `proof_branching`, `proof_table` and `proof_limits`. Used by `proof_run`.
+//! `proof_branching`, `proof_table` and `proof_limits`. Used by `proof_run`; `engine_tests` tests it.
 //! Promises: each call is safe and ends, and gives nothing of the budget back. That the lottery has the point's chances is no promise:
 //! `proof_verify` tests each proof.
 #![tactic(auto)]
 
+mod class_mixes;
 mod faces;
+mod kinds;
 mod lotteries;
 mod odds;
 mod peels;
+mod pricing;
 mod remainders;
 mod rows;
 mod seen;
+mod spreads;
 mod tails;
 
-pub use lotteries::{Peeled, WeightedPanel, lottery_of_point};
+pub use lotteries::{Peeled, WeightedPanel, lottery_noting, lottery_of_point, mix_of};
 pub use rows::{PanelRows, weights_of};

@@ -1,10 +1,12 @@
-//! The lottery of a point: turns of peeling, and tails if peeling gets stuck. Stands on `peels`, `tails`, `remainders` and `seen`;
+//! The lottery of a point: turns of peeling, and tails if peeling gets stuck. Stands on `peels`, `tails`, `remainders`, `rows` and `seen`;
 //! `proof_run` calls `lottery_of_point`. Promise: nothing of the budget is given back.
 
 ghost use Rattle.std.specs.Prelude.{◌≡◌, length, IfOk, IfNone, OnOk};
 ghost use Rattle.proof_peeling.specs.Shapes.{HasTable, IsPeelingRun};
 ghost use Rattle.proof_limits.specs.Budgets.{SpendsOn};
 
+use crate::class_mixes::{Mixed, class_mix};
+use crate::kinds::counts_of;
 use crate::peels::{MOST_NODES, Turn, peel};
 use crate::remainders::Remainder;
 use crate::rows::PanelRows;
@@ -72,6 +74,8 @@ struct PeelingRun<'a> {
     alloc: Global,
     program: &'a Program,
     rows: &'a PanelRows,
+    classes: &'a Program,
+    chances: &'a Chances,
     table: Table,
     seen: SeenPanels,
     remainder: Remainder,
@@ -91,6 +95,26 @@ pub fn lottery_of_point(
 ) -> Result<Peeled, ProveStop>
     ensures { SpendsOn budget.old budget.new }
 {
+    let mut known = Vec::new(alloc);
+    lottery_noting(
+        alloc, program, rows, classes, chances, size, &mut known, budget,
+    )
+}
+
+/// Makes a lottery as `lottery_of_point` does. If the point is no mix of panels, adds the compositions of the panels seen to `known`, each
+/// with a count for each class.
+pub fn lottery_noting(
+    alloc: Global,
+    program: &Program,
+    rows: &PanelRows,
+    classes: &Program,
+    chances: &Chances,
+    size: usize,
+    known: &mut Vec<Vec<i64>>,
+    budget: &mut Budget,
+) -> Result<Peeled, ProveStop>
+    ensures { SpendsOn budget.old budget.new }
+{
     let remainder = remainder_of(alloc, classes, chances)?;
     if remainder.parts.len() != program.columns() {
         return Err(ProveStop::Lost);
@@ -99,12 +123,51 @@ pub fn lottery_of_point(
         alloc,
         program,
         rows,
+        classes,
+        chances,
         table: loaded(alloc, program, rows)?,
         seen: SeenPanels::new(alloc, size),
         remainder,
         best: None,
     };
-    run.lottery(budget)
+    let found = run.lottery(budget)?;
+    if !matches!(found, Peeled::Found(_)) {
+        note(alloc, classes, &run.seen, known)?;
+    }
+    Ok(found)
+}
+
+/// Makes the lottery of a point of compositions, of which some are known: each has a count for each class.
+pub fn mix_of(
+    alloc: Global,
+    rows: &PanelRows,
+    classes: &Program,
+    chances: &Chances,
+    known: &[Vec<i64>],
+    budget: &mut Budget,
+) -> Result<Peeled, ProveStop>
+    ensures { SpendsOn budget.old budget.new }
+{
+    match class_mix(alloc, classes, chances, &rows.rows, known, budget) {
+        Ok(Mixed::Found(panels)) => Ok(Peeled::Found(panels)),
+        Ok(Mixed::Outside) => Ok(Peeled::Outside),
+        Ok(Mixed::Doubt) => Ok(Peeled::Doubt),
+        Err(ProveStop::Wide(_) | ProveStop::BeyondWidth | ProveStop::Lost) => Ok(Peeled::Doubt),
+        Err(stop) => Err(stop),
+    }
+}
+
+/// Adds the compositions of the panels seen.
+fn note(
+    alloc: Global,
+    classes: &Program,
+    seen: &SeenPanels,
+    known: &mut Vec<Vec<i64>>,
+) -> Result<(), ProveStop> {
+    for number in 0..seen.panels().len() {
+        known.push(counts_of(alloc, classes, seen.members(number))?)?;
+    }
+    Ok(())
 }
 
 /// Returns the limits of the tails of a round.
@@ -200,6 +263,9 @@ impl PeelingRun<'_> {
             self.go_to_best()?;
             if round == 0 {
                 if let Some(found) = self.short_tails(budget)? {
+                    return Ok(found);
+                }
+                if let Some(found) = self.class_mix(budget)? {
                     return Ok(found);
                 }
             }
@@ -363,6 +429,29 @@ impl PeelingRun<'_> {
             }
             Ok(found) => Ok(Some(found)),
             Err(stop) => Err(stop),
+        }
+    }
+
+    /// Looks for a mix of compositions. Returns None if that ended in doubt.
+    fn class_mix(&mut self, budget: &mut Budget) -> Result<Option<Peeled>, ProveStop>
+        requires run { IsPeelingRun self.old }
+        requires table { HasTable self.old }
+        ensures run { IsPeelingRun self.new }
+        ensures table { HasTable self.new }
+        ensures spends { SpendsOn budget.old budget.new }
+    {
+        let mut known = Vec::new(self.alloc);
+        note(self.alloc, self.classes, &self.seen, &mut known)?;
+        match mix_of(
+            self.alloc,
+            self.rows,
+            self.classes,
+            self.chances,
+            &known,
+            budget,
+        )? {
+            Peeled::Doubt => Ok(None),
+            found => Ok(Some(found)),
         }
     }
 

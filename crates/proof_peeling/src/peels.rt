@@ -1,6 +1,6 @@
 //! Peeling: panels are taken off a remainder, one after the other, until nothing is left or no further panel is found. Each is taken off
-//! with the greatest weight after which the remainder still satisfies the rows on average. Stands on `faces`, `remainders`, `seen` and
-//! `odds`; `lotteries` calls `peel`.
+//! with the greatest weight after which the remainder still satisfies the rows on average. Stands on `faces`, `remainders`, `rows`, `seen`
+//! and `odds`; `lotteries` calls `peel`.
 
 ghost use Rattle.std.specs.Prelude.{◌≡◌, length};
 ghost use Rattle.proof_table.specs.Sizes.{SameSizes};
@@ -16,8 +16,11 @@ use proof_limits::{Budget, Narrow, ProveStop, Span, narrow_add, narrow_sub, time
 use proof_table::{PseudoRandom, Table};
 use std::alloc::Global;
 
-/// How many nodes a search for a panel may look at.
+/// How many nodes a search for a panel may look at in the first turn, and in a tail.
 pub(crate) const MOST_NODES: u64 = 2000;
+
+/// How many nodes a search for a panel may look at in each further turn.
+const NEXT_NODES: u64 = 400;
 
 /// A turn of peeling: its number, which seeds its pseudo-random numbers, and how far these may shift wishes.
 #[derive(Clone, Copy, Debug)]
@@ -48,7 +51,12 @@ pub(crate) fn peel(
         let face = Face::of(alloc, remainder, rows)?;
         let wishes = wishes_of(alloc, remainder, &face, turn, &mut random)?;
         table.aim(&wishes, remainder.total.get().unsigned_abs() % 1024)?;
-        let found = search(alloc, table, &face.columns, &face.rows, MOST_NODES, budget)?;
+        let most = if turn.number == 0 {
+            MOST_NODES
+        } else {
+            NEXT_NODES
+        };
+        let found = search(alloc, table, &face.columns, &face.rows, most, budget)?;
         let Found::Point(point) = found else {
             return Ok(false);
         };

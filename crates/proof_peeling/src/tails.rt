@@ -1,5 +1,5 @@
-//! The exact tail: a table looks for weights of the panels seen that make up a remainder. If there are none, the multipliers that refute it
-//! say which further panel to search for. Stands on `faces`, `remainders` and `seen`; `lotteries` calls `tail_of`.
+//! The exact tail: a table looks for weights of the panels seen that make up a remainder. If there are none, the multipliers that refute
+//! the table say which further panel to search for. Stands on `faces`, `remainders`, `rows` and `seen`; `lotteries` calls `tail_of`.
 
 ghost use Rattle.std.specs.Prelude.{◌≡◌, length, IfOk, OnOk};
 ghost use Rattle.proof_table.specs.Sizes.{SameSizes, Spends};
@@ -18,7 +18,7 @@ use std::alloc::Global;
 /// How far a tail may go.
 #[derive(Clone, Copy, Debug)]
 pub(crate) struct TailLimits {
-    /// The greatest entry of the tail's table, in absolute value.
+    /// The greatest absolute value that an entry of the tail's table may have.
     pub(crate) width: Narrow,
     /// How many further panels the tail may search for.
     pub(crate) steps: usize,
@@ -232,8 +232,8 @@ impl PanelMix {
         Ok(Tail::Inside(weights, self.table.denominator()))
     }
 
-    /// Returns a wish for each volunteer, which is minus the multiplier of their row, or 0 if they have no row; and the least sum of wishes
-    /// that some panel of a mix must have: the average sum in the remainder, rounded up.
+    /// Returns a wish for each volunteer, which is minus the multiplier of their row, or 0 if they have no row; and a sum of wishes that at
+    /// least one panel of each mix that makes up the remainder reaches: the average sum in the remainder, rounded up.
     fn wanted(
         &self,
         alloc: Global,

@@ -1,4 +1,4 @@
--- The columns of a pool.
+-- The columns of a pool by class, and by volunteer, satisfy `AreColumns` and `NumberColumns`.
 use Rattle.std.proofs.Common.{◌≡◌, ℕ, ◌+◌, ◌≤◌, ◌<◌, map, length, get_or, ap, ◌∙◌, arith}
 use Rattle.std.specs.List.{All, AllByRecursion}
 use Rattle.std.proofs.lemmas.Bool.{leb-true}

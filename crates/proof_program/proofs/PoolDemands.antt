@@ -1,4 +1,5 @@
--- The constraints of a pool are few, each counts volunteers, and their bounds are in order and at most 999.
+-- A pool has at most 1401 constraints before its first stage. Each counts volunteers, and has a lower bound that is at most the upper one,
+-- which is at most 999.
 use Rattle.std.proofs.Common.{◌≡◌, ℕ, ◌≤◌, ◌<◌, zero, suc, Bool, true, false, cond, eqb, leb, List, [], ◌∷◌, ◌++◌, map, length, get_or, pos, ◌≤ℤ◌, sym, ap, arith, subst}
 use Rattle.std.specs.Prelude.{slice_index}
 use Rattle.std.specs.List.{All, AllByRecursion, enumerate_from, flat_map}
@@ -19,7 +20,7 @@ use Rattle.proof_program.specs.Demands.{AreDemands, HasBounds, constraint_of}
 use Rattle.proof_program.specs.Programs.{quota_constraints}
 use Rattle.define_searches.proofs.Limits.{category_parts, value_parts}
 
--- the bounds are in order and at most 999, and each coefficient is 0 or 1
+-- the lower bound is at most the upper one, which is at most 999, and each coefficient is 0 or 1
 pub record Counts (constraint : Constraint) : Type 0 where
   pub in_order : constraint.lower ≤ℤ constraint.upper
   pub small : constraint.upper ≤ℤ pos 999

@@ -1,4 +1,4 @@
--- What holds of each program of a pool.
+-- `IsProgram` holds of each program of a pool.
 use Rattle.std.proofs.Common.{◌≡◌, ℕ, ◌<◌, List, [], map, filter, length, get_or, ℤ, pos, ◌≤ℤ◌, sym, ap, ◌∙◌, arith, true}
 use Rattle.std.specs.List.{All, enumerate_from}
 use Rattle.std.proofs.lemmas.Bool.{leb-true}

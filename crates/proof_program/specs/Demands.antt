@@ -29,7 +29,7 @@ abbrev pub household_of : Option Class → Option ℕ
 household_of None = None
 household_of (Some class) = class.household
 
--- a column has from 1 to 400 members, and its bounds are in order and at most its size
+-- a column has from 1 to 400 members. Its least count is at most its greatest, which is at most its size
 pub record IsColumn (column : Column) : Type 0 where
   pub has_member : 1 ≤ column.size
   pub few : column.size ≤ 400
@@ -47,11 +47,11 @@ pub record NumberColumns (pool : Pool) (numbers : List ℕ) (columns : List Colu
   pub one_each : length numbers ≡ length pool.volunteers
   pub within : All (λ column. column < length columns) numbers
 
--- the bounds are in order, and at most 999
+-- the lower bound is at most the upper one, which is at most 999
 abbrev pub HasBounds : Demand → Type 0
 HasBounds demand = (demand.lower ≤ demand.upper) × (demand.upper ≤ 999)
 
--- demands with bounds in order, at most 1401 of them, as a pool has no more constraints before its first stage
+-- `HasBounds` holds of each demand, and there are at most 1401, the most constraints of a pool before its first stage
 pub record AreDemands (demands : List Demand) : Type 0 where
   pub few : length demands ≤ 1401
   pub each : All HasBounds demands

@@ -50,7 +50,7 @@ can_break columns (number, constraint) =
     int_lt (sum_over (λ column. column.least) columns constraint) constraint.lower
     || int_lt constraint.upper (sum_over (λ column. column.greatest) columns constraint)
 
--- the rows of the constraints that can be broken, with their numbers, in order
+-- the rows of the constraints that can be broken, with their numbers, in the order of the constraints
 abbrev pub rows_of : List Column → List Constraint → List QuotaRow
 rows_of columns constraints = map (row_of columns) (filter (can_break columns) (enumerate_from 0 constraints))
 

@@ -1,4 +1,5 @@
--- Which pool or bundle a proof is about, and why a run stops. `command_proofs` cites all of it.
+-- Which pool or bundle a proof is about, and why a run stops. The contracts of `runs` and `command_proofs` cite all of it, and
+-- `command_stores` cites `IsOfPool`.
 use Rattle.std.specs.Prelude.{◌≡◌}
 use Rattle.define_additions.specs.ProofVerdict.{OfLottery, OfNoPanel, Proof}
 use Rattle.define_bundles.specs.BundleText.{Bundle}

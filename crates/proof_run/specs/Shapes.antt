@@ -1,4 +1,4 @@
--- The lengths of the lists in a search for panels above caps.
+-- How many columns the table of a `CapSearch` has, and how many spans of rows it keeps. The contracts of `caps` and `trees` cite it.
 use Rattle.std.specs.Prelude.{◌≡◌, length}
 use Rattle.proof_run.specs.declared.caps.CapSearch.{CapSearch}
 

@@ -1,15 +1,16 @@
 //! The searches of `proof_branching` that show that there is no quota panel, or none above the cap of a stage. `trees` and `runs` use this.
 
-ghost use Rattle.std.specs.Prelude.{◌≡◌, ◌<◌, ◌^◌, IfOk, OnOk, length};
+ghost use Rattle.std.specs.Prelude.{◌≡◌, ◌+◌, ◌<◌, ◌^◌, IfOk, OnOk, length};
 ghost use Rattle.proof_limits.specs.Budgets.{SpendsOn};
 ghost use Rattle.proof_run.specs.Shapes.{IsCapSearch};
 
-use proof_branching::{Step, add_weights, prove_empty, reach_of};
-use proof_limits::{Budget, Narrow, ProveStop, Span, narrow_add};
+use proof_branching::{Found, Step, add_weights, prove_empty, reach_of, search_weighing};
+use proof_limits::{Budget, Narrow, ProveStop, Span, narrow_add, times, wide_add};
 use proof_program::Program;
 use proof_stages::{row_spans, table_of};
 use proof_table::Table;
 use std::alloc::Global;
+use std::mem;
 
 /// Returns the steps of the search that shows that there is no quota panel. Stops if there is one.
 pub(crate) fn tree_of_none(
@@ -47,6 +48,13 @@ fn numbers_after(alloc: Global, program: &Program, stages: usize) -> Result<Vec<
     Ok(numbers)
 }
 
+/// A stage whose cap was searched for: a weight for each column, and the cap.
+#[derive(Drop)]
+struct CapRow {
+    weights: Vec<Narrow>,
+    cap: Narrow,
+}
+
 /// The searches for panels above the caps of stages, one stage after the other.
 #[derive(Drop)]
 pub(crate) struct CapSearch<'a> {
@@ -54,10 +62,12 @@ pub(crate) struct CapSearch<'a> {
     program: &'a Program,
     table: Table,
     rows: Vec<Span>,
-    // the numbers of the constraints of the stages searched so far
+    // the numbers of the constraints of the stages whose rows the table has
     stages: Vec<usize>,
     // how many constraints come before those of stages
     quotas: usize,
+    // the stages searched so far
+    closed: Vec<CapRow>,
 }
 
 impl<'a> CapSearch<'a> {
@@ -76,11 +86,12 @@ impl<'a> CapSearch<'a> {
             rows: row_spans(alloc, program, Narrow::ONE)?,
             stages: Vec::new(alloc),
             quotas,
+            closed: Vec::new(alloc),
         })
     }
 
     /// Returns the steps that show the cap of the next stage, or None if a panel is above the cap. Later calls search among the panels that
-    /// attain this cap too.
+    /// attain this cap too. If a number passes 2^62, searches once more with few rows.
     pub(crate) fn tree(
         &mut self,
         weights: &[Narrow],
@@ -91,19 +102,43 @@ impl<'a> CapSearch<'a> {
         ensures search { OnOk result (IsCapSearch self.new) }
         ensures spends { SpendsOn budget.old budget.new }
     {
-        let earlier = self.stages.len();
+        let earlier = self.closed.len();
+        let found = self.steps(earlier, weights, cap, budget);
+        self.closed.push(CapRow {
+            weights: Vec::from_slice(self.alloc, weights)?,
+            cap,
+        })?;
+        match found {
+            Err(ProveStop::Wide(_) | ProveStop::BeyondWidth) => {
+                self.begin_anew()?;
+                self.tree_by_few_rows(earlier, weights, cap, budget)
+            }
+            found => found,
+        }
+    }
+
+    /// Returns the steps that show the cap of a stage after `earlier` earlier ones, within the rows of the table, or None if a panel is above
+    /// the cap. The table gets the row of the stage.
+    fn steps(
+        &mut self,
+        earlier: usize,
+        weights: &[Narrow],
+        cap: Narrow,
+        budget: &mut Budget,
+    ) -> Result<Option<Vec<Step>>, ProveStop>
+        requires search { IsCapSearch self.old }
+        requires earlier { earlier < 2 ^ 63 }
+        ensures search { OnOk result (IsCapSearch self.new) }
+        ensures spends { SpendsOn budget.old budget.new }
+    {
         let mut numbers = numbers_after(self.alloc, self.program, earlier)?;
-        // the row of the weights has a number too, which is not used
-        self.stages.push(self.quotas.saturating_add(earlier))?;
-        numbers.extend_from_slice(&self.stages)?;
         let weight_row = self.rows.len();
-        if weights.len() != self.program.columns() || numbers.len() != weight_row + 1 {
+        // the row of the weights has a number too, which is not used
+        self.add_stage(earlier, weights, span_above(weights, cap)?)?;
+        numbers.extend_from_slice(&self.stages)?;
+        if numbers.len() != weight_row + 1 {
             return Err(ProveStop::Lost);
         }
-        add_weights(self.alloc, &mut self.table, weights)?;
-        let reach = reach_of(weights)?;
-        self.rows
-            .push(Span::reaching(narrow_add(cap.wide(), 1)?, reach))?;
         let steps = prove_empty(
             self.alloc,
             &mut self.table,
@@ -116,4 +151,115 @@ impl<'a> CapSearch<'a> {
         self.rows[weight_row] = Span::point(cap);
         Ok(steps)
     }
+
+    /// Adds the row of a stage to the table.
+    fn add_stage(&mut self, stage: usize, weights: &[Narrow], span: Span) -> Result<(), ProveStop>
+        requires { IsCapSearch self.old }
+        ensures search { OnOk result (IsCapSearch self.new) }
+        ensures rows { OnOk result (length self.new.rows.items ≡ length self.old.rows.items + 1) }
+    {
+        if weights.len() != self.program.columns() {
+            return Err(ProveStop::Lost);
+        }
+        add_weights(self.alloc, &mut self.table, weights)?;
+        self.rows.push(span)?;
+        self.stages.push(self.quotas.saturating_add(stage))?;
+        Ok(())
+    }
+
+    /// Makes a new table with the rows of all stages searched so far, since one where a number passed 2^62 must not be used further.
+    fn begin_anew(&mut self) -> Result<(), ProveStop>
+        ensures { OnOk result (IsCapSearch self.new) }
+    {
+        let mut anew = CapSearch::new(self.alloc, self.program, self.quotas)?;
+        'stages: for (stage, own) in self.closed.iter().enumerate() {
+            anew.add_stage(stage, &own.weights, Span::point(own.cap))?;
+        }
+        mem::swap(&mut anew.closed, &mut self.closed);
+        *self = anew;
+        Ok(())
+    }
+
+    /// Returns the steps that show a cap without the rows of earlier stages, as far as these aren't needed: while a search finds a panel
+    /// above the cap that doesn't attain the cap of an earlier stage, the row of this stage is added. Returns None if a panel that attains
+    /// all earlier caps is above the cap.
+    fn tree_by_few_rows(
+        &self,
+        earlier: usize,
+        weights: &[Narrow],
+        cap: Narrow,
+        budget: &mut Budget,
+    ) -> Result<Option<Vec<Step>>, ProveStop>
+        requires { earlier < 2 ^ 63 }
+        ensures { SpendsOn budget.old budget.new }
+    {
+        let mut few = CapSearch::new(self.alloc, self.program, self.quotas)?;
+        'stages: for _ in 0..=earlier {
+            match few.panel_above(weights, cap, budget)? {
+                Found::Point(panel) => match self.stage_missed(earlier, &panel)? {
+                    Some(stage) => self.lend(stage, &mut few)?,
+                    None => return Ok(None),
+                },
+                Found::Nothing => return few.steps(earlier, weights, cap, budget),
+                Found::Doubt => return Err(ProveStop::Lost),
+            }
+        }
+        Err(ProveStop::Lost)
+    }
+
+    /// Searches for a panel above a cap within the rows of the table.
+    fn panel_above(
+        &mut self,
+        weights: &[Narrow],
+        cap: Narrow,
+        budget: &mut Budget,
+    ) -> Result<Found, ProveStop>
+        requires { IsCapSearch self.old }
+        ensures search { OnOk result (IsCapSearch self.new) }
+        ensures spends { SpendsOn budget.old budget.new }
+    {
+        if weights.len() != self.program.columns() {
+            return Err(ProveStop::Lost);
+        }
+        search_weighing(
+            self.alloc,
+            &mut self.table,
+            self.program.spans(),
+            &self.rows,
+            weights,
+            span_above(weights, cap)?,
+            u64::MAX,
+            budget,
+        )
+    }
+
+    /// Returns the first of the `earlier` stages whose cap a panel doesn't attain.
+    fn stage_missed(&self, earlier: usize, panel: &[Narrow]) -> Result<Option<usize>, ProveStop> {
+        for (stage, own) in self.closed.iter().enumerate().take(earlier) {
+            let mut weight = 0;
+            for (one, value) in own.weights.iter().zip(panel) {
+                weight = wide_add(weight, times(*one, *value))?;
+            }
+            if weight != own.cap.wide() {
+                return Ok(Some(stage));
+            }
+        }
+        Ok(None)
+    }
+
+    /// Adds the row of a stage searched so far to another search.
+    fn lend(&self, stage: usize, few: &mut CapSearch<'_>) -> Result<(), ProveStop>
+        requires { IsCapSearch few.old }
+        ensures { OnOk result (IsCapSearch few.new) }
+    {
+        match self.closed.get(stage) {
+            Some(own) => few.add_stage(stage, &own.weights, Span::point(own.cap)),
+            None => Err(ProveStop::Lost),
+        }
+    }
+}
+
+/// Returns the span of the weights above a cap that panels can have.
+fn span_above(weights: &[Narrow], cap: Narrow) -> Result<Span, ProveStop> {
+    Ok(Span::reaching(narrow_add(cap.wide(), 1)?, reach_of(weights)?))
 }

@@ -13,9 +13,9 @@ use bundle_text::Bundle;
 use pool_model::Pool;
 use proof_limits::{Budget, Limit, ProveStop};
 use proof_model::Proof;
-use proof_peeling::{PanelRows, Peeled, WeightedPanel, lottery_of_point};
+use proof_peeling::{PanelRows, Peeled, WeightedPanel, lottery_noting, mix_of};
 use proof_program::Program;
-use proof_stages::{Chances, ClassStage, Columned, Relaxed, column_stages, relaxed_stages};
+use proof_stages::{Chances, ClassStage, Columned, Relaxed, column_stages_from, relaxed_stages};
 use std::alloc::Global;
 
 /// Makes a proof of a lottery over a pool's quota panels, or that there is no quota panel, within a budget. `proof_verify` decides whether
@@ -69,14 +69,17 @@ fn made(alloc: Global, pool: &Pool, budget: &mut Budget) -> Result<Proof, ProveS
     match relaxed_stages(alloc, &programs.by_class, budget)? {
         Relaxed::Empty => of_no_panel(alloc, pool, &programs, budget),
         Relaxed::Settled(stages, chances, is_tight) => {
+            let mut known = Vec::new(alloc);
             if is_tight {
                 let rows = PanelRows::new(alloc, &programs.by_volunteer, &programs.by_class, &[])?;
-                let found = lottery_of_chances(alloc, pool, &programs, &rows, &chances, budget)?;
+                let found = lottery_of_chances(
+                    alloc, pool, &programs, &rows, &chances, &mut known, budget,
+                )?;
                 if let Peeled::Found(panels) = found {
                     return of_lottery(alloc, pool, &programs, stages, &panels, budget);
                 }
             }
-            by_compositions(alloc, pool, &programs, budget)
+            by_compositions(alloc, pool, &programs, &mut known, budget)
         }
     }
 }
@@ -86,16 +89,22 @@ fn by_compositions(
     alloc: Global,
     pool: &Pool,
     programs: &Programs,
+    known: &mut Vec<Vec<i64>>,
     budget: &mut Budget,
 ) -> Result<Proof, ProveStop>
     ensures about { IfOk result (IsOfPool pool.now) }
     ensures spends { SpendsOn budget.old budget.new }
 {
-    match column_stages(alloc, &programs.by_class, budget)? {
+    match column_stages_from(alloc, &programs.by_class, known, budget)? {
         Columned::Empty => of_no_panel(alloc, pool, programs, budget),
         Columned::Settled(stages, chances) => {
             let rows = PanelRows::new(alloc, &programs.by_volunteer, &programs.by_class, &stages)?;
-            match lottery_of_chances(alloc, pool, programs, &rows, &chances, budget)? {
+            let classes = &programs.by_class;
+            let mixed = mix_of(alloc, &rows, classes, &chances, known, budget)?;
+            if let Peeled::Found(panels) = mixed {
+                return of_lottery(alloc, pool, programs, stages, &panels, budget);
+            }
+            match lottery_of_chances(alloc, pool, programs, &rows, &chances, known, budget)? {
                 Peeled::Found(panels) => {
                     of_lottery(alloc, pool, programs, stages, &panels, budget)
                 }
@@ -112,12 +121,22 @@ fn lottery_of_chances(
     programs: &Programs,
     rows: &PanelRows,
     chances: &Chances,
+    known: &mut Vec<Vec<i64>>,
     budget: &mut Budget,
 ) -> Result<Peeled, ProveStop>
     ensures { SpendsOn budget.old budget.new }
 {
     let (single, classes) = (&programs.by_volunteer, &programs.by_class);
-    lottery_of_point(alloc, single, rows, classes, chances, pool.size(), budget)
+    lottery_noting(
+        alloc,
+        single,
+        rows,
+        classes,
+        chances,
+        pool.size(),
+        known,
+        budget,
+    )
 }
 
 /// Makes the proof of a lottery with its stages.

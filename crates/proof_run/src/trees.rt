@@ -1,4 +1,5 @@
-//! The trees of a proof, whose lines are made of the steps of a search or of a refutation. Stands on `caps`; `runs` uses this.
+//! The trees of a proof, whose lines are made of the steps of a search or of a refutation. Stands on `caps` and `programs`; `runs` uses
+//! this.
 
 ghost use Rattle.proof_limits.specs.Budgets.{SpendsOn};
 ghost use Rattle.proof_run.specs.Shapes.{IsCapSearch};

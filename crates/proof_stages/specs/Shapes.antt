@@ -1,4 +1,4 @@
--- The lengths of the lists of a finder and of a mix of compositions.
+-- How many columns and rows a `Finder` and a `CompositionMix` have. The contracts of `finders`, `mixes` and `columned` cite it.
 use Rattle.std.specs.Prelude.{◌≡◌, ◌+◌, ℕ, length}
 use Rattle.proof_stages.specs.declared.finders.Finder.{Finder}
 use Rattle.proof_stages.specs.declared.mixes.CompositionMix.{CompositionMix}

@@ -1,5 +1,5 @@
 //! The chances of columns, which stages settle one after the other. Stands on `fractions`; both searches for stages keep their state here,
-//! and `proof_peeling` reads it. The contracts promise exactly which columns have which chances.
+//! `proof_run` passes it on, and `proof_peeling` reads it. The contracts promise exactly which columns have which chances.
 
 ghost use Rattle.std.specs.Prelude.{◌≡◌, ◌↔◌, IsTrue, ◌<◌, ◌≤ℤ◌, pos, length, replicate, slice_index_or, slice_set, None, Some, IsSome, IfOk, OnErr, OnOk};
 ghost use Rattle.std.specs.List.{All};
@@ -71,6 +71,15 @@ impl Chances {
         self.common = self.common_with(chance)?;
         self.chances[column] = Some(chance);
         Ok(())
+    }
+
+    /// Settles a column's chance, if there is such a column.
+    pub(crate) fn settle_at(&mut self, column: usize, chance: Chance) -> Result<(), ProveStop> {
+        if column < self.chances.len() {
+            self.settle(column, chance)
+        } else {
+            Err(ProveStop::Lost)
+        }
     }
 
     /// Returns the least common multiple of the common multiple and a chance's denominator. It is at least 1.

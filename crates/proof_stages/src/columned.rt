@@ -1,6 +1,6 @@
 //! Stages over compositions, by column generation: if the known compositions don't give a level, the multipliers of their table are the
-//! weights for the search for a further composition. Stands on `finders`, `mixes` and `levels`; `proof_run` calls `column_stages` if it
-//! finds no lottery of the relaxation's point. Promise: nothing of the budget is given back.
+//! weights for the search for a further composition. Stands on `finders`, `mixes`, `levels`, `chances`, `fractions` and `class_stages`;
+//! `proof_run` calls `column_stages` if it finds no lottery with the relaxation's chances. Promise: nothing of the budget is given back.
 
 ghost use Rattle.std.specs.Prelude.{◌≡◌, ◌<◌, IfOk, OnOk, length};
 ghost use Rattle.proof_stages.specs.Shapes.{IsFinder, IsCompositionMix};
@@ -12,6 +12,7 @@ use crate::finders::Finder;
 use crate::fractions::Chance;
 use crate::levels::{WeightSums, weight_sums};
 use crate::mixes::{CompositionMix, weight_of};
+use crate::quick::quick_stages;
 use proof_branching::ceiling;
 use proof_limits::{Budget, Narrow, ProveStop, narrow_add, wide_add, wide_mul};
 use proof_program::Program;
@@ -25,6 +26,25 @@ pub enum Columned {
     Empty,
     /// The stages, and each column's chance.
     Settled(Vec<ClassStage>, Chances),
+}
+
+/// Finds the stages of a pool over its compositions, of which some are known: each has a count for each column. Adds those that it finds.
+/// The contract leaves the stages open, since each proof is verified before it is printed.
+pub fn column_stages_from(
+    alloc: Global,
+    program: &Program,
+    known: &mut Vec<Vec<i64>>,
+    budget: &mut Budget,
+) -> Result<Columned, ProveStop>
+    ensures { SpendsOn budget.old budget.new }
+{
+    match quick_stages(alloc, program, known, budget) {
+        Ok(Some(found)) => Ok(found),
+        Ok(None) | Err(ProveStop::Wide(_) | ProveStop::BeyondWidth | ProveStop::Lost) => {
+            column_stages(alloc, program, budget)
+        }
+        Err(stop) => Err(stop),
+    }
 }
 
 /// Finds the stages of a pool over its compositions. The contract leaves the stages open, since each proof is verified before it is

@@ -1,7 +1,7 @@
 //! The stages of a pool, found in two ways. The relaxation (`relaxed`) uses points instead of panels: a stage comes from a refuted program,
 //! whose multipliers are a leaf that shows the cap. If the relaxation's point is no mix of panels, column generation (`columned`) finds
 //! stages over compositions; trees show their caps. Stands on `proof_program`, `proof_branching`, `proof_table` and `proof_limits`;
-//! `proof_peeling`, `proof_run`, `quota_conflicts` and `loosening_by_proof` stand on it.
+//! `proof_peeling`, `proof_run`, `quota_conflicts` and `loosening_by_proof` stand on it, and `engine_tests` tests it.
 //!
 //! Promises: each call is safe and ends, gives nothing of the budget back, and `Chances` has exactly the chances that were settled. The
 //! stages themselves are no promise: `proof_verify` tests each proof.
@@ -14,13 +14,17 @@ mod finders;
 mod fractions;
 mod levels;
 mod mixes;
+mod quick;
 mod refuted;
 mod relaxed;
+mod searches;
 mod tables;
+mod wholes;
 
 pub use chances::Chances;
 pub use class_stages::ClassStage;
-pub use columned::{Columned, column_stages};
+pub use columned::{Columned, column_stages, column_stages_from};
 pub use fractions::Chance;
 pub use relaxed::{Relaxed, relaxed_stages};
+pub use searches::CompositionSearch;
 pub use tables::{row_spans, table_of};

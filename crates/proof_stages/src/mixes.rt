@@ -12,7 +12,7 @@ use std::alloc::Global;
 /// The greatest pseudo-random number in the goal of the table. Each composition has such a number there, which breaks ties.
 const MOST_TIE_BREAK: u64 = 64;
 
-/// A composition, and whether it weighs less than the cap of a closed stage; then later mixes don't use it.
+/// A composition, and whether it weighs less than the cap of a closed stage; if so, the mix gives it no weight any more.
 #[derive(Debug, Drop)]
 struct Known {
     counts: Vec<Narrow>,

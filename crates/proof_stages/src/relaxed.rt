@@ -1,5 +1,6 @@
 //! Stages by the relaxation of the quotas: points take the place of panels, so that quotas are met on average. Stands on `refuted`,
-//! `levels` and `class_stages`; `proof_run` calls `relaxed_stages` first. Promise: nothing of the budget is given back.
+//! `levels`, `chances`, `fractions`, `class_stages` and `tables`; `proof_run` calls `relaxed_stages` first. Promise: nothing of the budget
+//! is given back.
 
 ghost use Rattle.std.specs.Prelude.{◌≡◌, ◌<◌, ◌^◌, length, IfOk, IfSome};
 ghost use Rattle.proof_table.specs.Sizes.{SameSizes, Spends};
@@ -41,6 +42,20 @@ pub fn relaxed_stages(
     if !table.run(program.spans(), &rows, budget)? {
         return Ok(Relaxed::Empty);
     }
+    settled(alloc, program, &mut table, budget)
+}
+
+/// Finds the stages of a table's program, which some point meets.
+fn settled(
+    alloc: Global,
+    program: &Program,
+    table: &mut Table,
+    budget: &mut Budget,
+) -> Result<Relaxed, ProveStop>
+    requires rows { table.old.rows ≡ length program.now.rows }
+    requires columns { table.old.columns ≡ length program.now.firsts }
+    ensures { SpendsOn budget.old budget.new }
+{
     let mut chances = Chances::unsettled(alloc, program.columns())?;
     let mut stages = Vec::new(alloc);
     let mut is_tight = true;
@@ -49,7 +64,7 @@ pub fn relaxed_stages(
         if chances.are_settled() {
             return Ok(Relaxed::Settled(stages, chances, is_tight));
         }
-        let found = stage(alloc, program, &chances, &mut table, earlier, budget)?;
+        let found = stage(alloc, program, &chances, table, earlier, budget)?;
         is_tight = is_tight && found.is_tight;
         settle(&mut chances, &found.stage.weights, found.chance)?;
         stages.push(found.stage)?;

@@ -1,5 +1,6 @@
-//! The table of a program, and the spans of its rows. Stands on `proof_table`; `relaxed`, `finders` and `proof_run` use both calls.
-//! The contracts promise how many rows and columns the table has, and how many spans there are.
+//! The table of a program, and the spans of its rows. Stands on `proof_table`; `relaxed`, `finders`, `proof_run` and `loosening_by_proof`
+//! use both calls, and `quota_conflicts` uses `table_of`. The contracts promise how many rows and columns the table has, and how many spans
+//! there are.
 
 ghost use Rattle.std.specs.Prelude.{◌≡◌, length, IfOk};
 

@@ -2,11 +2,12 @@
 //! a point that keeps all spans, or multipliers of the rows that refute it. All its numbers are whole: each row's variable times the
 //! denominator is the sum of the row's entries times the variables that are not basic. Stands on `proof_limits` and `frac128`;
 //! `proof_branching`, `proof_stages`, `proof_peeling`, `proof_run`, `quota_conflicts` and `loosening_by_proof` stand on it.
-//! Promises: each call is safe, ends, changes the sizes and spends as its clauses say, and each stop is right. That a point or a refutation
-//! is right is no promise: the callers test points, and `proof_verify` tests proofs.
+//! Promises: each call is safe and ends; it changes the sizes, spends and stops only as its clauses say. That a point or a refutation is
+//! right is no promise: the callers test points, and `proof_verify` tests proofs.
 #![tactic(auto)]
 
 mod candidates;
+mod coefficients;
 mod combining;
 mod divisors;
 mod eliminating;

@@ -1,4 +1,4 @@
-//! The spans of one run, by variable. `slots`, `candidates` and `worst` look them up here.
+//! The spans of one run, by variable. `table` makes a `Spans` for each run; `slots`, `candidates` and `worst` look spans up in it.
 
 use crate::variables::Variable;
 use proof_limits::{Narrow, Span};

@@ -4,10 +4,11 @@
 ghost use Rattle.std.specs.Prelude.{◌<◌, length, IfOk, IfErr, IfSome};
 ghost use Rattle.proof_limits.specs.Stops.{IsWideOrMemory};
 
+use crate::combining::product;
 use crate::rows::TableRow;
 use crate::spans::Spans;
 use crate::variables::Variable;
-use proof_limits::{Narrow, ProveStop, Span, times, wide_add, wide_sub};
+use proof_limits::{Narrow, ProveStop, Span, times, wide_add, wide_mul, wide_sub};
 
 // A row whose basic variable is out of its span, and by how much, times the denominator.
 #[derive(Clone, Copy)]
@@ -23,21 +24,28 @@ pub(crate) struct Worst {
 pub(crate) enum Rule {
     // the row that is farthest out of its span, and the slot by ratios
     Farthest,
-    // the row of the least variable that is out of its span, and the least candidate, so that no basis comes twice
+    // the row of the least variable that is out of its span, and the least candidate, so that no basis occurs twice
     Least,
 }
 
-// Returns the value of a basic variable times the denominator.
-fn row_value(entries: &[Narrow], values: &[Narrow]) -> Result<i128, ProveStop>
+// Returns the value of a row's basic variable times the denominator. `excesses` has a number for each place, and `sums` the sum of each row
+// over the columns that are not basic.
+fn row_value(
+    row: &TableRow,
+    excesses: &[Narrow],
+    sums: &[i128],
+    denominator: Narrow,
+) -> Result<i128, ProveStop>
     ensures { IfErr result IsWideOrMemory }
 {
-    let mut sum = 0;
-    for slot in 0..entries.len().min(values.len()) {
-        if !entries[slot].is_zero() && !values[slot].is_zero() {
-            sum = wide_add(sum, times(entries[slot], values[slot]))?;
+    let moved = product(&row.entries, excesses)?;
+    match row.basic {
+        Variable::Row(number) => {
+            let sum = sums.get(number.0).copied().unwrap_or(0);
+            wide_add(moved, wide_mul(denominator.wide(), sum)?)
         }
+        Variable::Column(_) => Ok(moved),
     }
-    Ok(sum)
 }
 
 // Returns by how much a value is out of its span, times the denominator, or a number of at most 0 if the value is inside. The flag is true
@@ -64,7 +72,8 @@ fn is_before(rule: Rule, variable: Variable, need: i128, so_far: &Option<Worst>)
 // Writes the value of each row, and picks a row whose variable is out of its span, if there is one.
 pub(crate) fn find_worst(
     rows: &mut [TableRow],
-    values: &[Narrow],
+    excesses: &[Narrow],
+    sums: &[i128],
     spans: &Spans,
     denominator: Narrow,
     rule: Rule,
@@ -74,7 +83,7 @@ pub(crate) fn find_worst(
 {
     let mut found = None;
     for row in 0..rows.len() {
-        let value = row_value(&rows[row].entries, values)?;
+        let value = row_value(&rows[row], excesses, sums, denominator)?;
         rows[row].value = value;
         let variable = rows[row].basic;
         let (need, is_below) = distance(value, spans.of(variable), denominator)?;

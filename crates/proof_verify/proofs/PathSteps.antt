@@ -27,7 +27,8 @@ module _ (pool : Pool) (decisions : List Decision) (kept : List Standing) where
   abbrev path : Path
   path = record { pool = pool; decisions = reverse decisions }
 
-  -- if the kept standings are right and a volunteer is undecided, setting this volunteer's standing keeps them right for one more decision
+  -- if `KeepsStandings` holds and a volunteer is undecided, it still holds after a decision on this volunteer is added and the kept
+  -- standing set
   pub keeps_more : (i : ℕ) (is_in : Bool) (one : Decision) (all : List Decision) → KeepsStandings path kept → is_undecided (reached path) i ≡ true → one ≡ record { volunteer = i; is_in = is_in } → all ≡ decisions ++ one ∷ [] →
       KeepsStandings (record { pool = pool; decisions = reverse all }) (set kept i (decided_standing is_in))
   keeps_more i is_in one all keeps free is e =
@@ -39,7 +40,7 @@ module _ (pool : Pool) (decisions : List Decision) (kept : List Standing) where
         undecided = and_from (is_undecided (reached path) i) (each_undecided (standings pool) (reverse decisions)) free keeps.undecided;
       })
 
--- if the kept standings are right, they stay right when the latest decision is undone
+-- if `KeepsStandings` holds, it still holds after the latest decision is undone
 module _ (pool : Pool) (decisions rest : List Decision) (one : Decision) (kept : List Standing) (e : decisions ≡ rest ++ one ∷ [])
     (keeps : KeepsStandings (record { pool = pool; decisions = reverse decisions }) kept) where
   abbrev before : Path

@@ -10,7 +10,7 @@ ghost use Rattle.define_pool_texts.specs.PoolText.{category_lines};
 use pool_model::{Answer, Category, Pool, Standing, Volunteer};
 use std::alloc::AllocError;
 
-/// Returns `number + count`, or out of memory if the sum does not fit a `usize`: such a long text does not fit memory.
+/// Returns `number + count`, or out of memory if the sum does not fit a `usize`: a text with that many lines would not fit memory.
 pub(crate) fn after(number: usize, count: usize) -> Result<usize, AllocError>
     ensures { IfOk result (λ sum. sum ≡ number + count) }
 {
@@ -27,7 +27,7 @@ pub(crate) fn bundle_line_count(pool: &Pool, answer: &Answer) -> Result<usize, A
     let rows = answer.lottery().rows().len();
     let stages = answer.certificate().stages().len();
     let before = pool_line_count(pool)?;
-    // the first line, and the line of the total
+    // The 2 further lines are the bundle's first, and the line of the total.
     let with_total = after(before, 2)?;
     after(after(with_total, rows)?, stages)
 }
@@ -38,7 +38,7 @@ pub(crate) fn pool_line_count(pool: &Pool) -> Result<usize, AllocError>
 {
     let volunteers = pool.volunteers();
     let categories = category_line_count(pool.categories())?;
-    // the first two lines, and the last
+    // The 3 further lines are the pool's first two, and its last.
     let with_volunteers = after(after(categories, 3)?, volunteers.len())?;
     let with_households = after(with_volunteers, household_count(volunteers))?;
     after(with_households, decided_count(volunteers))

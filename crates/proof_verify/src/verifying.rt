@@ -31,7 +31,7 @@ use std::alloc::{AllocError, Global};
 const MAX_REACH: u128 = 72_057_594_037_927_936;
 
 /// Returns whether a proof is valid, or why it is refused. The lottery of a valid proof is leximin greatest. If a valid proof says that a
-/// pool has no quota panel, it has none.
+/// pool has no quota panel, the pool has none.
 pub fn verify(alloc: Global, proof: &Proof) -> Result<Verdict, AllocError>
     ensures answer { IfOk result (λ verdict. verdict ≡ verdict_of proof.now) }
     ensures greatest { IfOk result (λ verdict. verdict ≡ Valid → (pool : SeenPool) (answer : SeenAnswer) (trees : List (List SeenLine)) →
@@ -62,7 +62,7 @@ fn of_lottery(
         return Ok(verdict);
     }
     let before = bundle_line_count(pool, answer)?;
-    // counted too: the proof's first line, the bundle's last, the line that begins the tree, and the tree's first
+    // The 4 further lines are the proof's first, the bundle's last, the one that begins the tree, and the tree's first.
     let first = after(before, 4)?;
     let course = Course::begin(alloc, pool, answer)?;
     stages_verdict(alloc, course, answer.certificate().stages(), first, trees)
@@ -159,7 +159,7 @@ fn of_no_panel(alloc: Global, pool: &Pool, lines: &[TreeLine]) -> Result<Verdict
     let constraints = Constraints::of_first(alloc, pool)?;
     let stage = no_panel(alloc, pool)?;
     let before = pool_line_count(pool)?;
-    // counted too: the proof's first line, the line `none`, the line that begins the tree, and the tree's first
+    // The 4 further lines are the proof's first, the line `none`, the one that begins the tree, and the tree's first.
     let first = after(before, 4)?;
     let problem = Problem::new(constraints.rows(), &stage);
     match tree_fault(alloc, &problem, pool, first, lines)? {

@@ -4,7 +4,7 @@ use Rattle.std.specs.List.{range_with_len}
 use Rattle.std.proofs.lemmas.List.Sums.{sum_by-append}
 use Rattle.laws_basic.proofs.Lists.{numbers_more}
 
--- the next number adds one if it passes, and else nothing
+-- number `n` adds 1 to the count if it passes `p`, and else nothing
 pub counted_more : (p : ℕ → Bool) (n : ℕ) → count_by p (range_with_len 0 (n + 1)) ≡ count_by p (range_with_len 0 n) + cond (p n) 1 0
 counted_more p n =
     ap (count_by p) (numbers_more n) ∙ sum_by-append (λ k. cond (p k) 1 0) (range_with_len 0 n) (n ∷ [])

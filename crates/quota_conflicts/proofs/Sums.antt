@@ -6,7 +6,7 @@ use Rattle.std.proofs.lemmas.List.{take_all}
 use Rattle.std.proofs.lemmas.List.Sums.{sum_by_more}
 use Rattle.laws_basic.proofs.Lists.{get_or-enumerate_from, length-enumerate_from}
 
--- one more element adds its value
+-- taking one more element, which is element `k`, adds its value to the sum
 pub one_more : {X : Type 0} (f : ℕ × X → ℕ) (xs : List X) (k : ℕ) (d : X) → k < length xs →
     sum_by f (take (k + 1) (enumerate_from 0 xs)) ≡ sum_by f (take k (enumerate_from 0 xs)) + f (k, get_or xs k d)
 one_more f xs k d l =

@@ -1,4 +1,4 @@
--- The sizes of a search's table.
+-- A search's table has the columns and rows of its program. The contracts of src/searches.rt, src/shrinking.rt and src/answers.rt cite it.
 use Rattle.std.specs.Prelude.{◌≡◌, length}
 use Rattle.quota_conflicts.specs.declared.searches.Search.{Search}
 

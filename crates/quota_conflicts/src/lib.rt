@@ -3,9 +3,9 @@
 //! `proof_model`, and on the definitions of `define_conflicts`. `command_why` stands on it, and `loosening_by_proof` on its sums.
 //!
 //! Promises: what `why` returns is checked by this crate itself, by adding and comparing whole numbers (`misses`, `covers`). So whatever
-//! the search did, a conflict is right, and a panel is a quota panel. `conflict_text` writes exactly the text of a conflict. Which of
-//! several conflicts is found is no promise. `asked` and `given` are exactly the sums of the definitions if they fit. All that is promised
-//! of `counted_by_number` and `selection_of`, which serve searches, is that they are safe.
+//! the search did, the quotas of a conflict can't be met together, and a panel is a quota panel. `conflict_text` writes exactly the text of
+//! a conflict. Which of several conflicts is found is no promise. `asked` and `given` are exactly the sums of the definitions if they fit.
+//! All that is promised of `counted_by_number` and `selection_of`, which serve searches, is that they are safe.
 #![tactic(auto)]
 
 mod answers;

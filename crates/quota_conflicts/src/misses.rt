@@ -1,7 +1,7 @@
 //! What weighted quotas ask for and what can be given, and so by how many people each selection misses them at least. Whole numbers of at
 //! least 0 are multiplied, added and compared. If a sum doesn't fit its type, the result is None. `covers` and `checks` use `least_miss`.
 
-ghost use Rattle.std.specs.Prelude.{◌≡◌, ◌≤◌, ◌<◌, ◌*◌, length, nat_le, IfSome, IsTrue};
+ghost use Rattle.std.specs.Prelude.{◌≡◌, ◌≤◌, ◌<◌, ◌-◌, ◌*◌, ◌/◌, ℕ, length, nat_le, IfSome, IsTrue};
 ghost use Rattle.std.specs.List.{list_all};
 ghost use Rattle.define_conflicts.specs.LeastMisses.{asked as asked_of, given as given_of, given_by as given_by_one, is_side as is_same_side, quotas_of, taken_by as taken_by_one, weighed_bound as weighed_bound_of, weighed_bounds as weighed_bounds_of, weights_for as weights_for_one};
 ghost use Rattle.define_conflicts.specs.Quotas.{MissAt};
@@ -11,7 +11,7 @@ use define_conflicts::{Side, WeightedQuota, asking_more_misses};
 use pool_model::{Pool, Standing};
 
 /// Returns a number of people by which each selection that keeps the standings misses the quotas at least: what is asked less what can be
-/// given, over the greatest weight, rounded up. Returns None if no more is asked than can be given, or if a sum doesn't fit.
+/// given, over the greatest weight, rounded up. Returns None if what is asked is at most what can be given, or if a sum doesn't fit.
 pub(crate) fn least_miss(
     pool: &Pool,
     weighted: &[WeightedQuota],
@@ -35,16 +35,18 @@ pub(crate) fn least_miss(
 pub fn times_below(more: usize, greatest: usize) -> usize
     requires some { 1 ≤ more }
     requires greatest { 1 ≤ greatest }
+    ensures exact { result ≡ (more - 1) / greatest }
     ensures less { greatest * result < more }
     ensures few { result < more }
 {
     (more - 1) / greatest
 }
 
-/// Returns the greatest weight, or 1 if all weights are 0.
+/// Returns the greatest weight, or 1 if all weights are 0: the least number of at least 1 that no weight is above.
 pub fn greatest_weight(weighted: &[WeightedQuota]) -> usize
     ensures light { IsTrue (list_all (λ it. nat_le it.weight result) weighted.now) }
     ensures some { 1 ≤ result }
+    ensures least { (bound : ℕ) → 1 ≤ bound → IsTrue (list_all (λ it. nat_le it.weight bound) weighted.now) → result ≤ bound }
 {
     let mut greatest = 1;
     for it in weighted {
@@ -53,7 +55,8 @@ pub fn greatest_weight(weighted: &[WeightedQuota]) -> usize
     greatest
 }
 
-/// Returns what is asked of a selection that keeps the standings, or None if that doesn't fit.
+/// Returns what is asked of a selection that keeps the standings: the least numbers, each times its quota's weight, and for each seated
+/// volunteer the weights of the quotas with greatest numbers that count this volunteer. Returns None if the sum doesn't fit.
 pub fn asked(pool: &Pool, weighted: &[WeightedQuota], standings: &[Standing]) -> Option<usize>
     requires { length standings.now ≡ length pool.now.volunteers }
     ensures { IfSome result (λ sum. sum ≡ asked_of pool.now weighted.now standings.now) }
@@ -66,7 +69,8 @@ pub fn asked(pool: &Pool, weighted: &[WeightedQuota], standings: &[Standing]) ->
     weighed_bounds(pool, Side::AtLeast, weighted)?.checked_add(taken)
 }
 
-/// Returns the most that a selection that keeps the standings can give, or None if that doesn't fit.
+/// Returns the most that a selection that keeps the standings can give: the greatest numbers, each times its quota's weight, and for each
+/// volunteer what `given_by` returns. Returns None if the sum doesn't fit `usize`.
 pub fn given(pool: &Pool, weighted: &[WeightedQuota], standings: &[Standing]) -> Option<usize>
     requires { length standings.now ≡ length pool.now.volunteers }
     ensures { IfSome result (λ sum. sum ≡ given_of pool.now weighted.now standings.now) }
@@ -80,7 +84,8 @@ pub fn given(pool: &Pool, weighted: &[WeightedQuota], standings: &[Standing]) ->
     weighed_bounds(pool, Side::AtMost, weighted)?.checked_add(all)
 }
 
-/// Returns what a volunteer takes from every selection. `most` is the sum of the weights of the `AtMost` quotas that count the volunteer.
+/// Returns what a volunteer takes from every selection: `most` if the volunteer is seated, else 0. `most` is the sum of the weights of the
+/// `AtMost` quotas that count the volunteer.
 fn taken_by(standing: Standing, most: usize) -> usize
     ensures { result ≡ taken_by_one standing most }
 {
@@ -90,8 +95,8 @@ fn taken_by(standing: Standing, most: usize) -> usize
     }
 }
 
-/// Returns the most that a volunteer gives to a selection. `least` and `most` are the sums of the weights of the `AtLeast` and of the
-/// `AtMost` quotas that count the volunteer.
+/// Returns the most that a volunteer gives to a selection: `least` less `most`, but at least 0, if the volunteer is open; `least` if
+/// seated; 0 if gone. `least` and `most` are the sums of the weights of the `AtLeast` and of the `AtMost` quotas that count the volunteer.
 fn given_by(standing: Standing, least: usize, most: usize) -> usize
     ensures { result ≡ given_by_one standing least most }
 {

@@ -1,4 +1,4 @@
--- A pool that is built of right categories, one by one, and value by value.
+-- A pool that is built by adding categories that pass `is_category`, one by one, and their values, one by one.
 use Rattle.std.proofs.Common.{◌≡◌, ℕ, zero, suc, ◌+◌, ◌≤◌, ◌<◌, true, false, eqb, leb, not, ◌&&◌, ◌||◌, List, [], ◌∷◌, ◌++◌, map, length, length-append, get_or, take, drop, None, refl, sym, ap, ◌∙◌, arith}
 use Rattle.std.specs.List.{list_all, list_any}
 use Rattle.std.specs.Str.{bytes_eq, is_utf8}
@@ -50,7 +50,7 @@ category_is_new size categories i d few different each inside =
     let few : leb 20 (length (take i categories)) ≡ false = lt-leb 20 (length (take i categories)) (omega (arith, length-take i categories)) in
     rw (new, limits, few) refl
 
--- ---- a value that is added has no kind of fault, and the pool after it
+-- ---- a value that is added has no kind of fault; the pool after it is added
 
 last_values-push : (categories : List Category) (category : Category) → last_values (categories ++ category ∷ []) ≡ category.values
 last_values-push [] category = refl

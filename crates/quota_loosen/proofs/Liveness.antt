@@ -39,7 +39,7 @@ sums_equal f g xs d h =
     ∙ terms_equal f g 0 xs d (λ i l. let s : i ≡ 0 + i = omega arith in subst (λ k. f (k, get_or xs i d) ≡ g (k, get_or xs i d)) s (h i l))
     ∙ sym (sum_by-is-total g (enumerate_from 0 xs))
 
--- how far the cells surely miss the bounds is the front's sure cost
+-- `missed_in_all` of the tally's cells is the front's sure cost
 pub missed_is_cost : (all : Classes) (front : List ℕ) (tally : FrontTally) → KeepsLimits all → Tracks all front (drop (length front) all.classes) tally →
     missed_in_all all.bounds tally.held tally.later ≡ sure_cost all front
 missed_is_cost all front tally limits tracks =

@@ -1,4 +1,4 @@
--- What `loosen` answers. Builds on CostSearch and Loosenings of `define_loosenings`.
+-- What `loosen` answers. Builds on CostSearch and Loosenings of `define_loosenings`. The contract of `loosen` cites it.
 use Rattle.std.specs.Prelude.{◌≡◌, ◌≤◌, ◌<◌, ℕ, Option, Result, Ok, Err}
 use Rattle.define_loosenings.specs.CostSearch.{cheapest_search}
 use Rattle.define_loosenings.specs.Loosenings.{Loosening, least_loosening}

@@ -1,4 +1,4 @@
--- The tally of the front that a search is at, as the record that `laws_of_fronts` speaks of.
+-- The code's tally of the front that a search is at, as the record `FrontTally` of `laws_of_fronts`.
 use Rattle.std.specs.Prelude.{ℕ, List}
 use Rattle.define_searches.specs.Classes.{Class, Classes}
 use Rattle.laws_of_fronts.specs.Front as laws

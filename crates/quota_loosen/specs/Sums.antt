@@ -6,7 +6,7 @@ use Rattle.define_loosenings.specs.Costs.{surely_missed}
 use Rattle.define_searches.specs.declared.Bounds.{Bounds}
 use Rattle.laws_of_fronts.specs.Tallies.{cell}
 
--- the bounds of each value are in order and at most 999
+-- each value's lower bound is at most its upper bound, which is at most 999
 abbrev pub AreLimited : List (List Bounds) → Type 0
 AreLimited bounds = All (λ values. All (λ bound. (bound.lower ≤ bound.upper) × (bound.upper ≤ 999)) values) bounds
 
@@ -14,11 +14,12 @@ AreLimited bounds = All (λ values. All (λ bound. (bound.lower ≤ bound.upper)
 abbrev pub AreSmallIn : ℕ → List ℕ → Type 0
 AreSmallIn category cells = (v : ℕ) → v < 50 → slice_index cells (cell category v) ≤ 1000000
 
--- how far the values of a category miss their bounds at least, with the numbers in `held` and the most that is still to come in `later`
+-- the least sum by which the values of a category will miss their bounds, if `held` has their numbers so far, and `later` the most that
+-- may be added
 abbrev pub missed_in : List Bounds → List ℕ → List ℕ → ℕ → ℕ
 missed_in values held later category =
     sum_by (λ (v, bound). surely_missed bound (slice_index held (cell category v)) (slice_index later (cell category v))) (enumerate_from 0 values)
 
--- how far all values miss their bounds at least
+-- the sum of `missed_in` over all categories
 abbrev pub missed_in_all : List (List Bounds) → List ℕ → List ℕ → ℕ
 missed_in_all bounds held later = sum_by (λ (c, values). missed_in values held later c) (enumerate_from 0 bounds)

@@ -87,7 +87,8 @@ pub fn loosen(alloc: Global, pool: &Pool, nodes: u64) -> Result<Option<Loosened>
     }
 }
 
-// Returns the loosening for the first members of the cheapest counts, which cost `total`.
+// Returns the loosening whose panel takes the first members of each class, as many as `counts` says. `counts` are those of the cheapest
+// team, and `total` is what this team costs.
 fn loosening(
     alloc: Global,
     pool: &Pool,

@@ -22,9 +22,9 @@ pub enum LoosenStop {
     OutOfMemory,
 }
 
-// Returns the counts of the cheapest team, and what they cost, or None if there is no team. Of equally cheap counts it is the first, in
-// the order of classes with the greater count first. Fails with `Spent` if the search takes more than `nodes` visits. Each front that is
-// entered counts one visit, also the empty front.
+// Returns the counts of the cheapest team, and what they cost, or None if there is no team. Of equally cheap counts it returns the first:
+// those with the greater count in the first class in which they differ. Fails with `Spent` if the search takes more than `nodes` visits.
+// Each front that is entered counts one visit, also the empty front.
 pub(crate) fn cheapest(
     alloc: Global,
     classes: &Classes,

@@ -39,7 +39,7 @@ pub(crate) fn take_from(cells: &mut [usize], values: &[usize], count: usize)
     }
 }
 
-// Returns the sum over all values of how far they miss their bounds at least, whatever later classes give.
+// Returns the least sum by which all values will miss their bounds, whatever later classes give.
 pub(crate) fn missed_by_all(bounds: &[ValueBounds], held: &[usize], later: &[usize]) -> usize
     requires few { length bounds.now ≤ 20 }
     requires limits { AreLimited bounds.now }
@@ -56,7 +56,7 @@ pub(crate) fn missed_by_all(bounds: &[ValueBounds], held: &[usize], later: &[usi
     missed
 }
 
-// Returns the sum over the values of a category of how far they miss their bounds at least, whatever later classes give.
+// Returns the least sum by which the values of a category will miss their bounds, whatever later classes give.
 fn missed_by(values: &[Bounds], held: &[usize], later: &[usize], category: usize) -> usize
     requires few { length values.now ≤ 50 }
     requires category { category < 20 }
@@ -76,7 +76,7 @@ fn missed_by(values: &[Bounds], held: &[usize], later: &[usize], category: usize
     missed
 }
 
-// Returns how far `number` will miss the bounds at least, if it still grows by at most `more`.
+// Returns the least by which `number` will miss the bounds, if it may still grow by up to `more`.
 fn surely(bound: Bounds, number: usize, more: usize) -> usize
     requires lower { bound.lower ≤ 999 }
     requires number { number ≤ 1000000 }

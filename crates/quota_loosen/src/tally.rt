@@ -1,4 +1,5 @@
-//! What a front takes, in all, of each value and of each household, and the most that the classes after it give.
+//! The tally of a front: how many members it takes, in all, of each value and of each household, and the most that the classes after it
+//! give. The search of `searching` keeps one.
 
 ghost use Rattle.std.specs.Prelude.{◌≡◌, ◌+◌, ◌*◌, ◌≤◌, ◌<◌, ◌++◌, ◌^◌, [], ◌∷◌, IfOk, nat_le, ◌&&◌, drop, length};
 ghost use Rattle.define_loosenings.specs.Costs.{sure_cost};
@@ -55,7 +56,7 @@ impl Tally {
         self.later_taken -= class.most();
     }
 
-    // Puts the class after the front back among those that are still to come.
+    // Undoes `begin_class`: the class after the front is again one of those that are still to come.
     pub(crate) fn end_class(&mut self, classes: &Classes, front: &[usize])
         requires below { length front.now < length classes.now.classes }
         requires stands { Tracks classes.now front.now (drop (length front.now + 1) classes.now.classes) self.old }
@@ -117,7 +118,7 @@ impl Tally {
         true
     }
 
-    // Returns what all counts that begin with the front cost at least.
+    // Returns the front's sure cost: all counts that begin with the front cost at least this.
     pub(crate) fn sure_cost(&self, classes: &Classes, front: &[usize]) -> usize
         requires small { taken_by classes.now front.now ≤ 1000 }
         requires stands { Tracks classes.now front.now (drop (length front.now) classes.now.classes) self.now }

@@ -1,4 +1,5 @@
--- Numbers of volunteers, and groups of these. The contracts of `report_quotas` and `report_heads` cite it.
+-- All numbers of volunteers in a list, or in each of several lists, are below a count. The contracts of `report_quotas` and
+-- `report_heads` cite these conditions, and so does Rounds.
 use Rattle.std.specs.Prelude.{ℕ, nat_lt, IsTrue, List}
 use Rattle.std.specs.List.{list_all}
 

@@ -86,7 +86,7 @@ fn push_quota(
     end_line(text)
 }
 
-/// Returns how many of each group have the value `value_place` of the category `place`.
+/// Returns how many of each group have the value at `value_place` of the category at `place`.
 fn numbers_with(
     alloc: Global,
     volunteers: &[Volunteer],
@@ -104,7 +104,7 @@ fn numbers_with(
     Ok(numbers)
 }
 
-/// Returns how many of these volunteers have the value `value_place` of the category `place`.
+/// Returns how many volunteers of `group` have the value at `value_place` of the category at `place`.
 fn number_with(volunteers: &[Volunteer], group: &[usize], place: usize, value_place: usize) -> usize
     requires { AreBelow (length volunteers.now) group.now }
     ensures { result ≡ members_with volunteers.now group.now place value_place }

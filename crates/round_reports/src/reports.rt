@@ -16,12 +16,12 @@ use sealed_draw::{Draw, seal};
 use std::alloc::{AllocError, Global};
 use text_lines::push_line;
 
-/// Returns the report of a round: lines that end with LF, of fields with a TAB between two. They have the round's number, the title, the
-/// phase, the size of a panel and the number of volunteers; if the round is past `Open`, the number of the lottery's panels and its total;
-/// if it is sealed or drawn, the seal; if it is drawn, the digits, the ticket with how many digits were read, and the members; for each
-/// value its bounds, how many of the volunteers who aren't gone have it, and, if a panel was drawn, how many of its members; if the round
-/// is past `Open`, each volunteer's chance in lowest terms; and `end`. Stops exactly if the round has no pool, for the same reason. Running
-/// out of memory is allowed at any time.
+/// Returns the report of a round: lines that end with LF, of fields with a TAB between two. First come the round's number, the title, the
+/// phase, the size of a panel and the number of volunteers. If the round is past `Open`, the number of the lottery's panels and its total
+/// follow; if it is sealed or drawn, the seal; and if it is drawn, the digits, the ticket with how many digits were read, and the members.
+/// Then each value has a line: its bounds, how many of the volunteers who aren't gone have it, and, if a panel was drawn, how many of its
+/// members do. If the round is past `Open`, each volunteer has a line with the chance in lowest terms. The last line is `end`. Stops
+/// exactly if the round has no pool, for the same reason. Running out of memory is allowed at any time.
 pub fn round_report(alloc: Global, tables: &Tables, round: usize) -> Result<Vec<u8>, PoolStop>
     ensures { TellsReport (report_of tables.now round) result }
 {

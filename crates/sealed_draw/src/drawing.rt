@@ -15,8 +15,8 @@ use std::alloc::{AllocError, Global};
 use tickets::{DiceStop, Named, name_ticket, pick, table};
 
 /// Draws from the lottery of a bundle whose weights sum to its total. Returns the panel whose range has the ticket that the digits name.
-/// Fails with `SealDiffers` unless the given seal is the kept one, capitals aside; else with `BadDigit` or `MoreDigits` if the digits name
-/// no ticket.
+/// Fails with `SealDiffers` if the given seal isn't the kept one, capitals aside. If it is, fails with `BadDigit` or `MoreDigits` if the
+/// digits name no ticket.
 pub fn draw(
     alloc: Global,
     bundle: &Bundle,

@@ -10,7 +10,7 @@ use short_tickets::shorten;
 use std::alloc::{AllocError, Global};
 
 /// Returns the bundle with its lottery shortened to `tickets` tickets, from 1 to 10^9. The weights of the bundle sum to its total. The
-/// stages are the bundle's, and don't certify the shortened lottery.
+/// stages are the bundle's, and need not certify the shortened lottery.
 pub fn short_bundle(alloc: Global, bundle: &Bundle, tickets: i128) -> Result<Bundle, AllocError>
     requires agrees { TotalAgrees bundle.now.answer.lottery }
     requires from { pos 1 ≤ℤ tickets }

@@ -1,4 +1,4 @@
--- The line is found in the remainders in rising order, and decides whether a row gets a ticket that is left.
+-- The `Line` is found by sorting the remainders, and decides which rows get one of the tickets that are left.
 use Rattle.std.proofs.Common.{◌≡◌, ℕ, zero, suc, ◌+◌, ◌-◌, ◌<◌, ◌≤◌, max, Bool, true, false, ◌&&◌, ◌||◌, eqb, leb, ltb, List, [], ◌∷◌, drop, get_or, length, take, refl, sym, ap, ◌∙◌, arith, inl, inr, ◌⊎◌}
 use Rattle.std.specs.Prelude.{count_by}
 use Rattle.std.specs.List.Sorted.{IsNonDecreasingBy, IsPermutation}
@@ -22,8 +22,7 @@ all_counted p [] h = refl
 all_counted p (x ∷ xs) h =
     omega (arith, sum_by-cons (λ x. one_if (p x)) x xs, ap one_if (h 0 (omega arith)), all_counted p xs (λ k l. h (suc k) (omega arith)))
 
--- in a rising list, at most the numbers after place `k` are above the number at place `k`, and at least this number and those after it are
--- not below it
+-- in a rising list, only numbers after place `k` can be above the number at place `k`, and all of these are at least as great
 module _ (xs : List ℕ) (k : ℕ) (rise : IsNonDecreasingBy (λ (x : ℕ). x) xs) (inside : k < length xs) where
   few_above : above (get_or xs k 0) xs ≤ length xs - (k + 1)
   few_above =

@@ -17,7 +17,7 @@ weight_within total rows place row within inside at =
     leb-true row.weight total
     (each_at (λ (row : LotteryRow). leb row.weight total ≡ true) rows place row (each_from_list_all (λ (row : LotteryRow). leb row.weight total) rows within) inside at)
 
--- if the weights sum to at most `total`, no weight is above `total`
+-- if the weights sum to at most `total`, each weight is at most `total`
 pub within_sum : (total : ℕ) (rows : List LotteryRow) → sum_by (λ (row : LotteryRow). row.weight) rows ≤ total → AreWithin total rows
 within_sum total [] h = refl
 within_sum total (row ∷ rows) h =

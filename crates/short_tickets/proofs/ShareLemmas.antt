@@ -25,7 +25,8 @@ doubled total tickets weight half double even first second =
     let e : weight * tickets ≡ weight * (2 * n) = ap (λ t. weight * t) (let t : tickets ≡ 2 * n = omega arith in t) in
     record { parts = omega (arith, e, first.parts, second.parts); below = second.below }
 
--- if the number of tickets is odd, the share is twice the share of half of them, rounded down, with the weight added once
+-- if the number of tickets is odd: `half` is the share of `tickets / 2` tickets, `double` is twice `half`, and the share of all tickets is
+-- `double` with the weight over the total added
 pub doubled_more : (total tickets weight : ℕ) (half double share : Share) → tickets % 2 ≡ 1 → IsShare total (weight * (tickets / 2)) half →
     IsShare total (half.whole * 2 * total + half.remainder * 2) double → IsShare total (double.whole * total + (double.remainder + weight)) share →
     IsShare total (weight * tickets) share

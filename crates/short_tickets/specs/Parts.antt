@@ -19,6 +19,6 @@ pub record IsLineFor (left : ℕ) (remainders : List ℕ) (line : Line) : Type 0
 abbrev pub weights_in : List LotteryRow → List ℕ
 weights_in rows = map (λ row. row.weight) rows
 
--- no weight is above the total
+-- each weight is at most the total
 abbrev pub AreWithin : ℕ → List LotteryRow → Type 0
 AreWithin total rows = IsTrue (list_all (λ row. nat_le row.weight total) rows)

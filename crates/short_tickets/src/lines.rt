@@ -5,7 +5,8 @@ ghost use Rattle.short_tickets.specs.Parts.{IsLineFor};
 
 use std::alloc::{AllocError, Global};
 
-/// A remainder, above which each row gets a ticket, and how many of the rows on it still get one.
+/// Which rows get one of the tickets that are left: each row with a remainder above `remainder`, and the next `ties` rows whose remainder
+/// is `remainder`.
 #[derive(Clone, Copy, Debug)]
 pub(crate) struct Line {
     /// The remainder.

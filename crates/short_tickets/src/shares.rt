@@ -11,7 +11,7 @@ use pool_model::LotteryRow;
 pub(crate) struct Share {
     /// The share, rounded down.
     pub whole: u128,
-    /// What was cut off, times the total.
+    /// What rounding down cuts off, times the total.
     pub remainder: u128,
 }
 

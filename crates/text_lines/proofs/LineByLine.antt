@@ -1,4 +1,4 @@
--- The pieces of a text, one line at a time.
+-- A text taken apart one line at a time: its pieces if it has an LF, and if it has none.
 use Rattle.std.proofs.Common.{◌≡◌, ℕ, ◌+◌, ◌-◌, true, false, cond, eqb, ltb, arith, subst, List, [], ◌∷◌, length, take, drop, sym, ap, ◌∙◌, Some, None, refl}
 use Rattle.std.specs.Prelude.{position}
 use Rattle.std.proofs.lemmas.Bool.{ltb-true, ltb-false}

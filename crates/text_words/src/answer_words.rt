@@ -6,7 +6,7 @@ use crate::showing::{by_number, shown_at};
 use crate::words::{Word, word_of};
 use std::alloc::{AllocError, Global};
 
-/// Returns the words for a line of numbers.
+/// Returns the words for a line of numbers that isn't right, by what is wrong with it.
 pub(crate) fn cause_words(
     alloc: Global,
     reading: &Reading,

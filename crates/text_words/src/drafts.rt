@@ -1,5 +1,5 @@
 //! What the lines of a pool gave so far. Lines with a fault are taken too, as far as they can be understood, so that later lines that
-//! depend on them aren't called faulty as well. `entries` fills a draft, and the words and hints read it.
+//! depend on them aren't called faulty as well. `reading` and `entries` fill a draft; `pool_words`, `hints` and `summaries` read it.
 
 use std::alloc::{AllocError, Global};
 use std::collections::HashMap;
@@ -70,7 +70,8 @@ pub(crate) struct Draft {
     pub(crate) volunteer_numbers: HashMap<Vec<u8>, usize>,
     /// How many volunteers were read, also those that aren't kept.
     pub(crate) all_volunteers: usize,
-    /// The number of the volunteer of the last household line, plus 1, or 0 if there is none yet. The next field is this for standings.
+    /// The number of the volunteer of the last household line, plus 1, or 0 if there is none yet. The next field is the same for standing
+    /// lines.
     pub(crate) passed_households: usize,
     pub(crate) passed_standings: usize,
 }

@@ -13,7 +13,7 @@ pub(crate) enum Wanted {
     Scale,
     /// The number of a constraint: 0 to 1800.
     Constraint,
-    /// A multiplier: -2^56 to 2^56, but not 0.
+    /// The factor of a multiplier: -2^56 to 2^56, but not 0.
     Multiplier,
 }
 
@@ -111,11 +111,11 @@ pub(crate) enum Flaw {
     Stage(Cause),
     /// The second line of a proof is wrong.
     ProofSecond,
-    /// The line after a proof's bundle isn't `tree`, `1`.
+    /// The line after a proof's bundle isn't `tree` with the number 1.
     FirstTree,
     /// The line after a proof's pool isn't `none`.
     NoneAwaited,
-    /// The line after `none` isn't `tree`, `0`.
+    /// The line after `none` isn't `tree` with the number 0.
     NoPanelTree,
     /// A line in a tree isn't right.
     Tree(Cause),

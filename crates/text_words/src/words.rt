@@ -1,6 +1,6 @@
 //! The words that lines of a text begin with.
 
-/// A word.
+/// A word that a line of a text begins with.
 #[derive(Clone, Copy, Debug, PartialEq, Eq)]
 pub(crate) enum Word {
     Pool,

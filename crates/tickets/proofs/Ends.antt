@@ -1,4 +1,4 @@
--- Ranges of tickets by where they end.
+-- Lemmas on ranges of tickets that are given by their ends.
 use Rattle.std.proofs.Common.{◌≡◌, ℕ, zero, suc, ◌+◌, ◌-◌, ◌<◌, ◌≤◌, true, false, leb, List, [], ◌∷◌, ◌++◌, length, get_or, take, refl, ap, ◌∙◌, subst, arith}
 use Rattle.std.specs.Prelude.{sum}
 use Rattle.std.specs.List.Sorted.{IsPartitionPoint, IsPartitionedBy}

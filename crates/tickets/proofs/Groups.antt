@@ -15,7 +15,7 @@ use Rattle.tickets.specs.declared.dice.Groups.{Groups}
 use Rattle.tickets.specs.Reading.{AreDigits, AreGroupsOf}
 use Rattle.define_draws.proofs.DiceLemmas.{groups_per_ticket-within, size-enough, size-least, size-some, ticket-below}
 
--- ---- sizes
+-- ---- the size of a group, and how many groups are accepted
 
 pub is_group_size : (total size : ℕ) → 1 ≤ size → total ≤ 10 ^ size → ((other : ℕ) → 1 ≤ other → other < size → 10 ^ other < total) → size ≡ group_size total
 is_group_size total size some enough smaller =

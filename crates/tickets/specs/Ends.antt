@@ -1,4 +1,4 @@
--- Ranges that follow one another, by their ends. The contracts of `ranges` cite it.
+-- Ranges of tickets that follow one another, given by their ends. The contracts of `ranges` cite it.
 use Rattle.std.specs.Prelude.{ℕ, ◌-◌, ◌≤◌, List, [], ◌∷◌, ⊤}
 
 -- no range ends before it begins

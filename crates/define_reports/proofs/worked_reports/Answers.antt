@@ -5,7 +5,7 @@ use Rattle.frac128.specs.Divisors.{common_divisor_up_to, gcd_of}
 use Rattle.sha2.specs.Sha256.{compress, digest_bytes, first_words, hash_after, rounds, schedule, sha256}
 use Rattle.define_reports.proofs.worked_reports.Goals as goal
 
--- the seal is computed
+-- proved by computation, with the definition of digests unfolded, since the report shows a seal
 pub returns-clause-drawn : goal.returns-clause-drawn
 unfolding sha256 hash_after compress rounds schedule first_words digest_bytes encode_with digits common_divisor_up_to gcd_of
 returns-clause-drawn c = refl

@@ -6,7 +6,8 @@ use Rattle.define_bundles.proofs.Spelled.{IsRight}
 use Rattle.bundle_text.specs.Progress.{seen}
 use Rattle.bundle_text.proofs.reading.read_lines.Given as goal
 
--- reading the rest gives the answer for the whole text, and the progress so far is right
+-- reading the rest from this progress gives what reading the whole text gives, the line's number is at most one more than the number of
+-- bytes read so far, and `IsRight` holds of the progress
 abbrev pub invariant-loop-line : goal.invariant-loop-line
 invariant-loop-line l = record {
   same : read_lines reader l.number (seen l.progress) (pieces_of l.rest) ≡ read_bundle l.fn.bytes;

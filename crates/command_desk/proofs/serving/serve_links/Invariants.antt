@@ -5,7 +5,8 @@ use Rattle.command_desk.specs.Turns.{AreUnderWay}
 use Rattle.office_http.specs.Visits.{kept, link_told}
 use Rattle.command_desk.proofs.serving.serve_links.Given as goal
 
--- the turns so far are counted, each link that was given came back, and the door counted no fault and listens at the same port
+-- the turns so far are counted, no more links came back than were given, the door counted no fault and listens at the same port, and the
+-- keeper is attached where it was
 abbrev pub invariant-loop-turn : goal.invariant-loop-turn
 invariant-loop-turn g l = record {
   way : AreUnderWay (option_map (seen_links (λ link. link_told (g.D.Link.Link.left link) (g.D.Link.Link.written link) (g.D.Link.Link.faults link))) (g.D.Door.links l.fn.door))

@@ -4,6 +4,6 @@ use Rattle.define_conflicts.specs.declared.Side.TheVariants.{AtMost}
 use Rattle.define_conflicts.specs.LeastMisses.{taken_by, weights_for}
 use Rattle.quota_conflicts.proofs.misses.asked.Given as goal
 
--- `taken` is what the volunteers read so far take
+-- `taken` is the sum of what the volunteers read so far take (`taken_by`)
 abbrev pub invariant-loop-i : goal.invariant-loop-i
 invariant-loop-i l = l.taken ≡ sum_by (λ (i, standing). taken_by standing (weights_for l.pool AtMost l.weighted i)) (take l.i (enumerate_from 0 l.standings))

@@ -10,7 +10,7 @@ use Rattle.define_short_draws.specs.Short.{shortened}
 use Rattle.define_short_draws.proofs.ShortRanges.{short_in_ranges}
 use Rattle.short_draws.proofs.bundles.short_bundle.Goals as goal
 
--- a bundle's pool with its lottery shortened and its stages is in the ranges of a bundle
+-- the shortened lottery of a bundle, with the bundle's pool and stages, is in the ranges of a bundle
 made_in_ranges : (bundle : Bundle) (pool : Pool) (lottery : Lottery) (stages : List Stage) (tickets : ℕ) → IsInRanges bundle.pool bundle.answer → 1 ≤ tickets → tickets ≤ 10 ^ 9 →
     pool ≡ bundle.pool → lottery ≡ shortened bundle.answer.lottery tickets → stages ≡ bundle.answer.stages → TotalAgrees lottery → IsInRanges pool (record { lottery = lottery; stages = stages })
 made_in_ranges bundle pool lottery stages tickets are some few pool_is lottery_is stages_are agrees =

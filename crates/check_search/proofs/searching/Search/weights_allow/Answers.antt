@@ -15,7 +15,7 @@ within c =
     subst (λ xs. AreWithin terms.classes (take depth xs ++ count ∷ [])) (sym c.deref.ensures.value)
     (child_within terms.classes terms.closed.items terms.row depth count _ c.args.self.now c.requires.stands c.requires.below c.requires.can_take)
 
--- weights that are right for the child are right for the front too
+-- if the weights are those of the child and its prefixes, they are also those of the front and its prefixes
 weighs : (c : After-child-reached) → Weighs c.args.terms.now.classes c.args.terms.now.row (take c.args.depth c.args.self.now.counts.items) c.child-reached.new.self
 weighs c =
     let terms = c.args.terms.now in let depth = c.args.depth in let count = c.args.count in

@@ -1,0 +1,19 @@
+//! Mixes: a point as a sum of columns times weights of at least 0. A program in fixed point finds weights (`masters`), and whole weights
+//! are solved exactly over a basis with a small determinant (`wholes`). Stands on `proof_table` for pseudo-random numbers, and on
+//! `frac128`. `proof_stages` and `proof_peeling` use it.
+//! Promises: each call is safe and ends. What is found is advice, since `proof_verify` tests each proof.
+#![tactic(auto)]
+
+mod bases;
+mod columns;
+mod exact;
+mod fixed;
+mod inverses;
+mod masters;
+mod remnants;
+mod wholes;
+
+pub use columns::{Column, Columns};
+pub use fixed::{UNIT, fraction, rounded};
+pub use masters::{Master, Solved};
+pub use wholes::{Whole, whole_weights};

@@ -1,0 +1,612 @@
+//! The program of a mix in fixed point: weights of columns, none below 0, that make up a point. A simplex method keeps the inverse of its
+//! basis. What it finds is advice. Stands on `fixed`, `inverses` and `columns`; `class_mixes` uses this.
+
+ghost use Rattle.proof_limits.specs.Budgets.{SpendsOn};
+
+use crate::columns::{Column, Columns};
+use crate::fixed::{DIGITS, UNIT, dot, fit, fraction, product, quotient, weighed};
+use crate::inverses::{divide, inverse_of, subtract};
+use proof_limits::{Budget, ProveStop};
+use proof_table::PseudoRandom;
+use std::alloc::{AllocError, Global};
+use std::mem;
+
+/// How many changes of basis a solution may make.
+const MOST_CHANGES: u32 = 20_000;
+
+/// After this many changes the values are computed anew, and the inverse is tested.
+const FRESH: u32 = 50;
+
+/// After this many changes the inverse is computed anew.
+const STALE: u32 = 400;
+
+/// How far a value may be below 0, 2^-29.
+const SLACK: i64 = 131_072;
+
+/// How much may be missing in all, 2^-27.
+const MOST_MISSING: i128 = 524_288;
+
+/// The least gain for which a variable enters the basis, and the least entry of a change of basis, 2^-28.
+const LEAST_GAIN: i64 = 262_144;
+
+/// How far the basis times the values may be from the point, 2^-26; further means that the inverse is bad.
+const MOST_ERROR: u64 = 1_048_576;
+
+/// After this many changes that gain nothing, pseudo-random numbers disturb the choice of the entering variable.
+const PATIENCE: u32 = 30;
+
+/// A variable of the program.
+#[derive(Clone, Copy, Debug, PartialEq, Eq)]
+pub(crate) enum Variable {
+    /// How much the mix exceeds the point in a row. It should be 0 if the row isn't open.
+    Missing(usize),
+    /// The least weight, by which each column's weight is greater than its variable.
+    Least,
+    /// The weight of a column.
+    Weight(usize),
+}
+
+/// How a solution ended.
+#[derive(Clone, Copy, Debug, PartialEq, Eq)]
+pub enum Solved {
+    /// The weights make up the point, and the least weight is as great as possible.
+    Done,
+    /// No weights make up the point. The duals show it.
+    Short,
+    /// The solution didn't come to an end.
+    Trouble,
+}
+
+/// The program and its present basis.
+#[derive(Drop)]
+pub struct Master {
+    pub(crate) alloc: Global,
+    point: Vec<i64>,
+    inverse: Vec<Vec<i64>>,
+    pub(crate) basis: Vec<Variable>,
+    values: Vec<i64>,
+    is_used: Vec<bool>,
+    // for each row whether the mix may exceed the point, and whether the variable of what exceeds is basic
+    is_open: Vec<bool>,
+    pub(crate) is_missing: Vec<bool>,
+    // the column of the least weight times the number of columns, that number, and whether this variable is part of the program
+    pub(crate) sums: Vec<i64>,
+    count: i64,
+    has_least: bool,
+    is_least_used: bool,
+    pub duals: Vec<i64>,
+    // changes of basis since the values, and since the inverse, were computed anew
+    changes: u32,
+    age: u32,
+    random: PseudoRandom,
+}
+
+impl Master {
+    /// Returns the program of a point without columns.
+    pub fn new(alloc: Global, point: &[i64]) -> Result<Master, AllocError> {
+        let mut master = Master {
+            alloc,
+            point: Vec::from_slice(alloc, point)?,
+            inverse: Vec::new(alloc),
+            basis: Vec::new(alloc),
+            values: Vec::new(alloc),
+            is_used: Vec::new(alloc),
+            is_open: vec![in alloc; false; point.len()]?,
+            is_missing: vec![in alloc; true; point.len()]?,
+            sums: vec![in alloc; 0; point.len()]?,
+            count: 1,
+            has_least: false,
+            is_least_used: false,
+            duals: vec![in alloc; 0; point.len()]?,
+            changes: 0,
+            age: 0,
+            random: PseudoRandom::new(12345),
+        };
+        master.begin()?;
+        Ok(master)
+    }
+
+    /// Begins anew, at the basis where all is missing.
+    pub fn begin(&mut self) -> Result<(), AllocError> {
+        let size = self.point.len();
+        self.inverse.clear();
+        self.basis.clear();
+        self.values.clear();
+        for row in 0..size {
+            let mut entries = vec![in self.alloc; 0; size]?;
+            if let Some(entry) = entries.get_mut(row) {
+                *entry = -UNIT;
+            }
+            self.inverse.push(entries)?;
+            self.basis.push(Variable::Missing(row))?;
+            self.values.push(0)?;
+        }
+        self.is_used.fill(false);
+        self.is_missing.fill(true);
+        self.is_least_used = false;
+        self.age = 0;
+        self.compute_values();
+        Ok(())
+    }
+
+    /// Lets the least weight of all columns that are not off take part.
+    pub fn set_least(&mut self, columns: &Columns) {
+        self.sums.fill(0);
+        let mut count: i64 = 0;
+        for column in &columns.list {
+            if !column.is_off {
+                count = count.saturating_add(1);
+                for (row, entry) in &column.entries {
+                    if let Some(sum) = self.sums.get_mut(*row) {
+                        *sum = sum.saturating_add(*entry);
+                    }
+                }
+            }
+        }
+        for sum in self.sums.iter_mut() {
+            *sum = fraction(i128::from(*sum), i128::from(count));
+        }
+        self.count = count.max(1);
+        self.has_least = true;
+        self.age = STALE;
+    }
+
+    /// Sets what a row should have, and whether it may have more.
+    pub fn set_row(&mut self, row: usize, amount: i64, is_open: bool) {
+        if let Some(own) = self.point.get_mut(row) {
+            *own = amount;
+        }
+        if let Some(own) = self.is_open.get_mut(row) {
+            *own = is_open;
+        }
+        self.changes = FRESH;
+    }
+
+    /// Sets the entries of the least weight's column, so that it stands for something else that is to be as great as possible.
+    pub fn set_entries(&mut self, entries: &[i64]) {
+        self.has_least = true;
+        self.count = 1;
+        for (sum, entry) in self.sums.iter_mut().zip(entries) {
+            *sum = fraction(i128::from(*entry), 1);
+        }
+        self.age = STALE;
+    }
+
+    /// Returns the least weight.
+    pub fn least(&self) -> i64 {
+        for (variable, value) in self.basis.iter().zip(&self.values) {
+            if *variable == Variable::Least {
+                return (*value).max(0).checked_div(self.count).unwrap_or(0);
+            }
+        }
+        0
+    }
+
+    /// Returns the weight of each column. A column that is off has 0.
+    pub fn shares(&self, alloc: Global, columns: &Columns) -> Result<Vec<i64>, AllocError> {
+        let least = self.least();
+        let mut shares = Vec::new(alloc);
+        for column in &columns.list {
+            shares.push(if column.is_off { 0 } else { least })?;
+        }
+        for (variable, value) in self.basis.iter().zip(&self.values) {
+            if let Variable::Weight(number) = variable {
+                if let Some(share) = shares.get_mut(*number) {
+                    *share = share.saturating_add((*value).max(0));
+                }
+            }
+        }
+        Ok(shares)
+    }
+
+    /// Looks for weights that make up the point, and then for those with the greatest least weight. Each change of basis takes a pivot.
+    pub fn solve(&mut self, columns: &Columns, budget: &mut Budget) -> Result<Solved, ProveStop>
+        ensures { SpendsOn budget.old budget.new }
+    {
+        for _ in self.is_used.len()..columns.list.len() {
+            self.is_used.push(false)?;
+        }
+        let mut best: i128 = -i128::MAX;
+        let mut waits: u32 = 0;
+        self.changes = 0;
+        if !self.refresh(columns)? {
+            return Ok(Solved::Trouble);
+        }
+        'changes: for _ in 0..MOST_CHANGES {
+            if self.changes >= FRESH && !self.refresh(columns)? {
+                return Ok(Solved::Trouble);
+            }
+            let missing = self.price(columns);
+            let worth = if missing > 0 {
+                missing.wrapping_neg()
+            } else {
+                i128::from(self.least())
+            };
+            if worth > best {
+                best = worth;
+                waits = 0;
+            } else {
+                waits = waits.saturating_add(1);
+            }
+            let Some(entering) = self.entering(columns, missing == 0, waits > PATIENCE) else {
+                if self.changes == 0 {
+                    let is_short = missing > MOST_MISSING;
+                    return Ok(if is_short {
+                        Solved::Short
+                    } else {
+                        Solved::Done
+                    });
+                }
+                if !self.refresh(columns)? {
+                    return Ok(Solved::Trouble);
+                }
+                continue;
+            };
+            budget.take_pivot()?;
+            let image = self.image(entering, columns)?;
+            let Some((place, step)) = self.leaving(&image, columns) else {
+                return Ok(Solved::Trouble);
+            };
+            self.change(place, entering, &image, step);
+        }
+        Ok(Solved::Trouble)
+    }
+
+    /// Puts aside the columns that no weights of the point have if the greatest least weight is 0, as the duals show. True if there are some.
+    pub fn put_aside(&self, columns: &mut Columns) -> bool {
+        let mut greatest: u64 = 0;
+        for dual in &self.duals {
+            greatest = greatest.max(dual.unsigned_abs());
+        }
+        let bound = i128::from(greatest >> 22);
+        let mut are_some = false;
+        for column in columns.list.iter_mut() {
+            if !column.is_off && weighed(&column.entries, &self.duals) > bound {
+                column.is_off = true;
+                are_some = true;
+            }
+        }
+        are_some
+    }
+
+    /// Computes the duals, and returns how much is wrong in all: what is missing, what is below 0, and the weights of columns that are
+    /// off. If nothing is wrong, the duals are those of the least weight.
+    fn price(&mut self, columns: &Columns) -> i128 {
+        let mut duals = mem::replace(&mut self.duals, Vec::new(self.alloc));
+        duals.fill(0);
+        let mut missing: i128 = 0;
+        for ((variable, value), row) in self.basis.iter().zip(&self.values).zip(&self.inverse) {
+            if *value < -SLACK {
+                add(&mut duals, row);
+                missing = missing.wrapping_sub(i128::from(*value));
+            } else if *value > SLACK && is_bound(&self.is_open, *variable, columns) {
+                take(&mut duals, row);
+                missing = missing.wrapping_add(i128::from(*value));
+            }
+        }
+        if missing == 0 {
+            for (variable, row) in self.basis.iter().zip(&self.inverse) {
+                if *variable == Variable::Least {
+                    add(&mut duals, row);
+                }
+            }
+        }
+        self.duals = duals;
+        missing
+    }
+
+    /// Returns the variable with the greatest gain, if one gains enough.
+    fn entering(
+        &mut self,
+        columns: &Columns,
+        is_whole: bool,
+        is_disturbed: bool,
+    ) -> Option<Variable> {
+        let mut greatest = LEAST_GAIN;
+        let mut found = None;
+        if self.has_least && !self.is_least_used {
+            let own = if is_whole { i128::from(UNIT) } else { 0 };
+            let gain = fit(own.wrapping_sub(dot(&self.sums, &self.duals) >> DIGITS));
+            if gain > greatest {
+                greatest = gain;
+                found = Some(Variable::Least);
+            }
+        }
+        for (row, ((dual, is_open), is_missing)) in self
+            .duals
+            .iter()
+            .zip(&self.is_open)
+            .zip(&self.is_missing)
+            .enumerate()
+        {
+            if *is_open && !*is_missing && *dual > greatest {
+                greatest = *dual;
+                found = Some(Variable::Missing(row));
+            }
+        }
+        for (number, (column, is_used)) in columns.list.iter().zip(&self.is_used).enumerate() {
+            if *is_used || column.is_off {
+                continue;
+            }
+            let mut gain = fit(weighed(&column.entries, &self.duals).wrapping_neg());
+            if gain <= LEAST_GAIN {
+                continue;
+            }
+            if is_disturbed {
+                let part = self.random.next_up_to(1024) as i64;
+                gain = (gain / 1024).saturating_mul(part).max(LEAST_GAIN);
+            }
+            if gain > greatest {
+                greatest = gain;
+                found = Some(Variable::Weight(number));
+            }
+        }
+        found
+    }
+
+    /// Returns how fast each basic variable falls while a variable grows.
+    fn image(&self, variable: Variable, columns: &Columns) -> Result<Vec<i64>, AllocError> {
+        let mut image = Vec::new(self.alloc);
+        for row in &self.inverse {
+            let fall = match variable {
+                Variable::Missing(number) => {
+                    i128::from(row.get(number).copied().unwrap_or(0)).wrapping_neg()
+                }
+                Variable::Least => dot(row, &self.sums) >> DIGITS,
+                Variable::Weight(number) => match columns.list.get(number) {
+                    Some(column) => weighed(&column.entries, row),
+                    None => 0,
+                },
+            };
+            image.push(fit(fall))?;
+        }
+        Ok(image)
+    }
+
+    /// Returns the place of the basic variable that leaves, and how far the entering one grows.
+    fn leaving(&self, image: &[i64], columns: &Columns) -> Option<(usize, i64)> {
+        let mut most = i128::MAX;
+        for ((variable, value), fall) in self.basis.iter().zip(&self.values).zip(image) {
+            if self.stops(*variable, *value, *fall, columns) {
+                let slack = if *fall > 0 { SLACK } else { -SLACK };
+                most = most.min(step(value.saturating_add(slack), *fall));
+            }
+        }
+        let mut greatest = 0;
+        let mut found = None;
+        for (place, ((variable, value), fall)) in self
+            .basis
+            .iter()
+            .zip(&self.values)
+            .zip(image)
+            .enumerate()
+        {
+            let own = step(*value, *fall);
+            if self.stops(*variable, *value, *fall, columns)
+                && own <= most
+                && fall.unsigned_abs() > greatest
+            {
+                greatest = fall.unsigned_abs();
+                found = Some((place, fit(own.max(0))));
+            }
+        }
+        found
+    }
+
+    /// Lets a variable enter the basis at a place.
+    fn change(&mut self, place: usize, entering: Variable, image: &[i64], step: i64) {
+        let pivot = image.get(place).copied().unwrap_or(0);
+        for (value, fall) in self.values.iter_mut().zip(image) {
+            *value = value.saturating_sub(product(*fall, step));
+        }
+        if let Some(value) = self.values.get_mut(place) {
+            *value = step;
+        }
+        let mut own = match self.inverse.get_mut(place) {
+            Some(row) => mem::replace(row, Vec::new(self.alloc)),
+            None => return,
+        };
+        divide(&mut own, pivot);
+        for (row, fall) in self.inverse.iter_mut().zip(image) {
+            if *fall != 0 {
+                subtract(row, *fall, &own);
+            }
+        }
+        if let Some(row) = self.inverse.get_mut(place) {
+            *row = own;
+        }
+        let left = match self.basis.get_mut(place) {
+            Some(variable) => mem::replace(variable, entering),
+            None => return,
+        };
+        self.mark(left, false);
+        self.mark(entering, true);
+        self.changes = self.changes.saturating_add(1);
+        self.age = self.age.saturating_add(1);
+    }
+
+    /// Notes whether a variable is basic.
+    fn mark(&mut self, variable: Variable, is_basic: bool) {
+        match variable {
+            Variable::Missing(row) => {
+                if let Some(missing) = self.is_missing.get_mut(row) {
+                    *missing = is_basic;
+                }
+            }
+            Variable::Least => self.is_least_used = is_basic,
+            Variable::Weight(number) => {
+                if let Some(used) = self.is_used.get_mut(number) {
+                    *used = is_basic;
+                }
+            }
+        }
+    }
+
+    /// Computes the values anew, and the inverse if it is old or bad. False if the point can't be met.
+    fn refresh(&mut self, columns: &Columns) -> Result<bool, AllocError> {
+        self.changes = 0;
+        if self.age < STALE {
+            self.compute_values();
+            if self.correct_values(columns)? <= MOST_ERROR {
+                return Ok(true);
+            }
+        }
+        if !self.invert(columns)? {
+            self.begin()?;
+            return Ok(true);
+        }
+        self.compute_values();
+        Ok(self.correct_values(columns)? <= MOST_ERROR)
+    }
+
+    /// Computes the values from the point and the inverse.
+    fn compute_values(&mut self) {
+        for (value, row) in self.values.iter_mut().zip(&self.inverse) {
+            *value = fit(dot(row, &self.point) >> DIGITS);
+        }
+    }
+
+    /// Corrects the values once by what they miss of the point, and returns how much that was.
+    fn correct_values(&mut self, columns: &Columns) -> Result<u64, AllocError> {
+        let mut rest = Vec::new(self.alloc);
+        for own in &self.point {
+            rest.push(i128::from(*own))?;
+        }
+        for (variable, value) in self.basis.iter().zip(&self.values) {
+            match variable {
+                Variable::Missing(row) => put(&mut rest, *row, *value, 1),
+                Variable::Least => {
+                    for (own, sum) in rest.iter_mut().zip(&self.sums) {
+                        *own = own.wrapping_sub(i128::from(product(*value, *sum)));
+                    }
+                }
+                Variable::Weight(number) => {
+                    if let Some(column) = columns.list.get(*number) {
+                        for (row, entry) in &column.entries {
+                            put(&mut rest, *row, *value, entry.saturating_neg());
+                        }
+                    }
+                }
+            }
+        }
+        let mut error = 0;
+        let mut short = Vec::new(self.alloc);
+        for own in &rest {
+            let own = fit(*own);
+            error = own.unsigned_abs().max(error);
+            short.push(own)?;
+        }
+        for (value, row) in self.values.iter_mut().zip(&self.inverse) {
+            let own = fit(dot(row, &short) >> DIGITS);
+            *value = value.saturating_add(own);
+        }
+        Ok(error)
+    }
+
+    /// Computes the inverse of the basis. False if the basis is no basis.
+    fn invert(&mut self, columns: &Columns) -> Result<bool, AllocError> {
+        let mut own = Vec::new(self.alloc);
+        let mut order = Vec::new(self.alloc);
+        for (place, variable) in self.basis.iter().enumerate() {
+            if let Variable::Missing(_) = variable {
+                order.push(place)?;
+            }
+            own.push(self.entries_of(*variable, columns)?)?;
+        }
+        for (place, variable) in self.basis.iter().enumerate() {
+            match variable {
+                Variable::Missing(_) => {}
+                _ => order.push(place)?,
+            }
+        }
+        match inverse_of(self.alloc, &own, &order)? {
+            Some(inverse) => {
+                self.inverse = inverse;
+                self.age = 0;
+                Ok(true)
+            }
+            None => Ok(false),
+        }
+    }
+
+    /// Returns the entries of a variable's column that are not 0, in fixed point.
+    fn entries_of(
+        &self,
+        variable: Variable,
+        columns: &Columns,
+    ) -> Result<Vec<(usize, i64)>, AllocError> {
+        let mut entries = Vec::new(self.alloc);
+        match variable {
+            Variable::Missing(row) => entries.push((row, -UNIT))?,
+            Variable::Least => {
+                for (row, sum) in self.sums.iter().enumerate() {
+                    if *sum != 0 {
+                        entries.push((row, *sum))?;
+                    }
+                }
+            }
+            Variable::Weight(number) => {
+                if let Some(column) = columns.list.get(number) {
+                    for (row, entry) in &column.entries {
+                        entries.push((*row, fraction(i128::from(*entry), 1)))?;
+                    }
+                }
+            }
+        }
+        Ok(entries)
+    }
+
+    /// True if a basic variable may keep the entering one from growing. `fall` is how fast it falls.
+    fn stops(&self, variable: Variable, value: i64, fall: i64, columns: &Columns) -> bool {
+        if fall > LEAST_GAIN {
+            value >= -SLACK
+        } else if fall < -LEAST_GAIN {
+            value < -SLACK || (value <= SLACK && is_bound(&self.is_open, variable, columns))
+        } else {
+            false
+        }
+    }
+}
+
+/// True if a variable should be 0. `is_open` says which rows may have more.
+fn is_bound(is_open: &[bool], variable: Variable, columns: &Columns) -> bool {
+    match variable {
+        Variable::Missing(row) => !is_open.get(row).copied().unwrap_or(false),
+        Variable::Least => false,
+        Variable::Weight(number) => is_off(columns.list.get(number)),
+    }
+}
+
+/// True if a column is off.
+fn is_off(column: Option<&Column>) -> bool {
+    match column {
+        Some(column) => column.is_off,
+        None => true,
+    }
+}
+
+/// Returns how far the entering variable grows until a basic one is 0.
+fn step(value: i64, fall: i64) -> i128 {
+    i128::from(quotient(value, fall))
+}
+
+/// Adds a row to the duals.
+fn add(duals: &mut [i64], row: &[i64]) {
+    for (dual, entry) in duals.iter_mut().zip(row) {
+        *dual = dual.saturating_add(*entry);
+    }
+}
+
+/// Subtracts a row from the duals.
+fn take(duals: &mut [i64], row: &[i64]) {
+    for (dual, entry) in duals.iter_mut().zip(row) {
+        *dual = dual.saturating_sub(*entry);
+    }
+}
+
+/// Adds a value, times a factor, to the number of a row.
+fn put(rest: &mut [i128], row: usize, value: i64, factor: i64) {
+    if let Some(own) = rest.get_mut(row) {
+        *own = own.wrapping_add(i128::from(value).wrapping_mul(i128::from(factor)));
+    }
+}

@@ -1,0 +1,285 @@
+//! A point as a mix of compositions: a program in fixed point finds which compositions, searches find further ones or show that the point
+//! is no mix, and whole weights are solved over a basis with a small determinant. Then the compositions are spread over panels. Stands on
+//! `masters`, `pricing`, `wholes` and `spreads`; `lotteries` calls `class_mix`.
+
+ghost use Rattle.std.specs.Prelude.{OnOk};
+ghost use Rattle.proof_limits.specs.Budgets.{SpendsOn};
+
+use crate::kinds::Kinds;
+use crate::lotteries::WeightedPanel;
+use crate::pricing::{ClassRow, are_met, class_rows, search_of};
+use crate::rows::PanelRow;
+use crate::spreads::{ClassLeft, Weighted, spread};
+use proof_branching::Found;
+use proof_limits::{Budget, Narrow, ProveStop, wide_mul};
+use proof_mixes::{Columns, Master, Solved, Whole, whole_weights};
+use proof_program::Program;
+use proof_stages::{Chances, CompositionSearch};
+use proof_table::PseudoRandom;
+use std::alloc::Global;
+
+/// What the greatest weight of a search is rounded to: 2^22 at first.
+const COARSE: i128 = 4_194_304;
+
+/// What it is rounded to if that is too coarse, 2^34.
+const FINE: i128 = 17_179_869_184;
+
+/// What it is rounded to if numbers pass 2^62, 2^15.
+const ROUGH: i128 = 32_768;
+
+/// How many compositions may be searched for at most.
+const MOST_STEPS: u32 = 3000;
+
+/// The most nodes at which each of these searches looks.
+const MOST_NODES: u64 = 20_000;
+
+/// The most nodes of a search for a composition by pseudo-random wishes.
+const WISHED_NODES: u64 = 100;
+
+/// How often compositions are put aside before the least weight is above 0.
+const MOST_ASIDE: u32 = 80;
+
+/// The least weight must be above this, 2^-30.
+const LEAST_WEIGHT: i64 = 65_536;
+
+/// How often further compositions are searched for if no whole weights are found.
+const ROUNDS: u64 = 4;
+
+/// The result for a point.
+#[derive(Debug, Drop)]
+pub(crate) enum Mixed {
+    /// Panels with weights.
+    Found(Vec<WeightedPanel>),
+    /// The point is no mix of compositions.
+    Outside,
+    /// The mix wasn't found, or no whole weights.
+    Doubt,
+}
+
+/// Whether a point is a mix.
+#[derive(Clone, Copy, Debug, PartialEq, Eq)]
+enum Place {
+    Inside,
+    Outside,
+    Doubt,
+}
+
+/// The state of the search for a mix.
+#[derive(Drop)]
+struct ClassMix<'a> {
+    alloc: Global,
+    classes: &'a Program,
+    kinds: Kinds<'a>,
+    search: CompositionSearch,
+    columns: Columns,
+    master: Master,
+}
+
+/// Looks for panels that make up a point. Some compositions are known from the start, each with a count for each class.
+pub(crate) fn class_mix(
+    alloc: Global,
+    classes: &Program,
+    chances: &Chances,
+    rows: &[PanelRow],
+    known: &[Vec<i64>],
+    budget: &mut Budget,
+) -> Result<Mixed, ProveStop>
+    ensures { SpendsOn budget.old budget.new }
+{
+    let kinds = Kinds::new(alloc, classes, chances)?;
+    let own = class_rows(alloc, &kinds, rows)?;
+    let search = search_of(alloc, &kinds, &own)?;
+    let columns = known_columns(alloc, &kinds, &own, known)?;
+    let point = kinds.point()?;
+    let mut mix = ClassMix {
+        alloc,
+        classes,
+        kinds,
+        search,
+        columns,
+        master: Master::new(alloc, &point)?,
+    };
+    match mix.generate(budget)? {
+        Place::Inside => mix.whole(budget),
+        Place::Outside => Ok(Mixed::Outside),
+        Place::Doubt => Ok(Mixed::Doubt),
+    }
+}
+
+/// Returns the known compositions that are on the face of the point.
+fn known_columns(
+    alloc: Global,
+    kinds: &Kinds<'_>,
+    rows: &[ClassRow],
+    known: &[Vec<i64>],
+) -> Result<Columns, ProveStop> {
+    let mut columns = Columns::new(alloc);
+    for counts in known {
+        if let Some(own) = kinds.free_counts(counts)? {
+            if are_met(rows, counts)? {
+                let _is_new = columns.join(own)?;
+            }
+        }
+    }
+    Ok(columns)
+}
+
+impl ClassMix<'_> {
+    /// Searches for compositions until the known ones make up the point, or none is left that could help.
+    fn generate(&mut self, budget: &mut Budget) -> Result<Place, ProveStop>
+        ensures { SpendsOn budget.old budget.new }
+    {
+        'steps: for _ in 0..MOST_STEPS {
+            match self.master.solve(&self.columns, budget)? {
+                Solved::Done => return Ok(Place::Inside),
+                Solved::Trouble => return Ok(Place::Doubt),
+                Solved::Short => {}
+            }
+            let found = match self.beat(COARSE, budget) {
+                Ok(Place::Doubt) => self.beat(FINE, budget)?,
+                Err(ProveStop::Wide(_) | ProveStop::BeyondWidth) => self.beat(ROUGH, budget)?,
+                found => found?,
+            };
+            if found != Place::Inside {
+                return Ok(found);
+            }
+        }
+        Ok(Place::Doubt)
+    }
+
+    /// Searches for a composition that the master's duals want, and adds it. `greatest` is what the greatest weight is rounded to. Returns
+    /// `Inside` if a new one was added, `Outside` if there is none.
+    fn beat(&mut self, greatest: i128, budget: &mut Budget) -> Result<Place, ProveStop>
+        ensures { SpendsOn budget.old budget.new }
+    {
+        let weights = self.kinds.weights(&self.master.duals, greatest)?;
+        let need = self.kinds.need(&weights)?;
+        Ok(
+            match self.search.beating(&weights, need, MOST_NODES, budget)? {
+                Found::Point(point) => {
+                    if self.join(&point)? {
+                        Place::Inside
+                    } else {
+                        Place::Doubt
+                    }
+                }
+                Found::Nothing => Place::Outside,
+                Found::Doubt => Place::Doubt,
+            },
+        )
+    }
+
+    /// Adds the composition of a point. False if it is known, or not of the face.
+    fn join(&mut self, point: &[Narrow]) -> Result<bool, ProveStop> {
+        let mut counts = Vec::new(self.alloc);
+        for value in point {
+            counts.push(value.get())?;
+        }
+        match self.kinds.free_counts(&counts)? {
+            Some(own) => Ok(self.columns.join(own)?),
+            None => Ok(false),
+        }
+    }
+
+    /// Looks for whole weights of the compositions, and spreads them over panels.
+    fn whole(&mut self, budget: &mut Budget) -> Result<Mixed, ProveStop>
+        ensures { SpendsOn budget.old budget.new }
+    {
+        'rounds: for round in 0..ROUNDS {
+            if let Some(least) = self.settle(budget)? {
+                let shares = self.master.shares(self.alloc, &self.columns)?;
+                let amounts = self.kinds.amounts()?;
+                let found = whole_weights(self.alloc, &self.columns, &shares, least, &amounts)?;
+                if let Some(whole) = found {
+                    return Ok(Mixed::Found(self.panels(&whole)?));
+                }
+            }
+            self.enrich(round, budget)?;
+        }
+        Ok(Mixed::Doubt)
+    }
+
+    /// Puts aside compositions that no mix of the point has, until all others can have a weight above 0. Returns the least weight.
+    fn settle(&mut self, budget: &mut Budget) -> Result<Option<i64>, ProveStop>
+        ensures { SpendsOn budget.old budget.new }
+    {
+        'asides: for _ in 0..MOST_ASIDE {
+            self.master.set_least(&self.columns);
+            if self.master.solve(&self.columns, budget)? != Solved::Done {
+                return Ok(None);
+            }
+            let least = self.master.least();
+            if least > LEAST_WEIGHT {
+                return Ok(Some(least));
+            }
+            if !self.master.put_aside(&mut self.columns) {
+                return Ok(None);
+            }
+        }
+        Ok(None)
+    }
+
+    /// Searches for further compositions of the face, by pseudo-random wishes.
+    fn enrich(&mut self, round: u64, budget: &mut Budget) -> Result<(), ProveStop>
+        ensures { SpendsOn budget.old budget.new }
+    {
+        let mut random = PseudoRandom::new(round.wrapping_mul(7919).wrapping_add(99_991));
+        'wishes: for _ in 0..self.kinds.free.len() {
+            let mut wishes = Vec::new(self.alloc);
+            for _ in 0..self.classes.columns() {
+                wishes.push(random.next_within(512))?;
+            }
+            if let Found::Point(point) = self.search.wished(&wishes, WISHED_NODES, budget)? {
+                let _is_new = self.join(&point)?;
+            }
+        }
+        Ok(())
+    }
+
+    /// Spreads the compositions over panels.
+    fn panels(&self, whole: &Whole) -> Result<Vec<WeightedPanel>, ProveStop> {
+        let mut parts = Vec::new(self.alloc);
+        for (column, weight) in self.columns.list.iter().zip(&whole.weights) {
+            if *weight > 0 {
+                let mut counts = Vec::new(self.alloc);
+                for count in &self.kinds.all_counts(&column.counts)? {
+                    counts.push(usize::try_from(*count).unwrap_or(0))?;
+                }
+                parts.push(Weighted {
+                    weight: *weight,
+                    counts,
+                })?;
+            }
+        }
+        let mut classes = self.shares_left(whole, &parts)?;
+        let mut panels = Vec::new(self.alloc);
+        for (weight, members) in spread(self.alloc, &mut classes, &parts)? {
+            panels.push(WeightedPanel { weight, members })?;
+        }
+        Ok(panels)
+    }
+
+    /// Returns the classes with the shares of their members.
+    fn shares_left(&self, whole: &Whole, parts: &[Weighted]) -> Result<Vec<ClassLeft>, ProveStop> {
+        let unit = whole
+            .total
+            .checked_div(self.kinds.total.wide())
+            .ok_or(ProveStop::Lost)?;
+        let mut members = Vec::new(self.alloc);
+        for _ in 0..self.classes.columns() {
+            members.push(Vec::new(self.alloc))?;
+        }
+        for volunteer in 0..self.classes.volunteers() {
+            let class = self.classes.column_of(volunteer);
+            if let Some(own) = members.get_mut(class) {
+                own.push(volunteer)?;
+            }
+        }
+        let mut left = Vec::new(self.alloc);
+        for (place, (own, part)) in members.iter().zip(&self.kinds.parts).enumerate() {
+            let share = wide_mul(part.wide(), unit)?;
+            left.push(ClassLeft::new(self.alloc, own, share, place, parts)?)?;
+        }
+        Ok(left)
+    }
+}

@@ -1,0 +1,175 @@
+//! The kinds of a point: classes of alike volunteers, of which those with a chance between 0 and 1 are free. A composition is a count for
+//! each free kind. `class_mixes` and `pricing` use this.
+
+use crate::rows::{PanelRow, value_at};
+use proof_branching::ceiling;
+use proof_limits::{Narrow, ProveStop, Span, times, wide_add, wide_mul};
+use proof_mixes::{fraction, rounded};
+use proof_program::Program;
+use proof_stages::Chances;
+use std::alloc::{AllocError, Global};
+
+/// The kinds of a point.
+#[derive(Drop)]
+pub(crate) struct Kinds<'a> {
+    alloc: Global,
+    classes: &'a Program,
+    // the number of each free class
+    pub(crate) free: Vec<usize>,
+    // the chance of a member of each class, times the total
+    pub(crate) parts: Vec<Narrow>,
+    pub(crate) total: Narrow,
+    // the span of each class's count in panels of the point's face
+    pub(crate) spans: Vec<Span>,
+}
+
+/// Returns how many of these members are in each class.
+pub(crate) fn counts_of(
+    alloc: Global,
+    classes: &Program,
+    members: &[usize],
+) -> Result<Vec<i64>, AllocError> {
+    let mut counts = vec![in alloc; 0i64; classes.columns()]?;
+    for member in members {
+        if *member < classes.volunteers() {
+            if let Some(count) = counts.get_mut(classes.column_of(*member)) {
+                *count = 1i64.saturating_add(*count);
+            }
+        }
+    }
+    Ok(counts)
+}
+
+impl<'a> Kinds<'a> {
+    /// Returns the kinds of a point with these chances of classes.
+    pub(crate) fn new(
+        alloc: Global,
+        classes: &'a Program,
+        chances: &Chances,
+    ) -> Result<Kinds<'a>, ProveStop> {
+        let total = chances.common();
+        let mut free = Vec::new(alloc);
+        let mut parts = Vec::new(alloc);
+        let mut spans = Vec::new(alloc);
+        for class in 0..classes.columns() {
+            let chance = chances.chance(class).ok_or(ProveStop::Lost)?;
+            let part = chance.scaled(total)?;
+            parts.push(part)?;
+            if part.get() <= 0 {
+                spans.push(Span::point(Narrow::ZERO))?;
+            } else if part.get() >= total.get() {
+                spans.push(Span::point(classes.size_of(class)))?;
+            } else {
+                free.push(class)?;
+                spans.push(classes.spans()[class])?;
+            }
+        }
+        Ok(Kinds {
+            alloc,
+            classes,
+            free,
+            parts,
+            total,
+            spans,
+        })
+    }
+
+    /// Returns how many members of a class a panel has on average, times the total.
+    pub(crate) fn amount(&self, class: usize) -> i128 {
+        if class < self.classes.columns() {
+            times(value_at(&self.parts, class), self.classes.size_of(class))
+        } else {
+            0
+        }
+    }
+
+    /// Returns the amount of each free kind, and last the total.
+    pub(crate) fn amounts(&self) -> Result<Vec<i128>, AllocError> {
+        let mut amounts = Vec::new(self.alloc);
+        for class in &self.free {
+            amounts.push(self.amount(*class))?;
+        }
+        amounts.push(self.total.wide())?;
+        Ok(amounts)
+    }
+
+    /// Returns the point in fixed point: the amounts divided by the total.
+    pub(crate) fn point(&self) -> Result<Vec<i64>, AllocError> {
+        let mut point = Vec::new(self.alloc);
+        for amount in &self.amounts()? {
+            point.push(fraction(*amount, self.total.wide()))?;
+        }
+        Ok(point)
+    }
+
+    /// Returns a row's coefficients by class. All members of a class have one coefficient.
+    pub(crate) fn coefficients(&self, row: &PanelRow) -> Result<Vec<Narrow>, AllocError> {
+        let mut coefficients = Vec::new(self.alloc);
+        for class in 0..self.classes.columns() {
+            let first = self.classes.first_of(class);
+            coefficients.push(value_at(&row.coefficients, first))?;
+        }
+        Ok(coefficients)
+    }
+
+    /// Returns the counts of the free kinds, or None if a count is not in its span.
+    pub(crate) fn free_counts(&self, counts: &[i64]) -> Result<Option<Vec<i64>>, AllocError> {
+        for (count, span) in counts.iter().zip(&self.spans) {
+            if *count < span.least().get() || span.greatest().get() < *count {
+                return Ok(None);
+            }
+        }
+        let mut own = Vec::new(self.alloc);
+        for class in &self.free {
+            own.push(counts.get(*class).copied().unwrap_or(0))?;
+        }
+        Ok(Some(own))
+    }
+
+    /// Returns the count of each class in a composition.
+    pub(crate) fn all_counts(&self, counts: &[i64]) -> Result<Vec<i64>, AllocError> {
+        let mut all = Vec::new(self.alloc);
+        for span in &self.spans {
+            all.push(span.least().get())?;
+        }
+        for (class, count) in self.free.iter().zip(counts) {
+            if let Some(own) = all.get_mut(*class) {
+                *own = *count;
+            }
+        }
+        Ok(all)
+    }
+
+    /// Returns a weight for each class: minus the dual of its row, where the greatest becomes `most`, rounded; 0 for classes that are not
+    /// free.
+    pub(crate) fn weights(&self, duals: &[i64], most: i128) -> Result<Vec<Narrow>, AllocError> {
+        let mut greatest: i128 = 1;
+        for (dual, _) in duals.iter().zip(&self.free) {
+            greatest = greatest.max(i128::from(dual.unsigned_abs()));
+        }
+        let mut weights = vec![in self.alloc; Narrow::ZERO; self.classes.columns()]?;
+        for (dual, class) in duals.iter().zip(&self.free) {
+            let scaled = i128::from(*dual).wrapping_neg().wrapping_mul(most);
+            if let Some(weight) = weights.get_mut(*class) {
+                *weight = i64::try_from(rounded(scaled, greatest))
+                    .ok()
+                    .and_then(Narrow::new)
+                    .unwrap_or(Narrow::ZERO);
+            }
+        }
+        Ok(weights)
+    }
+
+    /// Returns the least whole number that is at least the weight of the point.
+    pub(crate) fn need(&self, weights: &[Narrow]) -> Result<Narrow, ProveStop> {
+        let mut sum = 0;
+        for class in &self.free {
+            let own = wide_mul(value_at(weights, *class).wide(), self.amount(*class))?;
+            sum = wide_add(sum, own)?;
+        }
+        if self.total < Narrow::ONE {
+            return Err(ProveStop::Lost);
+        }
+        ceiling(sum, self.total.wide())
+    }
+}

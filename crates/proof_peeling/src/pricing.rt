@@ -1,0 +1,73 @@
+//! The face of a point over classes: the rows that hold of each composition which a mix of the point can have. Stands on `kinds` and
+//! `rows`; `class_mixes` uses this.
+
+use crate::kinds::Kinds;
+use crate::rows::{PanelRow, value_at};
+use proof_limits::{Narrow, ProveStop, Span, times, wide_add, wide_mul};
+use proof_stages::CompositionSearch;
+use std::alloc::Global;
+
+/// A row over classes: a coefficient for each class, and the span of its sums.
+#[derive(Debug, Drop)]
+pub(crate) struct ClassRow {
+    coefficients: Vec<Narrow>,
+    span: Span,
+}
+
+/// Returns the rows over classes. A row whose sum over the point is an end of its span has that sum in each composition of a mix.
+pub(crate) fn class_rows(
+    alloc: Global,
+    kinds: &Kinds<'_>,
+    rows: &[PanelRow],
+) -> Result<Vec<ClassRow>, ProveStop> {
+    let mut own = Vec::new(alloc);
+    for row in rows {
+        let coefficients = kinds.coefficients(row)?;
+        let span = face_span(kinds, row.span, &coefficients)?;
+        own.push(ClassRow { coefficients, span })?;
+    }
+    Ok(own)
+}
+
+/// Returns a search for compositions within these rows.
+pub(crate) fn search_of(
+    alloc: Global,
+    kinds: &Kinds<'_>,
+    rows: &[ClassRow],
+) -> Result<CompositionSearch, ProveStop> {
+    let mut search = CompositionSearch::new(alloc, &kinds.spans)?;
+    for row in rows {
+        search.add_row(&row.coefficients, row.span)?;
+    }
+    Ok(search)
+}
+
+/// True if a composition, given by its count for each class, is within all rows.
+pub(crate) fn are_met(rows: &[ClassRow], counts: &[i64]) -> Result<bool, ProveStop> {
+    for row in rows {
+        let mut sum = 0;
+        for (coefficient, count) in row.coefficients.iter().zip(counts) {
+            sum = wide_add(sum, wide_mul(coefficient.wide(), i128::from(*count))?)?;
+        }
+        if sum < row.span.least().wide() || row.span.greatest().wide() < sum {
+            return Ok(false);
+        }
+    }
+    Ok(true)
+}
+
+/// Returns the span of a row: one number if the row's sum over the point is an end of the row's span.
+fn face_span(kinds: &Kinds<'_>, span: Span, coefficients: &[Narrow]) -> Result<Span, ProveStop> {
+    let mut sum = 0;
+    for class in 0..coefficients.len() {
+        let own = wide_mul(value_at(coefficients, class).wide(), kinds.amount(class))?;
+        sum = wide_add(sum, own)?;
+    }
+    Ok(if sum == times(span.greatest(), kinds.total) {
+        Span::point(span.greatest())
+    } else if sum == times(span.least(), kinds.total) {
+        Span::point(span.least())
+    } else {
+        span
+    })
+}

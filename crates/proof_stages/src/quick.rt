@@ -1,0 +1,594 @@
+//! Stages over compositions with the level as a variable: a program in fixed point makes the level as great as the known compositions
+//! allow, and searches find further ones. Its multipliers, made whole, are the weights of a stage; an exact search shows the cap. Stands
+//! on `searches`, `levels` and `proof_mixes`; `columned` tries this first. Promise: nothing of the budget is given back.
+
+ghost use Rattle.proof_limits.specs.Budgets.{SpendsOn};
+
+use crate::chances::Chances;
+use crate::class_stages::{ClassStage, everybody_left};
+use crate::columned::Columned;
+use crate::fractions::Chance;
+use crate::levels::weight_sums;
+use crate::searches::CompositionSearch;
+use crate::wholes::{rounded_weights, whole_weights};
+use proof_branching::Found;
+use proof_limits::{Budget, Narrow, ProveStop, Span, narrow_add, wide_mul};
+use proof_mixes::{Columns, Master, Solved, UNIT, fraction};
+use proof_program::Program;
+use std::alloc::Global;
+
+/// How many compositions may be searched for in a stage.
+const MOST_STEPS: u32 = 5000;
+
+/// What the greatest weight of a search is rounded to: 2^22, or 2^15 if numbers pass 2^62.
+const ROUNDINGS: [i128; 2] = [4_194_304, 32_768];
+
+/// The scales of whole weights that are tried after each change of the known compositions.
+const FIRST_SCALES: i64 = 1000;
+
+/// The greatest scale that is tried once no heavier composition is found.
+const MOST_SCALE: i64 = 20_000;
+
+/// How many scales are tried at a time.
+const MOST_TRIES: u32 = 64;
+
+/// How far the exact level may be from that of the fixed-point program, 2^-26.
+const MOST_ERROR: u64 = 1_048_576;
+
+/// How a step of the search for a stage ended.
+#[derive(Clone, Copy, Debug, PartialEq, Eq)]
+enum Step {
+    /// The stage is closed.
+    Closed,
+    /// A further composition was found.
+    Further,
+    /// All columns that are left have the chance 1.
+    AtOne,
+    Doubt,
+}
+
+/// The state of the search for stages.
+#[derive(Drop)]
+struct Quick<'a> {
+    alloc: Global,
+    program: &'a Program,
+    search: CompositionSearch,
+    // the free columns: those with a row in the fixed-point program
+    free: Vec<usize>,
+    columns: Columns,
+    master: Master,
+    entries: Vec<i64>,
+    chances: Chances,
+    stages: Vec<ClassStage>,
+}
+
+/// Finds the stages of a pool over its compositions, of which some are known: each has a count for each column. Adds those that it finds.
+/// Returns None in doubt.
+pub(crate) fn quick_stages(
+    alloc: Global,
+    program: &Program,
+    known: &mut Vec<Vec<i64>>,
+    budget: &mut Budget,
+) -> Result<Option<Columned>, ProveStop>
+    ensures { SpendsOn budget.old budget.new }
+{
+    let mut search = class_search(alloc, program)?;
+    match first_known(alloc, &mut search, known, budget)? {
+        First::Known => from_known(alloc, program, search, known, budget),
+        First::Nothing => Ok(Some(Columned::Empty)),
+        First::Doubt => Ok(None),
+    }
+}
+
+/// Whether a composition is known.
+#[derive(Clone, Copy, Debug, PartialEq, Eq)]
+enum First {
+    Known,
+    /// There is none.
+    Nothing,
+    Doubt,
+}
+
+/// Returns a search within the program's rows.
+fn class_search(alloc: Global, program: &Program) -> Result<CompositionSearch, ProveStop> {
+    let mut search = CompositionSearch::new(alloc, program.spans())?;
+    for row in program.rows() {
+        search.add_row(row.coefficients(), row.span())?;
+    }
+    Ok(search)
+}
+
+/// Searches for a composition if none is known.
+fn first_known(
+    alloc: Global,
+    search: &mut CompositionSearch,
+    known: &mut Vec<Vec<i64>>,
+    budget: &mut Budget,
+) -> Result<First, ProveStop>
+    ensures { SpendsOn budget.old budget.new }
+{
+    if !known.is_empty() {
+        return Ok(First::Known);
+    }
+    let found = search.wished(&[], u64::MAX, budget)?;
+    joined(alloc, &found, known)
+}
+
+/// Adds the composition that was found, if one was.
+fn joined(alloc: Global, found: &Found, known: &mut Vec<Vec<i64>>) -> Result<First, ProveStop> {
+    match found {
+        Found::Point(point) => {
+            known.push(counts_of(alloc, point)?)?;
+            Ok(First::Known)
+        }
+        Found::Nothing => Ok(First::Nothing),
+        Found::Doubt => Ok(First::Doubt),
+    }
+}
+
+/// Finds the stages from the known compositions on.
+fn from_known(
+    alloc: Global,
+    program: &Program,
+    mut search: CompositionSearch,
+    known: &mut Vec<Vec<i64>>,
+    budget: &mut Budget,
+) -> Result<Option<Columned>, ProveStop>
+    ensures { SpendsOn budget.old budget.new }
+{
+    let unreached = cover(alloc, program, &mut search, known, budget)?;
+    let mut quick = begun(alloc, program, search, known, unreached)?;
+    let is_settled = quick.stages(budget)?;
+    quick.note(known)?;
+    if is_settled {
+        Ok(Some(Columned::Settled(quick.stages, quick.chances)))
+    } else {
+        Ok(None)
+    }
+}
+
+/// Returns the state after the stage of the columns that no panel has, if there are some. Each of them has the weight 1 in `unreached`.
+fn begun<'a>(
+    alloc: Global,
+    program: &'a Program,
+    mut search: CompositionSearch,
+    known: &[Vec<i64>],
+    unreached: Vec<Narrow>,
+) -> Result<Quick<'a>, ProveStop> {
+    let mut chances = Chances::unsettled(alloc, program.columns())?;
+    let mut stages = Vec::new(alloc);
+    if unreached.iter().any(|weight| !weight.is_zero()) {
+        search.add_row(&unreached, Span::point(Narrow::ZERO))?;
+        settle(&mut chances, &unreached, Chance::ZERO)?;
+        stages.push(ClassStage {
+            weights: unreached,
+            cap: Narrow::ZERO,
+            shown_by: None,
+        })?;
+    }
+    Quick::new(alloc, program, search, known, chances, stages)
+}
+
+/// Searches for compositions until each column that a panel can have is in one. Returns weights: 1 for each column that none has and that
+/// isn't seated, else 0.
+fn cover(
+    alloc: Global,
+    program: &Program,
+    search: &mut CompositionSearch,
+    known: &mut Vec<Vec<i64>>,
+    budget: &mut Budget,
+) -> Result<Vec<Narrow>, ProveStop>
+    ensures { SpendsOn budget.old budget.new }
+{
+    let mut weights = Vec::new(alloc);
+    for span in program.spans() {
+        weights.push(if span.least().is_zero() {
+            Narrow::ONE
+        } else {
+            Narrow::ZERO
+        })?;
+    }
+    for counts in known.iter() {
+        clear(&mut weights, counts);
+    }
+    'searches: for _ in 0..program.columns() {
+        match search.beating(&weights, Narrow::ONE, u64::MAX, budget)? {
+            Found::Point(point) => {
+                let counts = counts_of(alloc, &point)?;
+                clear(&mut weights, &counts);
+                known.push(counts)?;
+            }
+            Found::Nothing | Found::Doubt => return Ok(weights),
+        }
+    }
+    Ok(weights)
+}
+
+/// Sets the weight of each column that a composition has to 0.
+fn clear(weights: &mut [Narrow], counts: &[i64]) {
+    for (weight, count) in weights.iter_mut().zip(counts) {
+        if *count > 0 {
+            *weight = Narrow::ZERO;
+        }
+    }
+}
+
+/// Returns the numbers of a point.
+fn counts_of(alloc: Global, point: &[Narrow]) -> Result<Vec<i64>, ProveStop> {
+    let mut counts = Vec::new(alloc);
+    for count in point {
+        counts.push(count.get())?;
+    }
+    Ok(counts)
+}
+
+/// Settles each unsettled column whose weight is above 0 at a chance.
+fn settle(chances: &mut Chances, weights: &[Narrow], chance: Chance) -> Result<(), ProveStop> {
+    for (column, weight) in weights.iter().enumerate() {
+        if chances.chance(column).is_none() && weight.get() > 0 {
+            chances.settle_at(column, chance)?;
+        }
+    }
+    Ok(())
+}
+
+impl<'a> Quick<'a> {
+    /// Begins with the known compositions.
+    fn new(
+        alloc: Global,
+        program: &'a Program,
+        search: CompositionSearch,
+        known: &[Vec<i64>],
+        chances: Chances,
+        stages: Vec<ClassStage>,
+    ) -> Result<Quick<'a>, ProveStop> {
+        let mut free = Vec::new(alloc);
+        let mut entries = Vec::new(alloc);
+        let mut point = Vec::new(alloc);
+        for column in 0..program.columns() {
+            if chances.chance(column).is_none() && !program.spans()[column].is_point() {
+                free.push(column)?;
+                entries.push(-program.size_of(column).get())?;
+                point.push(0)?;
+            }
+        }
+        entries.push(0)?;
+        point.push(UNIT)?;
+        let mut master = Master::new(alloc, &point)?;
+        for row in 0..free.len() {
+            master.set_row(row, 0, true);
+        }
+        let mut quick = Quick {
+            alloc,
+            program,
+            search,
+            free,
+            columns: Columns::new(alloc),
+            master,
+            entries,
+            chances,
+            stages,
+        };
+        for counts in known {
+            let _is_new = quick.join(counts)?;
+        }
+        Ok(quick)
+    }
+
+    /// Adds a composition, given by its counts. False if it is known.
+    fn join(&mut self, counts: &[i64]) -> Result<bool, ProveStop> {
+        let mut own = Vec::new(self.alloc);
+        for column in &self.free {
+            own.push(counts.get(*column).copied().unwrap_or(0))?;
+        }
+        Ok(self.columns.join(own)?)
+    }
+
+    /// Makes the compositions found the known ones.
+    fn note(&self, known: &mut Vec<Vec<i64>>) -> Result<(), ProveStop> {
+        known.clear();
+        for column in &self.columns.list {
+            let mut counts = Vec::new(self.alloc);
+            for span in self.program.spans() {
+                counts.push(span.least().get())?;
+            }
+            for (place, count) in self.free.iter().zip(&column.counts) {
+                if let Some(own) = counts.get_mut(*place) {
+                    *own = *count;
+                }
+            }
+            known.push(counts)?;
+        }
+        Ok(())
+    }
+
+    /// Finds all stages. False in doubt.
+    fn stages(&mut self, budget: &mut Budget) -> Result<bool, ProveStop>
+        ensures { SpendsOn budget.old budget.new }
+    {
+        'stages: for _ in 0..MOST_STEPS {
+            if !self.has_unsettled() {
+                return self.close_last();
+            }
+            self.master.set_entries(&self.entries);
+            match self.stage(budget)? {
+                Step::Closed | Step::Further => {}
+                Step::AtOne => return self.close_last(),
+                Step::Doubt => return Ok(false),
+            }
+        }
+        Ok(false)
+    }
+
+    /// Finds the next stage: searches for compositions until the level can't rise, and closes the stage.
+    fn stage(&mut self, budget: &mut Budget) -> Result<Step, ProveStop>
+        ensures { SpendsOn budget.old budget.new }
+    {
+        'steps: for _ in 0..MOST_STEPS {
+            let step = self.step(budget)?;
+            if step != Step::Further {
+                return Ok(step);
+            }
+        }
+        Ok(Step::Doubt)
+    }
+
+    /// Makes the level as great as the known compositions allow, and then closes the stage or searches for a further composition.
+    fn step(&mut self, budget: &mut Budget) -> Result<Step, ProveStop>
+        ensures { SpendsOn budget.old budget.new }
+    {
+        if self.master.solve(&self.columns, budget)? != Solved::Done {
+            return Ok(Step::Doubt);
+        }
+        let level = self.master.least();
+        let is_at_one = level >= UNIT.saturating_sub(65_536);
+        if !is_at_one {
+            let step = self.close_by_scales(1, FIRST_SCALES, level, budget)?;
+            if step != Step::Doubt {
+                return Ok(step);
+            }
+        }
+        match self.join_heavier(budget)? {
+            Step::Closed if is_at_one => Ok(Step::AtOne),
+            Step::Closed => self.close_any(level, budget),
+            step => Ok(step),
+        }
+    }
+
+    /// Searches for a heavier composition by rounded multipliers, and adds it. Returns `Closed` if none was found.
+    fn join_heavier(&mut self, budget: &mut Budget) -> Result<Step, ProveStop>
+        ensures { SpendsOn budget.old budget.new }
+    {
+        match self.heavier(budget)? {
+            Found::Point(point) => {
+                let counts = counts_of(self.alloc, &point)?;
+                let is_new = self.join(&counts)?;
+                Ok(if is_new { Step::Further } else { Step::Closed })
+            }
+            Found::Nothing => Ok(Step::Closed),
+            Found::Doubt => Ok(Step::Doubt),
+        }
+    }
+
+    /// True if a free column is unsettled.
+    fn has_unsettled(&self) -> bool {
+        self.free
+            .iter()
+            .any(|column| self.chances.chance(*column).is_none())
+    }
+
+    /// Adds the stage of all columns that are left, which have the chance 1, if there are some.
+    fn close_last(&mut self) -> Result<bool, ProveStop> {
+        if !self.chances.are_settled() {
+            let (weights, cap) = everybody_left(self.alloc, self.program, &self.chances)?;
+            settle(&mut self.chances, &weights, Chance::ONE)?;
+            self.stages.push(ClassStage {
+                weights,
+                cap,
+                shown_by: None,
+            })?;
+        }
+        Ok(true)
+    }
+
+    /// Searches for a composition by rounded multipliers. If numbers pass 2^62 with all roundings, leaves it to `close`.
+    fn heavier(&mut self, budget: &mut Budget) -> Result<Found, ProveStop>
+        ensures { SpendsOn budget.old budget.new }
+    {
+        let multipliers = self.multipliers()?;
+        'roundings: for greatest in ROUNDINGS {
+            let (own, need) = rounded_weights(self.alloc, &multipliers, self.cost(), greatest)?;
+            let weights = self.spread_weights(&own)?;
+            match self.search.beating(&weights, need, u64::MAX, budget) {
+                Err(ProveStop::Wide(_) | ProveStop::BeyondWidth) => {}
+                found => return found,
+            }
+        }
+        Ok(Found::Nothing)
+    }
+
+    /// Returns the multipliers of the free columns' rows, which are the weights. An unsettled column weighs at least 0.
+    fn multipliers(&self) -> Result<Vec<i64>, ProveStop> {
+        let mut multipliers = Vec::new(self.alloc);
+        for (dual, column) in self.master.duals.iter().zip(&self.free) {
+            let own = dual.saturating_neg();
+            let is_settled = self.chances.chance(*column).is_some();
+            multipliers.push(if is_settled { own } else { own.max(0) })?;
+        }
+        Ok(multipliers)
+    }
+
+    /// Returns what the known compositions of the basis weigh.
+    fn cost(&self) -> i64 {
+        self.master.duals.last().copied().unwrap_or(0)
+    }
+
+    /// Returns the weight of each column, which is 0 if the column isn't free.
+    fn spread_weights(&self, own: &[i64]) -> Result<Vec<Narrow>, ProveStop> {
+        let mut weights = vec![in self.alloc; Narrow::ZERO; self.program.columns()]?;
+        for (column, number) in self.free.iter().zip(own) {
+            if let Some(weight) = weights.get_mut(*column) {
+                *weight = Narrow::new(*number).ok_or(ProveStop::Lost)?;
+            }
+        }
+        Ok(weights)
+    }
+
+    /// Tries to close a stage by whole weights at greater scales, and then by exact ones.
+    fn close_any(&mut self, level: i64, budget: &mut Budget) -> Result<Step, ProveStop>
+        ensures { SpendsOn budget.old budget.new }
+    {
+        let from = FIRST_SCALES.saturating_add(1);
+        let closing = self.close_by_scales(from, MOST_SCALE, level, budget)?;
+        if closing != Step::Doubt {
+            return Ok(closing);
+        }
+        match self.exact_weights()? {
+            Some(own) => self.close(&own, level, budget),
+            None => Ok(Step::Doubt),
+        }
+    }
+
+    /// Tries to close a stage by whole weights at the scales `from..=most`.
+    fn close_by_scales(
+        &mut self,
+        from: i64,
+        most: i64,
+        level: i64,
+        budget: &mut Budget,
+    ) -> Result<Step, ProveStop>
+        ensures { SpendsOn budget.old budget.new }
+    {
+        let multipliers = self.multipliers()?;
+        let mut next = from;
+        let mut last = Vec::new(self.alloc);
+        'scales: for _ in 0..MOST_TRIES {
+            let found = whole_weights(self.alloc, &multipliers, next, most)?;
+            let Some((scale, own)) = found else {
+                break;
+            };
+            next = scale.saturating_add(1);
+            if own.as_slice() == last.as_slice() {
+                continue;
+            }
+            let closing = self.close(&own, level, budget)?;
+            if closing != Step::Doubt {
+                return Ok(closing);
+            }
+            last = own;
+        }
+        Ok(Step::Doubt)
+    }
+
+    /// Returns the weights of the free columns from the exact duals, or None if these aren't found or a weight is below 0.
+    fn exact_weights(&self) -> Result<Option<Vec<i64>>, ProveStop> {
+        let Some(duals) = self.master.whole_duals(&self.columns)? else {
+            return Ok(None);
+        };
+        let mut weights = Vec::new(self.alloc);
+        for (dual, column) in duals.iter().zip(&self.free) {
+            let own = dual.saturating_neg();
+            if own < 0 && self.chances.chance(*column).is_none() {
+                return Ok(None);
+            }
+            weights.push(own)?;
+        }
+        Ok(Some(weights))
+    }
+
+    /// Tries to close a stage with these weights of the free columns.
+    fn close(&mut self, own: &[i64], level: i64, budget: &mut Budget) -> Result<Step, ProveStop>
+        ensures { SpendsOn budget.old budget.new }
+    {
+        let cap = self.heaviest(own)?;
+        let weights = self.spread_weights(own)?;
+        if weights.len() != self.program.columns() {
+            return Err(ProveStop::Lost);
+        }
+        let sums = weight_sums(self.program, &self.chances, &weights)?;
+        if sums.unsettled.get() <= 0 {
+            return Ok(Step::Doubt);
+        }
+        let chance = sums.level(cap, self.chances.common())?;
+        let exact = fraction(chance.num().wide(), chance.den().wide());
+        if exact.saturating_sub(level).unsigned_abs() > MOST_ERROR {
+            return Ok(Step::Doubt);
+        }
+        let need = narrow_add(cap.wide(), 1)?;
+        let found = match self.search.beating(&weights, need, u64::MAX, budget) {
+            Err(ProveStop::Wide(_) | ProveStop::BeyondWidth) => Found::Doubt,
+            found => found?,
+        };
+        match found {
+            Found::Point(point) => {
+                let counts = counts_of(self.alloc, &point)?;
+                let is_new = self.join(&counts)?;
+                Ok(if is_new { Step::Further } else { Step::Doubt })
+            }
+            Found::Nothing => {
+                self.settle(own, weights, cap, chance)?;
+                Ok(Step::Closed)
+            }
+            Found::Doubt => Ok(Step::Doubt),
+        }
+    }
+
+    /// Returns the greatest weight of a known composition that attains the caps of all closed stages.
+    fn heaviest(&self, own: &[i64]) -> Result<Narrow, ProveStop> {
+        let mut most = None;
+        for column in &self.columns.list {
+            if !column.is_off {
+                let weight = weight_of(own, &column.counts)?;
+                most = Some(most.map_or(weight, |most: i128| most.max(weight)));
+            }
+        }
+        narrow_add(most.ok_or(ProveStop::Lost)?, 0)
+    }
+
+    /// Closes a stage: settles the columns, puts the lighter compositions aside, and fixes the rows of the columns settled.
+    fn settle(
+        &mut self,
+        own: &[i64],
+        weights: Vec<Narrow>,
+        cap: Narrow,
+        chance: Chance,
+    ) -> Result<(), ProveStop> {
+        for column in self.columns.list.iter_mut() {
+            if weight_of(own, &column.counts)? < cap.wide() {
+                column.is_off = true;
+            }
+        }
+        for (row, (column, weight)) in self.free.iter().zip(own).enumerate() {
+            if self.chances.chance(*column).is_none() && *weight > 0 {
+                let size = match self.entries.get_mut(row) {
+                    Some(entry) => {
+                        let size = entry.saturating_neg();
+                        *entry = 0;
+                        size
+                    }
+                    None => 0,
+                };
+                let amount = wide_mul(chance.num().wide(), i128::from(size))?;
+                self.master
+                    .set_row(row, fraction(amount, chance.den().wide()), false);
+            }
+        }
+        self.search.add_row(&weights, Span::point(cap))?;
+        settle(&mut self.chances, &weights, chance)?;
+        self.stages.push(ClassStage {
+            weights,
+            cap,
+            shown_by: None,
+        })?;
+        Ok(())
+    }
+}
+
+/// Returns the weight of a composition, by its counts of the free columns.
+fn weight_of(own: &[i64], counts: &[i64]) -> Result<i128, ProveStop> {
+    let mut sum: i128 = 0;
+    for (weight, count) in own.iter().zip(counts) {
+        sum = sum.wrapping_add(i128::from(*weight).wrapping_mul(i128::from(*count)));
+    }
+    Ok(sum)
+}

@@ -1,0 +1,198 @@
+//! The search for compositions within spans of columns and rows, by an exact table. Stands on the searches of `proof_branching`; `quick`
+//! and `proof_peeling` use it. Promise: nothing of the budget is given back.
+
+ghost use Rattle.proof_limits.specs.Budgets.{SpendsOn};
+
+use proof_branching::{Found, search, search_weighing};
+use proof_limits::{Budget, Narrow, ProveStop, Span, narrow_add, times, wide_add};
+use proof_table::Table;
+use std::alloc::Global;
+
+/// A search for compositions: counts of columns within spans, whose sums by rows are within spans too.
+#[derive(Drop)]
+pub struct CompositionSearch {
+    alloc: Global,
+    table: Table,
+    columns: Vec<Span>,
+    rows: Vec<Span>,
+    coefficients: Vec<Vec<Narrow>>,
+}
+
+impl CompositionSearch {
+    /// Returns a search without rows.
+    pub fn new(alloc: Global, columns: &[Span]) -> Result<CompositionSearch, ProveStop> {
+        Ok(CompositionSearch {
+            alloc,
+            table: Table::new(alloc, columns.len())?,
+            columns: Vec::from_slice(alloc, columns)?,
+            rows: Vec::new(alloc),
+            coefficients: Vec::new(alloc),
+        })
+    }
+
+    /// Adds a row with a coefficient for each column.
+    pub fn add_row(&mut self, coefficients: &[Narrow], span: Span) -> Result<(), ProveStop> {
+        if coefficients.len() != self.table.columns() {
+            return Err(ProveStop::Lost);
+        }
+        self.table.add_row(coefficients)?;
+        self.rows.push(span)?;
+        self.coefficients
+            .push(Vec::from_slice(self.alloc, coefficients)?)?;
+        Ok(())
+    }
+
+    /// Makes a new table, since one where a number passed 2^62 must not be used further.
+    fn begin_anew(&mut self) -> Result<(), ProveStop> {
+        let mut table = Table::new(self.alloc, self.columns.len())?;
+        for coefficients in &self.coefficients {
+            if coefficients.len() != table.columns() {
+                return Err(ProveStop::Lost);
+            }
+            table.add_row(coefficients)?;
+        }
+        self.table = table;
+        Ok(())
+    }
+
+    /// Searches for a composition that weighs at least `need`, at no more than `most` nodes. If a number passes 2^62, searches once more with
+    /// a new table, and then with few rows. If that stops too, another search can still be made.
+    pub fn beating(
+        &mut self,
+        weights: &[Narrow],
+        need: Narrow,
+        most: u64,
+        budget: &mut Budget,
+    ) -> Result<Found, ProveStop>
+        ensures { SpendsOn budget.old budget.new }
+    {
+        'tries: for _ in 0..2 {
+            match self.beating_once(weights, need, most, budget) {
+                Err(ProveStop::Wide(_) | ProveStop::BeyondWidth) => self.begin_anew()?,
+                found => return found,
+            }
+        }
+        self.beating_by_few_rows(weights, need, most, budget)
+    }
+
+    /// Searches within the rows without a coefficient above 1. While the point found is outside of another row, adds that row, and searches
+    /// again.
+    fn beating_by_few_rows(
+        &self,
+        weights: &[Narrow],
+        need: Narrow,
+        most: u64,
+        budget: &mut Budget,
+    ) -> Result<Found, ProveStop>
+        ensures { SpendsOn budget.old budget.new }
+    {
+        let mut search = self.of_few_rows()?;
+        'rows: for _ in 0..=self.rows.len() {
+            let found = search.beating_once(weights, need, most, budget)?;
+            if !self.extend(&mut search, &found)? {
+                return Ok(found);
+            }
+        }
+        Ok(Found::Doubt)
+    }
+
+    /// Returns a search within the rows without a coefficient above 1.
+    fn of_few_rows(&self) -> Result<CompositionSearch, ProveStop> {
+        let mut search = CompositionSearch::new(self.alloc, &self.columns)?;
+        for (coefficients, span) in self.coefficients.iter().zip(&self.rows) {
+            if coefficients.iter().all(|own| own.abs() <= Narrow::ONE) {
+                search.add_row(coefficients, *span)?;
+            }
+        }
+        Ok(search)
+    }
+
+    /// Adds the first row that the point found is outside of to a search. False if there is none.
+    fn extend(&self, search: &mut CompositionSearch, found: &Found) -> Result<bool, ProveStop> {
+        let Found::Point(point) = found else {
+            return Ok(false);
+        };
+        match self.broken_by(point)? {
+            Some(row) if row < self.rows.len() && row < self.coefficients.len() => {
+                search.add_row(&self.coefficients[row], self.rows[row])?;
+                Ok(true)
+            }
+            _ => Ok(false),
+        }
+    }
+
+    /// Returns the number of the first row that a point is outside of, or None if it is within all.
+    fn broken_by(&self, point: &[Narrow]) -> Result<Option<usize>, ProveStop> {
+        for (row, (coefficients, span)) in self.coefficients.iter().zip(&self.rows).enumerate() {
+            let mut sum = 0;
+            for (own, value) in coefficients.iter().zip(point) {
+                sum = wide_add(sum, times(*own, *value))?;
+            }
+            if sum < span.least().wide() || span.greatest().wide() < sum {
+                return Ok(Some(row));
+            }
+        }
+        Ok(None)
+    }
+
+    /// Searches for a composition that weighs at least `need`, with the present table.
+    fn beating_once(
+        &mut self,
+        weights: &[Narrow],
+        need: Narrow,
+        most: u64,
+        budget: &mut Budget,
+    ) -> Result<Found, ProveStop>
+        ensures { SpendsOn budget.old budget.new }
+    {
+        let span = Span::reaching(need, self.reach(weights)?);
+        if self.columns.len() != self.table.columns()
+            || self.rows.len() != self.table.rows()
+            || weights.len() != self.table.columns()
+        {
+            return Err(ProveStop::Lost);
+        }
+        search_weighing(
+            self.alloc,
+            &mut self.table,
+            &self.columns,
+            &self.rows,
+            weights,
+            span,
+            most,
+            budget,
+        )
+    }
+
+    /// Searches for any composition, and prefers those with a great sum of wishes.
+    pub fn wished(
+        &mut self,
+        wishes: &[i64],
+        most: u64,
+        budget: &mut Budget,
+    ) -> Result<Found, ProveStop>
+        ensures { SpendsOn budget.old budget.new }
+    {
+        self.table.aim(wishes, 1)?;
+        if self.columns.len() != self.table.columns() || self.rows.len() != self.table.rows() {
+            return Err(ProveStop::Lost);
+        }
+        search(
+            self.alloc,
+            &mut self.table,
+            &self.columns,
+            &self.rows,
+            most,
+            budget,
+        )
+    }
+
+    /// Returns the most that a composition weighs by the absolute values of the weights.
+    fn reach(&self, weights: &[Narrow]) -> Result<Narrow, ProveStop> {
+        let mut reach = 0;
+        for (weight, span) in weights.iter().zip(&self.columns) {
+            reach = wide_add(reach, times(weight.abs(), span.greatest()))?;
+        }
+        narrow_add(reach, 0)
+    }
+}
