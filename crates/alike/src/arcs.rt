@@ -1,5 +1,5 @@
-//! The panel of an arc of a dial. Each class gives the members of its window, and the window moves on by one member at each of the class's
-//! marks. A helper of spreading.
+//! The panel of an arc of a dial. The window of a class is the members whom it gives to the panel, as many as the composition takes. At
+//! each of the class's marks the window moves on by one member. `spreading` uses this.
 
 ghost use Rattle.std.specs.Prelude.{◌≡◌, ◌*◌, ◌/◌, ◌<◌, ◌≤◌, ℕ, false, filter, map, length, slice_index_or, All, IfOk, IsTrue};
 ghost use Rattle.std.specs.Int.{◌∣◌};

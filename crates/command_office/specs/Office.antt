@@ -77,7 +77,7 @@ AnswersAlone (Some (asks.Lottery it)) told = Answers pool_format (LotteryMeans i
 AnswersAlone (Some (asks.Check it)) told = Answers bundle_format (CheckMeans it.nodes) told
 -- `explain` reads any bytes. What its words are isn't defined, only which status comes, and the first line of the words at status 3
 AnswersAlone (Some (asks.Explain it)) told = TextOutcome (About any_format Explains) told
--- one line for every question about a bundle
+-- all questions about a bundle
 AnswersAlone (Some (asks.Question it)) told = Answers bundle_format (QuestionMeans it) told
 AnswersAlone (Some (asks.Make it)) told = SilentOutcome (IsTheAnswer (MakeMeans it.seed it.volunteers it.limits)) told
 AnswersAlone other told = ⊥
@@ -89,15 +89,15 @@ pub record LeavesStore (Right : Told → Type 0) (told : StoreTold) : Type 0 whe
 
 -- the outcomes that a call may have if its words ask for nothing, or for a command that opens no desk
 abbrev pub AnswersRightly : Option Asked → StoreTold → Type 0
--- one line for every command of the office: the answer is the outcome of the command over the store's tables. At most one answer is right
+-- all commands of the office: the answer is the outcome of the command over the store's tables. At most one answer is right
 -- (`steps_answer_once` of `command_stores`)
 AnswersRightly (Some (asks.Step store step)) told = SilentStoreOutcome store (StepMeans (step_command step)) told
--- one line for every import, and for a given proof that answers a round, about the file that the source held; at most one answer is right
--- (`imports_answer_once`)
+-- all imports, and `keep`, which solves an open round by a given proof. The answer is about the file that the source held. At most one
+-- answer is right (`imports_answer_once`)
 AnswersRightly (Some (asks.Import store import)) told = TextStoreOutcome store (ImportMeans import) told
 -- a proof of the pool of an open round, which the round keeps. As for `prove` without a store, nothing says whether the run finds one
 AnswersRightly (Some (asks.ProveRound store proving)) told = SilentStoreOutcome store (ProvesRound proving) told
--- one line for every text that is made of the store's tables
+-- all texts that are made of the store's tables
 AnswersRightly (Some (asks.Text store text)) told = SilentStoreOutcome store (TextMeans text) told
 AnswersRightly other told = LeavesStore (AnswersAlone other) told
 

@@ -1,5 +1,5 @@
--- What some lists of words give. These laws fix each command's name, its defaults, and the ends of its ranges, on which the program's users
--- rely; the table of words is code. Proved by computing, in src/worked.rt.
+-- What some lists of words give. The table of commands is code, so these laws fix what the program's users rely on: each command's name,
+-- its defaults, and the ends of its ranges. Proved by computing, in src/worked.rt.
 use Rattle.std.specs.Prelude.{◌≡◌, ℕ, List, [], ◌∷◌, None, Some, codes}
 use Rattle.command_words.specs.Words.{given_in}
 use Rattle.command_words.specs.declared.given.Value.{Value}

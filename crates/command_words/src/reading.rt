@@ -38,7 +38,7 @@ pub fn read_words<'a>(alloc: Global, words: &'a [String]) -> Result<Given<'a>, W
     read_by(alloc, &table, words)
 }
 
-/// Reads the words by a table.
+/// Reads the words of a call by `commands`, a table of commands with their options.
 fn read_by<'a>(
     alloc: Global,
     commands: &[TableCommand],

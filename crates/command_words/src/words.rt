@@ -33,7 +33,7 @@ pub enum CommandName {
     Loosen,
     /// Quotas of a pool that can't be met together, or a quota panel.
     Why,
-    /// A least loosening of a pool's quotas, found by integer programs and shown to be least by sums.
+    /// A least loosening of a pool's quotas. Integer programs find it; adding and comparing whole numbers shows that none is smaller.
     LoosenByProof,
     /// A page about the lottery of a bundle, or of a round of a store.
     Page,

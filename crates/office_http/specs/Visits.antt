@@ -42,7 +42,8 @@ abbrev pub visit : LinkTold → Kept → LinkTold → Kept → Result ℕ LinkFa
 visit link keeper link_after keeper_after ended =
     record { link = link; keeper = keeper; link_after = link_after; keeper_after = keeper_after; ended = ended }
 
--- `reply` is a reply to `bytes`. `before` are the tables that the keeper tells before this reply is found, and `after` those afterwards
+-- `reply` is a reply to `bytes`. `before` and `after` are the keeper's tables before and after the desk answers; None if the keeper doesn't
+-- tell its tables
 pub data IsReply (bytes : List ℕ) (before after : Option Tables) (reply : Reply) : Type 0 where
   -- the desk's reply over the tables that were loaded. The keeper then tells the tables that the desk leaves
   FromTables : (tables left : Tables) → IsLoaded before tables → Serves tables bytes (leaving left reply) → after ≡ option_map (λ told. left) before → IsReply bytes before after reply

@@ -100,7 +100,7 @@ impl Tally {
         self.taken += count;
     }
 
-    // Lets the front give `count` of the next class back.
+    // Undoes `take`: subtracts `count` members of the next class from what the front takes.
     pub(crate) fn give_back(&mut self, classes: &Classes, front: &[usize], count: usize)
         requires below { length front.now < length classes.now.classes }
         requires stands { Tracks classes.now (front.now ++ count ∷ []) (drop (length front.now + 1) classes.now.classes) self.old }

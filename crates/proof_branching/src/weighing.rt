@@ -1,6 +1,6 @@
 //! The search for a point whose weight lies in a span, by a row of weights that is added to the table during the search. Stands on
-//! `searching`; `proof_stages` and `proof_peeling` call it, and `proof_run` uses `add_weights` and `reach_of`. The contracts promise what
-//! is spent of the budget, the sizes of the table, which stops the calls may return, and that `ceiling` rounds up exactly.
+//! `searching`; `proof_stages`, `proof_peeling` and `proof_run` call it, and `proof_run` uses `add_weights` and `reach_of`. The contracts
+//! promise what is spent of the budget, the sizes of the table, which stops the calls may return, and that `ceiling` rounds up exactly.
 
 ghost use Rattle.std.specs.Prelude.{◌≡◌, ◌+◌, ◌<◌, ◌≤ℤ◌, pos, IfErr, IfOk, OnOk, length};
 ghost use Rattle.proof_table.specs.Sizes.{SameSizes};

@@ -1,13 +1,17 @@
-//! The compositions of a mix, as columns of its program: how many members a panel has of each free kind, and 1 for the total. `masters`,
-//! `wholes` and `class_mixes` use this.
+//! The compositions of a mix, as columns of its program. The program has a row for each free class of alike volunteers, which are those
+//! that the caller gave a row, and a last row for the total. Stands on no other module; `bases`, `exact`, `masters`, `wholes`,
+//! `proof_stages` and `proof_peeling` use this.
 
 use std::alloc::{AllocError, Global};
 
-/// A composition: its entries that are not 0, by row, with 1 in the last row. It is off if no mix of the point has it.
+/// A composition as a column of the program.
 #[derive(Debug, Drop)]
 pub struct Column {
+    /// How many members a panel has of each free class.
     pub counts: Vec<i64>,
+    /// The entries that are not 0, each with its row, by rising rows: the counts that are not 0, and 1 in the last row.
     pub entries: Vec<(usize, i64)>,
+    /// True if the column is put aside: mixes must give it the weight 0.
     pub is_off: bool,
 }
 
@@ -15,6 +19,7 @@ pub struct Column {
 #[derive(Debug, Drop)]
 pub struct Columns {
     alloc: Global,
+    /// The columns in the order in which they joined. A column's number is its index here.
     pub list: Vec<Column>,
 }
 
@@ -27,7 +32,8 @@ impl Columns {
         }
     }
 
-    /// Adds a composition, given by its count for each free kind. False if it is known.
+    /// Adds a composition, given by its count for each free class, at least 0; all compositions of a list have equally many counts. False
+    /// if the composition is known: then nothing changes. Fails only if memory runs out, and then adds nothing.
     pub fn join(&mut self, counts: Vec<i64>) -> Result<bool, AllocError> {
         let is_known = self
             .list

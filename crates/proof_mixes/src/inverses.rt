@@ -1,15 +1,15 @@
-//! The inverse of a square matrix in fixed point. `masters` uses this.
+//! The inverse of a square matrix in fixed point. Stands on `fixed`; `masters` uses this.
 
 use crate::fixed::{UNIT, product, quotient};
 use std::alloc::{AllocError, Global};
 use std::mem;
 
-/// The least pivot, 2^-26.
+/// A pivot must be above this by absolute value: 2^-26.
 const LEAST_PIVOT: u64 = 1_048_576;
 
-/// Returns the inverse of the matrix with these columns, given by their entries that are not 0: the row of place `k` gives the value of
-/// column `k`. Returns None if the columns are dependent, as far as fixed-point numbers show. `order` has the places of the columns, in
-/// the order in which they are eliminated.
+/// Returns the inverse of the matrix with these columns, given by their entries that are not 0, each with its row. Row `k` of the inverse
+/// times a right side is the value of column `k`. Returns None if the columns are dependent, as far as fixed-point numbers show. `order`
+/// has the numbers of the columns, in the order in which they are eliminated.
 pub(crate) fn inverse_of(
     alloc: Global,
     columns: &[Vec<(usize, i64)>],
@@ -81,7 +81,7 @@ fn identity(alloc: Global, size: usize) -> Result<Vec<Vec<i64>>, AllocError> {
     Ok(rows)
 }
 
-/// Returns the unused row with the greatest entry at a place, if it is great enough.
+/// Returns the unused row with the greatest absolute value at a place, if that is above `LEAST_PIVOT`.
 fn pivot_row(rows: &[Vec<i64>], is_used: &[bool], place: usize) -> Option<usize> {
     let mut greatest = LEAST_PIVOT;
     let mut found = None;
@@ -95,7 +95,7 @@ fn pivot_row(rows: &[Vec<i64>], is_used: &[bool], place: usize) -> Option<usize>
     found
 }
 
-/// Makes the entry of a row at a place 1, and those of the other rows 0.
+/// Makes the entry of a row of `left` at a place 1, and those of the other rows 0, and does the same to the rows of `right`.
 fn eliminate(
     alloc: Global,
     left: &mut [Vec<i64>],

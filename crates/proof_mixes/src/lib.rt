@@ -1,7 +1,8 @@
-//! Mixes: a point as a sum of columns times weights of at least 0. A program in fixed point finds weights (`masters`), and whole weights
-//! are solved exactly over a basis with a small determinant (`wholes`). Stands on `proof_table` for pseudo-random numbers, and on
-//! `frac128`. `proof_stages` and `proof_peeling` use it.
-//! Promises: each call is safe and ends. What is found is advice, since `proof_verify` tests each proof.
+//! Mixes: a point as a sum of columns, which are compositions, times weights of at least 0. A program in fixed point finds weights
+//! (`masters`) and its duals as whole numbers (`exact`); whole weights are solved over a basis with a small determinant (`wholes`). Stands
+//! on `proof_limits`, on `proof_table` for pseudo-random numbers, and on `frac128`. `proof_stages` and `proof_peeling` use it.
+//! Promises: each call is safe and ends, and gives nothing of the budget back. What is found is advice, since `proof_verify` tests each
+//! proof.
 #![tactic(auto)]
 
 mod bases;

@@ -1,5 +1,6 @@
 //! The program of a mix in fixed point: weights of columns, none below 0, that make up a point. A simplex method keeps the inverse of its
-//! basis. What it finds is advice. Stands on `fixed`, `inverses` and `columns`; `class_mixes` uses this.
+//! basis. What it finds is advice. Stands on `fixed`, `inverses` and `columns`, and takes pseudo-random numbers from `proof_table`. `exact`
+//! reads its basis; `proof_stages` and `proof_peeling` call it. All values, weights and duals are fixed-point numbers.
 
 ghost use Rattle.proof_limits.specs.Budgets.{SpendsOn};
 
@@ -11,7 +12,7 @@ use proof_table::PseudoRandom;
 use std::alloc::{AllocError, Global};
 use std::mem;
 
-/// How many changes of basis a solution may make.
+/// How many rounds a solution may have, each of which changes the basis or tests the values.
 const MOST_CHANGES: u32 = 20_000;
 
 /// After this many changes the values are computed anew, and the inverse is tested.
@@ -40,24 +41,25 @@ const PATIENCE: u32 = 30;
 pub(crate) enum Variable {
     /// How much the mix exceeds the point in a row. It should be 0 if the row isn't open.
     Missing(usize),
-    /// The least weight, by which each column's weight is greater than its variable.
+    /// The variable that is made as great as possible. After `set_least` it is the least weight times the number of columns; after
+    /// `set_entries` it is what the caller gave entries for.
     Least,
-    /// The weight of a column.
+    /// The weight of a column; after `set_least`, what it exceeds the least weight by.
     Weight(usize),
 }
 
 /// How a solution ended.
 #[derive(Clone, Copy, Debug, PartialEq, Eq)]
 pub enum Solved {
-    /// The weights make up the point, and the least weight is as great as possible.
+    /// The weights make up the point, up to 2^-27 in all, and the least weight is as great as possible, if it takes part.
     Done,
-    /// No weights make up the point. The duals show it.
+    /// No weights of the columns make up the point. The duals show it.
     Short,
-    /// The solution didn't come to an end.
+    /// The solution came to no end, or to a basis for which fixed-point numbers are too coarse. The weights and duals mean nothing.
     Trouble,
 }
 
-/// The program and its present basis.
+/// The program and its present basis. Each row has an amount, which is its number in the point.
 #[derive(Drop)]
 pub struct Master {
     pub(crate) alloc: Global,
@@ -69,11 +71,14 @@ pub struct Master {
     // for each row whether the mix may exceed the point, and whether the variable of what exceeds is basic
     is_open: Vec<bool>,
     pub(crate) is_missing: Vec<bool>,
-    // the column of the least weight times the number of columns, that number, and whether this variable is part of the program
+    // of `Variable::Least`: its entries in fixed point, by what its value is divided to get the least weight, and whether it takes part
     pub(crate) sums: Vec<i64>,
     count: i64,
     has_least: bool,
     is_least_used: bool,
+    /// The dual of each row after the last `solve`, in units of 2^-46. After `Short` they show that no weights make up the point: each
+    /// column's entries times the duals sum to 0 or more, as far as fixed-point numbers show, and the amounts times the duals to less than
+    /// 0. After `Done` they are those of the least weight, unless up to 2^-27 is still missing. After `Trouble` they mean nothing.
     pub duals: Vec<i64>,
     // changes of basis since the values, and since the inverse, were computed anew
     changes: u32,
@@ -82,7 +87,8 @@ pub struct Master {
 }
 
 impl Master {
-    /// Returns the program of a point without columns.
+    /// Returns the program of a point before its first solution. `point` has the amount of each row in units of 2^-46, last that of the
+    /// total. A mix must have exactly these amounts, until `set_row` says otherwise. Fails only if memory runs out.
     pub fn new(alloc: Global, point: &[i64]) -> Result<Master, AllocError> {
         let mut master = Master {
             alloc,
@@ -106,7 +112,7 @@ impl Master {
         Ok(master)
     }
 
-    /// Begins anew, at the basis where all is missing.
+    /// Begins anew, at the basis where all is missing. Fails only if memory runs out; then the program must not be used further.
     pub fn begin(&mut self) -> Result<(), AllocError> {
         let size = self.point.len();
         self.inverse.clear();
@@ -129,7 +135,8 @@ impl Master {
         Ok(())
     }
 
-    /// Lets the least weight of all columns that are not off take part.
+    /// Lets the least weight of all columns that are not off take part: from now on `solve` makes it as great as possible. Call it again
+    /// after columns joined or were put aside.
     pub fn set_least(&mut self, columns: &Columns) {
         self.sums.fill(0);
         let mut count: i64 = 0;
@@ -151,7 +158,7 @@ impl Master {
         self.age = STALE;
     }
 
-    /// Sets what a row should have, and whether it may have more.
+    /// Sets a row's amount in units of 2^-46, and whether a mix may have more. Does nothing if there is no such row.
     pub fn set_row(&mut self, row: usize, amount: i64, is_open: bool) {
         if let Some(own) = self.point.get_mut(row) {
             *own = amount;
@@ -162,7 +169,8 @@ impl Master {
         self.changes = FRESH;
     }
 
-    /// Sets the entries of the least weight's column, so that it stands for something else that is to be as great as possible.
+    /// Puts a variable of the caller in the place of the least weight: from now on `solve` makes it as great as possible, and `least`
+    /// returns it. `entries` has its entry in each row, whole numbers below 2^17 by absolute value.
     pub fn set_entries(&mut self, entries: &[i64]) {
         self.has_least = true;
         self.count = 1;
@@ -172,7 +180,8 @@ impl Master {
         self.age = STALE;
     }
 
-    /// Returns the least weight.
+    /// Returns the least weight, or the variable of `set_entries`, of the last `solve`: at least 0, in units of 2^-46. It is 0 if neither
+    /// takes part.
     pub fn least(&self) -> i64 {
         for (variable, value) in self.basis.iter().zip(&self.values) {
             if *variable == Variable::Least {
@@ -182,7 +191,8 @@ impl Master {
         0
     }
 
-    /// Returns the weight of each column. A column that is off has 0.
+    /// Returns the weight of each column of the last `solve`, which must have returned `Done`: at least 0, in units of 2^-46. A column that
+    /// is off has at most 2^-27. After `set_entries` the weights mean nothing. Fails only if memory runs out.
     pub fn shares(&self, alloc: Global, columns: &Columns) -> Result<Vec<i64>, AllocError> {
         let least = self.least();
         let mut shares = Vec::new(alloc);
@@ -199,7 +209,9 @@ impl Master {
         Ok(shares)
     }
 
-    /// Looks for weights that make up the point, and then for those with the greatest least weight. Each change of basis takes a pivot.
+    /// Looks for weights that make up the point, and then, if the least weight takes part, for those with the greatest least weight.
+    /// `columns` must be the list of the earlier calls, to which columns may have been added. Each change of basis takes a pivot. Stops if
+    /// no pivot is left or memory runs out.
     pub fn solve(&mut self, columns: &Columns, budget: &mut Budget) -> Result<Solved, ProveStop>
         ensures { SpendsOn budget.old budget.new }
     {
@@ -252,7 +264,8 @@ impl Master {
         Ok(Solved::Trouble)
     }
 
-    /// Puts aside the columns that no weights of the point have if the greatest least weight is 0, as the duals show. True if there are some.
+    /// Puts columns aside, that is, marks them as off: those that have the weight 0 in every mix of the point, as the duals show if the
+    /// greatest least weight is 0. Call it only after `set_least` and a `solve` that returned `Done`. True if some were put aside.
     pub fn put_aside(&self, columns: &mut Columns) -> bool {
         let mut greatest: u64 = 0;
         for dual in &self.duals {
@@ -295,7 +308,8 @@ impl Master {
         missing
     }
 
-    /// Returns the variable with the greatest gain, if one gains enough.
+    /// Returns the variable with the greatest gain, if one gains enough. If `is_whole`, nothing is missing, and the gain is one of the
+    /// least weight; else it is how much less is missing. If `is_disturbed`, pseudo-random numbers change the gains of columns.
     fn entering(
         &mut self,
         columns: &Columns,
@@ -363,7 +377,7 @@ impl Master {
         Ok(image)
     }
 
-    /// Returns the place of the basic variable that leaves, and how far the entering one grows.
+    /// Returns the place in the basis of the variable that leaves, and how far the entering one grows, or None if nothing stops it.
     fn leaving(&self, image: &[i64], columns: &Columns) -> Option<(usize, i64)> {
         let mut most = i128::MAX;
         for ((variable, value), fall) in self.basis.iter().zip(&self.values).zip(image) {
@@ -442,7 +456,8 @@ impl Master {
         }
     }
 
-    /// Computes the values anew, and the inverse if it is old or bad. False if the point can't be met.
+    /// Computes the values anew, and the inverse if it is old or bad. If the basis has no inverse, begins anew. False if the values are too
+    /// far from the point even with a new inverse.
     fn refresh(&mut self, columns: &Columns) -> Result<bool, AllocError> {
         self.changes = 0;
         if self.age < STALE {
@@ -466,7 +481,7 @@ impl Master {
         }
     }
 
-    /// Corrects the values once by what they miss of the point, and returns how much that was.
+    /// Corrects the values once by what they miss of the point, and returns the most that they missed in a row.
     fn correct_values(&mut self, columns: &Columns) -> Result<u64, AllocError> {
         let mut rest = Vec::new(self.alloc);
         for own in &self.point {
@@ -503,7 +518,7 @@ impl Master {
         Ok(error)
     }
 
-    /// Computes the inverse of the basis. False if the basis is no basis.
+    /// Computes the inverse of the basis. False if there is none, as far as fixed-point numbers show.
     fn invert(&mut self, columns: &Columns) -> Result<bool, AllocError> {
         let mut own = Vec::new(self.alloc);
         let mut order = Vec::new(self.alloc);

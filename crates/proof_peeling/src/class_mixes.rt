@@ -1,11 +1,12 @@
 //! A point as a mix of compositions: a program in fixed point finds which compositions, searches find further ones or show that the point
 //! is no mix, and whole weights are solved over a basis with a small determinant. Then the compositions are spread over panels. Stands on
-//! `masters`, `pricing`, `wholes` and `spreads`; `lotteries` calls `class_mix`.
+//! `free_classes`, `pricing`, `rows` and `spreads`, on `proof_mixes` for the program and the whole weights, and on the searches of
+//! `proof_stages`; `lotteries` calls `class_mix`.
 
 ghost use Rattle.std.specs.Prelude.{OnOk};
 ghost use Rattle.proof_limits.specs.Budgets.{SpendsOn};
 
-use crate::kinds::Kinds;
+use crate::free_classes::FreeClasses;
 use crate::lotteries::WeightedPanel;
 use crate::pricing::{ClassRow, are_met, class_rows, search_of};
 use crate::rows::PanelRow;
@@ -15,7 +16,6 @@ use proof_limits::{Budget, Narrow, ProveStop, wide_mul};
 use proof_mixes::{Columns, Master, Solved, Whole, whole_weights};
 use proof_program::Program;
 use proof_stages::{Chances, CompositionSearch};
-use proof_table::PseudoRandom;
 use std::alloc::Global;
 
 /// What the greatest weight of a search is rounded to: 2^22 at first.
@@ -33,17 +33,11 @@ const MOST_STEPS: u32 = 3000;
 /// The most nodes at which each of these searches looks.
 const MOST_NODES: u64 = 20_000;
 
-/// The most nodes of a search for a composition by pseudo-random wishes.
-const WISHED_NODES: u64 = 100;
-
-/// How often compositions are put aside before the least weight is above 0.
+/// The most times that compositions are put aside so that the least weight comes above 0.
 const MOST_ASIDE: u32 = 80;
 
 /// The least weight must be above this, 2^-30.
 const LEAST_WEIGHT: i64 = 65_536;
-
-/// How often further compositions are searched for if no whole weights are found.
-const ROUNDS: u64 = 4;
 
 /// The result for a point.
 #[derive(Debug, Drop)]
@@ -52,11 +46,11 @@ pub(crate) enum Mixed {
     Found(Vec<WeightedPanel>),
     /// The point is no mix of compositions.
     Outside,
-    /// The mix wasn't found, or no whole weights.
+    /// No mix was found, or no whole weights of one.
     Doubt,
 }
 
-/// Whether a point is a mix.
+/// Whether a point is a mix of compositions.
 #[derive(Clone, Copy, Debug, PartialEq, Eq)]
 enum Place {
     Inside,
@@ -69,7 +63,7 @@ enum Place {
 struct ClassMix<'a> {
     alloc: Global,
     classes: &'a Program,
-    kinds: Kinds<'a>,
+    free: FreeClasses<'a>,
     search: CompositionSearch,
     columns: Columns,
     master: Master,
@@ -86,15 +80,15 @@ pub(crate) fn class_mix(
 ) -> Result<Mixed, ProveStop>
     ensures { SpendsOn budget.old budget.new }
 {
-    let kinds = Kinds::new(alloc, classes, chances)?;
-    let own = class_rows(alloc, &kinds, rows)?;
-    let search = search_of(alloc, &kinds, &own)?;
-    let columns = known_columns(alloc, &kinds, &own, known)?;
-    let point = kinds.point()?;
+    let free = FreeClasses::new(alloc, classes, chances)?;
+    let own = class_rows(alloc, &free, rows)?;
+    let search = search_of(alloc, &free, &own)?;
+    let columns = known_columns(alloc, &free, &own, known)?;
+    let point = free.point()?;
     let mut mix = ClassMix {
         alloc,
         classes,
-        kinds,
+        free,
         search,
         columns,
         master: Master::new(alloc, &point)?,
@@ -109,13 +103,13 @@ pub(crate) fn class_mix(
 /// Returns the known compositions that are on the face of the point.
 fn known_columns(
     alloc: Global,
-    kinds: &Kinds<'_>,
+    free: &FreeClasses<'_>,
     rows: &[ClassRow],
     known: &[Vec<i64>],
 ) -> Result<Columns, ProveStop> {
     let mut columns = Columns::new(alloc);
     for counts in known {
-        if let Some(own) = kinds.free_counts(counts)? {
+        if let Some(own) = free.free_counts(counts)? {
             if are_met(rows, counts)? {
                 let _is_new = columns.join(own)?;
             }
@@ -147,13 +141,14 @@ impl ClassMix<'_> {
         Ok(Place::Doubt)
     }
 
-    /// Searches for a composition that the master's duals want, and adds it. `greatest` is what the greatest weight is rounded to. Returns
-    /// `Inside` if a new one was added, `Outside` if there is none.
+    /// Searches for a composition that weighs at least as much as the point, by weights from the master's duals, and adds it. `greatest` is
+    /// what the greatest weight is rounded to. Returns `Inside` if a new composition was added, and `Outside` if there is none of that
+    /// weight: then the point is no mix.
     fn beat(&mut self, greatest: i128, budget: &mut Budget) -> Result<Place, ProveStop>
         ensures { SpendsOn budget.old budget.new }
     {
-        let weights = self.kinds.weights(&self.master.duals, greatest)?;
-        let need = self.kinds.need(&weights)?;
+        let weights = self.free.weights(&self.master.duals, greatest)?;
+        let need = self.free.need(&weights)?;
         Ok(
             match self.search.beating(&weights, need, MOST_NODES, budget)? {
                 Found::Point(point) => {
@@ -169,13 +164,13 @@ impl ClassMix<'_> {
         )
     }
 
-    /// Adds the composition of a point. False if it is known, or not of the face.
+    /// Adds a composition that a search found, given by its count for each class. False if it is known, or if a count is not in its span.
     fn join(&mut self, point: &[Narrow]) -> Result<bool, ProveStop> {
         let mut counts = Vec::new(self.alloc);
         for value in point {
             counts.push(value.get())?;
         }
-        match self.kinds.free_counts(&counts)? {
+        match self.free.free_counts(&counts)? {
             Some(own) => Ok(self.columns.join(own)?),
             None => Ok(false),
         }
@@ -185,21 +180,19 @@ impl ClassMix<'_> {
     fn whole(&mut self, budget: &mut Budget) -> Result<Mixed, ProveStop>
         ensures { SpendsOn budget.old budget.new }
     {
-        'rounds: for round in 0..ROUNDS {
-            if let Some(least) = self.settle(budget)? {
-                let shares = self.master.shares(self.alloc, &self.columns)?;
-                let amounts = self.kinds.amounts()?;
-                let found = whole_weights(self.alloc, &self.columns, &shares, least, &amounts)?;
-                if let Some(whole) = found {
-                    return Ok(Mixed::Found(self.panels(&whole)?));
-                }
-            }
-            self.enrich(round, budget)?;
+        let Some(least) = self.settle(budget)? else {
+            return Ok(Mixed::Doubt);
+        };
+        let shares = self.master.shares(self.alloc, &self.columns)?;
+        let amounts = self.free.amounts()?;
+        match whole_weights(self.alloc, &self.columns, &shares, least, &amounts)? {
+            Some(whole) => Ok(Mixed::Found(self.panels(&whole)?)),
+            None => Ok(Mixed::Doubt),
         }
-        Ok(Mixed::Doubt)
     }
 
-    /// Puts aside compositions that no mix of the point has, until all others can have a weight above 0. Returns the least weight.
+    /// Puts aside compositions that no mix of the point has, until all others can have a weight above 0. Returns the least weight in fixed
+    /// point, or None if it stays too small.
     fn settle(&mut self, budget: &mut Budget) -> Result<Option<i64>, ProveStop>
         ensures { SpendsOn budget.old budget.new }
     {
@@ -219,30 +212,13 @@ impl ClassMix<'_> {
         Ok(None)
     }
 
-    /// Searches for further compositions of the face, by pseudo-random wishes.
-    fn enrich(&mut self, round: u64, budget: &mut Budget) -> Result<(), ProveStop>
-        ensures { SpendsOn budget.old budget.new }
-    {
-        let mut random = PseudoRandom::new(round.wrapping_mul(7919).wrapping_add(99_991));
-        'wishes: for _ in 0..self.kinds.free.len() {
-            let mut wishes = Vec::new(self.alloc);
-            for _ in 0..self.classes.columns() {
-                wishes.push(random.next_within(512))?;
-            }
-            if let Found::Point(point) = self.search.wished(&wishes, WISHED_NODES, budget)? {
-                let _is_new = self.join(&point)?;
-            }
-        }
-        Ok(())
-    }
-
     /// Spreads the compositions over panels.
     fn panels(&self, whole: &Whole) -> Result<Vec<WeightedPanel>, ProveStop> {
         let mut parts = Vec::new(self.alloc);
         for (column, weight) in self.columns.list.iter().zip(&whole.weights) {
             if *weight > 0 {
                 let mut counts = Vec::new(self.alloc);
-                for count in &self.kinds.all_counts(&column.counts)? {
+                for count in &self.free.all_counts(&column.counts)? {
                     counts.push(usize::try_from(*count).unwrap_or(0))?;
                 }
                 parts.push(Weighted {
@@ -263,7 +239,7 @@ impl ClassMix<'_> {
     fn shares_left(&self, whole: &Whole, parts: &[Weighted]) -> Result<Vec<ClassLeft>, ProveStop> {
         let unit = whole
             .total
-            .checked_div(self.kinds.total.wide())
+            .checked_div(self.free.total.wide())
             .ok_or(ProveStop::Lost)?;
         let mut members = Vec::new(self.alloc);
         for _ in 0..self.classes.columns() {
@@ -276,7 +252,7 @@ impl ClassMix<'_> {
             }
         }
         let mut left = Vec::new(self.alloc);
-        for (place, (own, part)) in members.iter().zip(&self.kinds.parts).enumerate() {
+        for (place, (own, part)) in members.iter().zip(&self.free.parts).enumerate() {
             let share = wide_mul(part.wide(), unit)?;
             left.push(ClassLeft::new(self.alloc, own, share, place, parts)?)?;
         }

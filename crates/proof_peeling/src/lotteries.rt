@@ -1,12 +1,13 @@
-//! The lottery of a point: turns of peeling, and tails if peeling gets stuck. Stands on `peels`, `tails`, `remainders`, `rows` and `seen`;
-//! `proof_run` calls `lottery_of_point`. Promise: nothing of the budget is given back.
+//! The lottery of a point: turns of peeling, and if these get stuck, tails and a mix of compositions. Stands on `peels`, `tails`,
+//! `class_mixes`, `free_classes`, `remainders`, `rows` and `seen`. `proof_run` calls `lottery_noting` and `mix_of`, and `engine_tests`
+//! calls `lottery_of_point`. Promise: nothing of the budget is given back.
 
 ghost use Rattle.std.specs.Prelude.{◌≡◌, length, IfOk, IfNone, OnOk};
 ghost use Rattle.proof_peeling.specs.Shapes.{HasTable, IsPeelingRun};
 ghost use Rattle.proof_limits.specs.Budgets.{SpendsOn};
 
 use crate::class_mixes::{Mixed, class_mix};
-use crate::kinds::counts_of;
+use crate::free_classes::counts_of;
 use crate::peels::{MOST_NODES, Turn, peel};
 use crate::remainders::Remainder;
 use crate::rows::PanelRows;
@@ -19,7 +20,7 @@ use proof_table::Table;
 use std::alloc::Global;
 
 /// How many turns of peeling each round has. One more turn comes before the first round.
-const TURNS: [u64; 4] = [12, 12, 48, 96];
+const TURNS: [u64; 4] = [12, 4, 56, 96];
 
 /// How far pseudo-random numbers may shift a volunteer's wish, up or down, in all turns but the first.
 const WILDNESS: u32 = 40;
@@ -42,10 +43,10 @@ const SHORT_STEPS: usize = 40;
 /// The most nodes at which each search of a short tail looks.
 const SHORT_NODES: u64 = 100;
 
-/// How often panels are put back for short tails: 2, then 4, and so on up to 64.
+/// How many short tails are tried at most. Before each but the first, panels are put back: 2, then 4, and so on up to 32.
 const SHORT_TAILS: u32 = 6;
 
-/// The most times that panels are put back for the other tails.
+/// How many of the other tails are tried at most in a round.
 const TAILS: u32 = 63;
 
 /// A panel with its weight.
@@ -57,14 +58,14 @@ pub struct WeightedPanel {
     pub members: Vec<usize>,
 }
 
-/// What `lottery_of_point` found for a point.
+/// What was found for a point, by peeling or by a mix of compositions.
 #[derive(Debug, Drop)]
 pub enum Peeled {
     /// Panels with weights. A panel may come more than once.
     Found(Vec<WeightedPanel>),
     /// The point is no mix of panels.
     Outside,
-    /// All turns and tails ended without an answer.
+    /// Neither a lottery was found nor that there is none.
     Doubt,
 }
 
@@ -101,8 +102,8 @@ pub fn lottery_of_point(
     )
 }
 
-/// Makes a lottery as `lottery_of_point` does. If the point is no mix of panels, adds the compositions of the panels seen to `known`, each
-/// with a count for each class.
+/// Makes a lottery as `lottery_of_point` does. If it finds none, adds the compositions of the panels seen to `known`, each with a count for
+/// each class. Stops if `program` has not as many columns as `classes` has volunteers, or if a class has no chance.
 pub fn lottery_noting(
     alloc: Global,
     program: &Program,
@@ -137,7 +138,8 @@ pub fn lottery_noting(
     Ok(found)
 }
 
-/// Makes the lottery of a point of compositions, of which some are known: each has a count for each class.
+/// Makes the lottery of a point as a mix of compositions, without peeling. Some compositions are known: each has a count for each class.
+/// Returns `Doubt` if a number passes 2^62 or the mix is lost, and stops only if the budget is spent or memory runs out.
 pub fn mix_of(
     alloc: Global,
     rows: &PanelRows,
@@ -242,8 +244,9 @@ fn is_too_wide(found: &Result<Peeled, ProveStop>) -> bool {
 }
 
 impl PeelingRun<'_> {
-    /// Makes the lottery: one turn without pseudo-random shifts, then rounds of turns, with tails after each round. After the first round
-    /// short tails are tried before the others.
+    /// Makes the lottery: one turn without pseudo-random shifts, then rounds of turns. After the first round short tails are tried; after the
+    /// second a mix of compositions and then the other tails; after each further one these tails. A third or fourth round comes only if a
+    /// number passed the width of the tails or 2^62.
     fn lottery(&mut self, budget: &mut Budget) -> Result<Peeled, ProveStop>
         requires run { IsPeelingRun self.old }
         requires table { HasTable self.old }
@@ -265,6 +268,9 @@ impl PeelingRun<'_> {
                 if let Some(found) = self.short_tails(budget)? {
                     return Ok(found);
                 }
+                continue;
+            }
+            if round == 1 {
                 if let Some(found) = self.class_mix(budget)? {
                     return Ok(found);
                 }

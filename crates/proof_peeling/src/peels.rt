@@ -71,7 +71,8 @@ pub(crate) fn peel(
 }
 
 /// Returns a wish for each volunteer; a search prefers panels with a great sum of wishes. The wish grows with the volunteer's part of the
-/// remainder, but is 0 if the face puts the volunteer on all panels or on none. A pseudo-random number shifts each wish.
+/// remainder, but is 0 if the face puts the volunteer on all panels or on none. A pseudo-random number shifts it by at most the turn's
+/// wildness.
 fn wishes_of(
     alloc: Global,
     remainder: &Remainder,

@@ -1,7 +1,7 @@
-//! The face of a point over classes: the rows that hold of each composition which a mix of the point can have. Stands on `kinds` and
+//! The face of a point over classes: the rows that hold of each composition which a mix of the point can have. Stands on `free_classes` and
 //! `rows`; `class_mixes` uses this.
 
-use crate::kinds::Kinds;
+use crate::free_classes::FreeClasses;
 use crate::rows::{PanelRow, value_at};
 use proof_limits::{Narrow, ProveStop, Span, times, wide_add, wide_mul};
 use proof_stages::CompositionSearch;
@@ -17,13 +17,13 @@ pub(crate) struct ClassRow {
 /// Returns the rows over classes. A row whose sum over the point is an end of its span has that sum in each composition of a mix.
 pub(crate) fn class_rows(
     alloc: Global,
-    kinds: &Kinds<'_>,
+    free: &FreeClasses<'_>,
     rows: &[PanelRow],
 ) -> Result<Vec<ClassRow>, ProveStop> {
     let mut own = Vec::new(alloc);
     for row in rows {
-        let coefficients = kinds.coefficients(row)?;
-        let span = face_span(kinds, row.span, &coefficients)?;
+        let coefficients = free.coefficients(row)?;
+        let span = face_span(free, row.span, &coefficients)?;
         own.push(ClassRow { coefficients, span })?;
     }
     Ok(own)
@@ -32,10 +32,10 @@ pub(crate) fn class_rows(
 /// Returns a search for compositions within these rows.
 pub(crate) fn search_of(
     alloc: Global,
-    kinds: &Kinds<'_>,
+    free: &FreeClasses<'_>,
     rows: &[ClassRow],
 ) -> Result<CompositionSearch, ProveStop> {
-    let mut search = CompositionSearch::new(alloc, &kinds.spans)?;
+    let mut search = CompositionSearch::new(alloc, &free.spans)?;
     for row in rows {
         search.add_row(&row.coefficients, row.span)?;
     }
@@ -57,15 +57,19 @@ pub(crate) fn are_met(rows: &[ClassRow], counts: &[i64]) -> Result<bool, ProveSt
 }
 
 /// Returns the span of a row: one number if the row's sum over the point is an end of the row's span.
-fn face_span(kinds: &Kinds<'_>, span: Span, coefficients: &[Narrow]) -> Result<Span, ProveStop> {
+fn face_span(
+    free: &FreeClasses<'_>,
+    span: Span,
+    coefficients: &[Narrow],
+) -> Result<Span, ProveStop> {
     let mut sum = 0;
     for class in 0..coefficients.len() {
-        let own = wide_mul(value_at(coefficients, class).wide(), kinds.amount(class))?;
+        let own = wide_mul(value_at(coefficients, class).wide(), free.amount(class))?;
         sum = wide_add(sum, own)?;
     }
-    Ok(if sum == times(span.greatest(), kinds.total) {
+    Ok(if sum == times(span.greatest(), free.total) {
         Span::point(span.greatest())
-    } else if sum == times(span.least(), kinds.total) {
+    } else if sum == times(span.least(), free.total) {
         Span::point(span.least())
     } else {
         span

@@ -1,5 +1,6 @@
-//! The rows that each panel of a lottery satisfies: those of the quotas, and one for each stage. `faces`, `peels`, `tails` and `lotteries`
-//! use them; `proof_run` makes `PanelRows`, and uses `weights_of`. The contracts promise how many rows and weights there are.
+//! The rows that each panel of a lottery satisfies: those of the quotas, and one for each stage. Stands on `proof_program` and
+//! `proof_stages`; `faces`, `peels`, `tails`, `free_classes`, `pricing`, `class_mixes` and `lotteries` use them. `proof_run` makes
+//! `PanelRows`, and uses `weights_of`. The contracts promise how many rows and weights there are.
 
 ghost use Rattle.std.specs.Prelude.{◌≡◌, ◌+◌, length, IfOk};
 

@@ -1,4 +1,5 @@
-//! The panels that searches found so far. `peels` and `tails` add to them, and `remainders` names panels by their numbers here.
+//! The panels that searches found so far. Stands on no other module; `peels` and `tails` add to them, `remainders` names panels by their
+//! numbers here, and `lotteries` reads them.
 
 use proof_limits::{Narrow, ProveStop};
 use std::alloc::{AllocError, Global};

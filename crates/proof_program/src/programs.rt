@@ -139,7 +139,7 @@ impl Program {
         &self.rows
     }
 
-    /// Returns the number of a row's constraint in the tree of a proof's stage after `stages` earlier ones.
+    /// Returns the number that a row's constraint has in the tree of a stage that comes after `stages` other stages.
     pub fn number_after(&self, row: &QuotaRow, stages: usize) -> usize
         requires { stages < 2 ^ 63 }
         ensures value { result ≡ number_after self.now row.now stages }

@@ -117,8 +117,8 @@ impl<'a> CapSearch<'a> {
         }
     }
 
-    /// Returns the steps that show the cap of a stage after `earlier` earlier ones, within the rows of the table, or None if a panel is above
-    /// the cap. The table gets the row of the stage.
+    /// Returns the steps that show the cap of a stage after `earlier` earlier ones, within the rows of the table, or None if a panel within
+    /// these rows is above the cap. The table gets the row of the stage.
     fn steps(
         &mut self,
         earlier: usize,
@@ -180,9 +180,9 @@ impl<'a> CapSearch<'a> {
         Ok(())
     }
 
-    /// Returns the steps that show a cap without the rows of earlier stages, as far as these aren't needed: while a search finds a panel
-    /// above the cap that doesn't attain the cap of an earlier stage, the row of this stage is added. Returns None if a panel that attains
-    /// all earlier caps is above the cap.
+    /// Returns the steps that show a cap. The rows of earlier stages are added only as they are needed: while a search finds a panel above
+    /// the cap that doesn't weigh exactly the cap of an earlier stage, the row of the first such stage is added. Returns None if a panel
+    /// that weighs exactly all earlier caps is above the cap.
     fn tree_by_few_rows(
         &self,
         earlier: usize,
@@ -233,7 +233,7 @@ impl<'a> CapSearch<'a> {
         )
     }
 
-    /// Returns the first of the `earlier` stages whose cap a panel doesn't attain.
+    /// Returns the first of the `earlier` stages in which a panel doesn't weigh exactly the cap, or None if there is none.
     fn stage_missed(&self, earlier: usize, panel: &[Narrow]) -> Result<Option<usize>, ProveStop> {
         for (stage, own) in self.closed.iter().enumerate().take(earlier) {
             let mut weight = 0;

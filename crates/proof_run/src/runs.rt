@@ -57,7 +57,8 @@ fn reported(stop: ProveStop, budget: &Budget) -> ProveStop
     }
 }
 
-/// Makes a proof of a pool: first by the relaxation; if no lottery of the relaxation's point is found, by compositions.
+/// Makes a proof of a pool: first by the relaxation; if no panel can attain some cap of it, or no lottery of its point is found, by
+/// compositions.
 fn made(alloc: Global, pool: &Pool, budget: &mut Budget) -> Result<Proof, ProveStop>
     ensures about { IfOk result (IsOfPool pool.now) }
     ensures spends { SpendsOn budget.old budget.new }
@@ -114,7 +115,8 @@ fn by_compositions(
     }
 }
 
-/// Makes a lottery over panels that satisfy the rows, in which each volunteer has the chance of their column.
+/// Makes a lottery over panels that satisfy the rows, in which each volunteer has the chance of their column. If it finds none, adds the
+/// compositions of the panels that it saw to `known`.
 fn lottery_of_chances(
     alloc: Global,
     pool: &Pool,

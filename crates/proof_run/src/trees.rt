@@ -104,7 +104,7 @@ pub(crate) fn searched_trees(
     Ok(trees)
 }
 
-/// Returns the weights of a stage. Stops if one passes 2^62.
+/// Returns the weights of a stage. Stops if the absolute value of one is above 2^62.
 fn narrow_weights(alloc: Global, stage: &Stage) -> Result<Vec<Narrow>, ProveStop> {
     let mut weights = Vec::new(alloc);
     for weight in stage.weights() {

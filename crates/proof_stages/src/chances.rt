@@ -1,5 +1,5 @@
-//! The chances of columns, which stages settle one after the other. Stands on `fractions`; both searches for stages keep their state here,
-//! `proof_run` passes it on, and `proof_peeling` reads it. The contracts promise exactly which columns have which chances.
+//! The chances of columns, which stages settle one after the other. Stands on `fractions`; `relaxed`, `quick` and `columned` keep their
+//! state here, `proof_run` passes it on, and `proof_peeling` reads it. The contracts promise exactly which columns have which chances.
 
 ghost use Rattle.std.specs.Prelude.{◌≡◌, ◌↔◌, IsTrue, ◌<◌, ◌≤ℤ◌, pos, length, replicate, slice_index_or, slice_set, None, Some, IsSome, IfOk, OnErr, OnOk};
 ghost use Rattle.std.specs.List.{All};
@@ -73,7 +73,7 @@ impl Chances {
         Ok(())
     }
 
-    /// Settles a column's chance, if there is such a column.
+    /// Settles a column's chance. Stops if there is no such column. After an error nothing has changed.
     pub(crate) fn settle_at(&mut self, column: usize, chance: Chance) -> Result<(), ProveStop> {
         if column < self.chances.len() {
             self.settle(column, chance)

@@ -1,5 +1,5 @@
-//! Stages over columns, and what both ways to find stages share. Stands on `chances` and `fractions`; `relaxed` and `columned` make these
-//! stages, and `proof_peeling` and `proof_run` read them.
+//! Stages over columns, and what the ways to find stages share. Stands on `chances` and `fractions`; `relaxed`, `quick` and `columned` make
+//! these stages, and `proof_peeling` and `proof_run` read them.
 
 ghost use Rattle.std.specs.Prelude.{◌≡◌, ◌≤◌, length, IfOk};
 

@@ -1,6 +1,7 @@
 //! Stages over compositions, by column generation: if the known compositions don't give a level, the multipliers of their table are the
-//! weights for the search for a further composition. Stands on `finders`, `mixes`, `levels`, `chances`, `fractions` and `class_stages`;
-//! `proof_run` calls `column_stages` if it finds no lottery with the relaxation's chances. Promise: nothing of the budget is given back.
+//! weights for the search for a further composition. Stands on `finders`, `mixes`, `levels`, `chances`, `fractions` and `class_stages`, and
+//! on `quick`, which it tries first. `proof_run` calls `column_stages_from` if it finds no lottery with the relaxation's chances. Promise:
+//! nothing of the budget is given back.
 
 ghost use Rattle.std.specs.Prelude.{◌≡◌, ◌<◌, IfOk, OnOk, length};
 ghost use Rattle.proof_stages.specs.Shapes.{IsFinder, IsCompositionMix};
@@ -28,8 +29,9 @@ pub enum Columned {
     Settled(Vec<ClassStage>, Chances),
 }
 
-/// Finds the stages of a pool over its compositions, of which some are known: each has a count for each column. Adds those that it finds.
-/// The contract leaves the stages open, since each proof is verified before it is printed.
+/// Finds the stages of a pool over its compositions, by `quick` from the known ones on, and in doubt by `column_stages`. A known
+/// composition has a count for each column. If `quick` ends without an error, `known` has the compositions that it used, else perhaps some
+/// new ones. The contract leaves the stages open, since each proof is verified before it is printed.
 pub fn column_stages_from(
     alloc: Global,
     program: &Program,
@@ -47,8 +49,8 @@ pub fn column_stages_from(
     }
 }
 
-/// Finds the stages of a pool over its compositions. The contract leaves the stages open, since each proof is verified before it is
-/// printed.
+/// Finds the stages of a pool over its compositions, by the exact table alone. The contract leaves the stages open, since each proof is
+/// verified before it is printed.
 pub fn column_stages(
     alloc: Global,
     program: &Program,

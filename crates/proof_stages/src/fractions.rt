@@ -1,5 +1,5 @@
-//! Chances as fractions of narrow numbers. `chances`, `levels`, `class_stages`, `relaxed` and `columned` stand on it, and `proof_peeling`
-//! reads chances. Promises: each call is exact.
+//! Chances as fractions of narrow numbers. Stands on `proof_limits`; `chances`, `levels`, `class_stages`, `relaxed`, `quick` and `columned`
+//! stand on it, and `proof_peeling` reads chances. Promises: each call is exact.
 
 ghost use Rattle.std.specs.Prelude.{◌≡◌, ◌↔◌, IsTrue, ◌≤ℤ◌, ◌<ℤ◌, ◌*ℤ◌, int_div, pos, IfErr, SomeIff};
 ghost use Rattle.proof_limits.specs.Stops.{IsWideOrMemory};

@@ -1,6 +1,7 @@
 //! The stages of a pool, found in two ways. The relaxation (`relaxed`) uses points instead of panels: a stage comes from a refuted program,
-//! whose multipliers are a leaf that shows the cap. If the relaxation's point is no mix of panels, column generation (`columned`) finds
-//! stages over compositions; trees show their caps. Stands on `proof_program`, `proof_branching`, `proof_table` and `proof_limits`;
+//! whose multipliers are a leaf that shows the cap. If the relaxation's point is no mix of panels, column generation finds stages over
+//! compositions, first in fixed point (`quick`), and in doubt exactly (`columned`); trees show their caps. `CompositionSearch` (`searches`)
+//! finds single compositions. Stands on `proof_program`, `proof_branching`, `proof_mixes`, `proof_table`, `proof_limits` and `frac128`;
 //! `proof_peeling`, `proof_run`, `quota_conflicts` and `loosening_by_proof` stand on it, and `engine_tests` tests it.
 //!
 //! Promises: each call is safe and ends, gives nothing of the budget back, and `Chances` has exactly the chances that were settled. The

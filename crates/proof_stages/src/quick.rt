@@ -1,6 +1,7 @@
 //! Stages over compositions with the level as a variable: a program in fixed point makes the level as great as the known compositions
-//! allow, and searches find further ones. Its multipliers, made whole, are the weights of a stage; an exact search shows the cap. Stands
-//! on `searches`, `levels` and `proof_mixes`; `columned` tries this first. Promise: nothing of the budget is given back.
+//! allow, and searches find further ones. The program's multipliers, made whole, are the weights of a stage; an exact search shows the cap.
+//! Stands on `searches`, `wholes`, `levels`, `chances`, `fractions`, `class_stages` and `proof_mixes`, and returns the `Columned` of
+//! `columned`, which tries this first. Promise: nothing of the budget is given back.
 
 ghost use Rattle.proof_limits.specs.Budgets.{SpendsOn};
 
@@ -17,19 +18,20 @@ use proof_mixes::{Columns, Master, Solved, UNIT, fraction};
 use proof_program::Program;
 use std::alloc::Global;
 
-/// How many compositions may be searched for in a stage.
+/// How many steps a stage may have, each of which may add a composition, and how many stages there may be.
 const MOST_STEPS: u32 = 5000;
 
 /// What the greatest weight of a search is rounded to: 2^22, or 2^15 if numbers pass 2^62.
 const ROUNDINGS: [i128; 2] = [4_194_304, 32_768];
 
-/// The scales of whole weights that are tried after each change of the known compositions.
+/// The greatest scale of whole weights that is tried in each step, before a heavier composition is searched for. The scale is what the
+/// greatest weight becomes.
 const FIRST_SCALES: i64 = 1000;
 
 /// The greatest scale that is tried once no heavier composition is found.
 const MOST_SCALE: i64 = 20_000;
 
-/// How many scales are tried at a time.
+/// How many scales with whole weights one call tries at most.
 const MOST_TRIES: u32 = 64;
 
 /// How far the exact level may be from that of the fixed-point program, 2^-26.
@@ -44,6 +46,7 @@ enum Step {
     Further,
     /// All columns that are left have the chance 1.
     AtOne,
+    /// The step found neither weights that close the stage nor a further composition.
     Doubt,
 }
 
@@ -57,13 +60,14 @@ struct Quick<'a> {
     free: Vec<usize>,
     columns: Columns,
     master: Master,
+    // the entry of the level in each row of that program: minus the size of an unsettled free column, else 0
     entries: Vec<i64>,
     chances: Chances,
     stages: Vec<ClassStage>,
 }
 
-/// Finds the stages of a pool over its compositions, of which some are known: each has a count for each column. Adds those that it finds.
-/// Returns None in doubt.
+/// Finds the stages of a pool over its compositions, of which some are known: each has a count for each column. Unless it stops, `known`
+/// then has the compositions that it used. Returns None in doubt.
 pub(crate) fn quick_stages(
     alloc: Global,
     program: &Program,
@@ -80,7 +84,7 @@ pub(crate) fn quick_stages(
     }
 }
 
-/// Whether a composition is known.
+/// Whether a composition is known to begin with.
 #[derive(Clone, Copy, Debug, PartialEq, Eq)]
 enum First {
     Known,
@@ -126,7 +130,7 @@ fn joined(alloc: Global, found: &Found, known: &mut Vec<Vec<i64>>) -> Result<Fir
     }
 }
 
-/// Finds the stages from the known compositions on.
+/// Finds the stages from the known compositions on. Returns None in doubt.
 fn from_known(
     alloc: Global,
     program: &Program,
@@ -147,7 +151,8 @@ fn from_known(
     }
 }
 
-/// Returns the state after the stage of the columns that no panel has, if there are some. Each of them has the weight 1 in `unreached`.
+/// Returns the state after the stage of the columns of which no panel has a member, or before any stage if there are none. Each of these
+/// columns has the weight 1 in `unreached`.
 fn begun<'a>(
     alloc: Global,
     program: &'a Program,
@@ -169,8 +174,8 @@ fn begun<'a>(
     Quick::new(alloc, program, search, known, chances, stages)
 }
 
-/// Searches for compositions until each column that a panel can have is in one. Returns weights: 1 for each column that none has and that
-/// isn't seated, else 0.
+/// Adds compositions until each column of which a panel can have a member has one in some known composition. Returns a weight for each
+/// column: 1 if no known composition has a member of it and it isn't seated, else 0.
 fn cover(
     alloc: Global,
     program: &Program,
@@ -204,7 +209,7 @@ fn cover(
     Ok(weights)
 }
 
-/// Sets the weight of each column that a composition has to 0.
+/// Sets the weights of the columns of which a composition has members to 0.
 fn clear(weights: &mut [Narrow], counts: &[i64]) {
     for (weight, count) in weights.iter_mut().zip(counts) {
         if *count > 0 {
@@ -233,7 +238,7 @@ fn settle(chances: &mut Chances, weights: &[Narrow], chance: Chance) -> Result<(
 }
 
 impl<'a> Quick<'a> {
-    /// Begins with the known compositions.
+    /// Returns the state before the next stage, with the known compositions as columns of the program.
     fn new(
         alloc: Global,
         program: &'a Program,
@@ -275,7 +280,7 @@ impl<'a> Quick<'a> {
         Ok(quick)
     }
 
-    /// Adds a composition, given by its counts. False if it is known.
+    /// Adds a composition, given by its count for each column. False if one with the same counts of the free columns is known.
     fn join(&mut self, counts: &[i64]) -> Result<bool, ProveStop> {
         let mut own = Vec::new(self.alloc);
         for column in &self.free {
@@ -284,7 +289,7 @@ impl<'a> Quick<'a> {
         Ok(self.columns.join(own)?)
     }
 
-    /// Makes the compositions found the known ones.
+    /// Replaces the known compositions by those of the program.
     fn note(&self, known: &mut Vec<Vec<i64>>) -> Result<(), ProveStop> {
         known.clear();
         for column in &self.columns.list {
@@ -333,7 +338,8 @@ impl<'a> Quick<'a> {
         Ok(Step::Doubt)
     }
 
-    /// Makes the level as great as the known compositions allow, and then closes the stage or searches for a further composition.
+    /// Makes the level as great as the known compositions allow, and then closes the stage or searches for a further composition. A level
+    /// of at least 1 - 2^-30 counts as 1.
     fn step(&mut self, budget: &mut Budget) -> Result<Step, ProveStop>
         ensures { SpendsOn budget.old budget.new }
     {
@@ -355,7 +361,8 @@ impl<'a> Quick<'a> {
         }
     }
 
-    /// Searches for a heavier composition by rounded multipliers, and adds it. Returns `Closed` if none was found.
+    /// Searches for a heavier composition by rounded multipliers, and adds it. Here `Closed` doesn't mean that the stage is closed: it
+    /// means that no new composition was found.
     fn join_heavier(&mut self, budget: &mut Budget) -> Result<Step, ProveStop>
         ensures { SpendsOn budget.old budget.new }
     {
@@ -377,7 +384,7 @@ impl<'a> Quick<'a> {
             .any(|column| self.chances.chance(*column).is_none())
     }
 
-    /// Adds the stage of all columns that are left, which have the chance 1, if there are some.
+    /// Adds the stage of all columns that are left, which have the chance 1, if there are some. Returns true.
     fn close_last(&mut self) -> Result<bool, ProveStop> {
         if !self.chances.are_settled() {
             let (weights, cap) = everybody_left(self.alloc, self.program, &self.chances)?;
@@ -391,7 +398,8 @@ impl<'a> Quick<'a> {
         Ok(true)
     }
 
-    /// Searches for a composition by rounded multipliers. If numbers pass 2^62 with all roundings, leaves it to `close`.
+    /// Searches for a heavier composition by rounded multipliers. If numbers pass 2^62 with all roundings, returns `Nothing`, since `close`
+    /// makes a search of its own.
     fn heavier(&mut self, budget: &mut Budget) -> Result<Found, ProveStop>
         ensures { SpendsOn budget.old budget.new }
     {
@@ -407,7 +415,8 @@ impl<'a> Quick<'a> {
         Ok(Found::Nothing)
     }
 
-    /// Returns the multipliers of the free columns' rows, which are the weights. An unsettled column weighs at least 0.
+    /// Returns a weight for each free column in fixed point: the multiplier of its row, which is minus the dual. An unsettled column weighs
+    /// at least 0.
     fn multipliers(&self) -> Result<Vec<i64>, ProveStop> {
         let mut multipliers = Vec::new(self.alloc);
         for (dual, column) in self.master.duals.iter().zip(&self.free) {
@@ -418,7 +427,7 @@ impl<'a> Quick<'a> {
         Ok(multipliers)
     }
 
-    /// Returns what the known compositions of the basis weigh.
+    /// Returns what each composition of the basis weighs by the multipliers, in fixed point: the dual of the total's row.
     fn cost(&self) -> i64 {
         self.master.duals.last().copied().unwrap_or(0)
     }
@@ -434,7 +443,7 @@ impl<'a> Quick<'a> {
         Ok(weights)
     }
 
-    /// Tries to close a stage by whole weights at greater scales, and then by exact ones.
+    /// Tries to close a stage by whole weights at greater scales, and then by the exact duals.
     fn close_any(&mut self, level: i64, budget: &mut Budget) -> Result<Step, ProveStop>
         ensures { SpendsOn budget.old budget.new }
     {
@@ -449,7 +458,7 @@ impl<'a> Quick<'a> {
         }
     }
 
-    /// Tries to close a stage by whole weights at the scales `from..=most`.
+    /// Tries to close a stage by whole weights at the scales `from..=most`. Ends as `close` does.
     fn close_by_scales(
         &mut self,
         from: i64,
@@ -496,7 +505,8 @@ impl<'a> Quick<'a> {
         Ok(Some(weights))
     }
 
-    /// Tries to close a stage with these weights of the free columns.
+    /// Tries to close a stage with these weights of the free columns. Returns `Further` if a composition passes the cap, and `Doubt` if the
+    /// weights don't give the level of the program.
     fn close(&mut self, own: &[i64], level: i64, budget: &mut Budget) -> Result<Step, ProveStop>
         ensures { SpendsOn budget.old budget.new }
     {

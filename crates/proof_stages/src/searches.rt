@@ -1,5 +1,5 @@
-//! The search for compositions within spans of columns and rows, by an exact table. Stands on the searches of `proof_branching`; `quick`
-//! and `proof_peeling` use it. Promise: nothing of the budget is given back.
+//! The search for compositions within spans of columns and rows, by an exact table. Stands on `proof_table` and on the searches of
+//! `proof_branching`; `quick` and `proof_peeling` use it. Promise: nothing of the budget is given back.
 
 ghost use Rattle.proof_limits.specs.Budgets.{SpendsOn};
 
@@ -19,7 +19,7 @@ pub struct CompositionSearch {
 }
 
 impl CompositionSearch {
-    /// Returns a search without rows.
+    /// Returns a search without rows. `columns` has the span of each column.
     pub fn new(alloc: Global, columns: &[Span]) -> Result<CompositionSearch, ProveStop> {
         Ok(CompositionSearch {
             alloc,
@@ -30,7 +30,8 @@ impl CompositionSearch {
         })
     }
 
-    /// Adds a row with a coefficient for each column.
+    /// Adds a row with a coefficient for each column, and the span of its sums. Stops if there are not as many coefficients as columns.
+    /// After any other stop the search must not be used further.
     pub fn add_row(&mut self, coefficients: &[Narrow], span: Span) -> Result<(), ProveStop> {
         if coefficients.len() != self.table.columns() {
             return Err(ProveStop::Lost);
@@ -55,8 +56,9 @@ impl CompositionSearch {
         Ok(())
     }
 
-    /// Searches for a composition that weighs at least `need`, at no more than `most` nodes. If a number passes 2^62, searches once more with
-    /// a new table, and then with few rows. If that stops too, another search can still be made.
+    /// Searches for a composition that weighs at least `need`. If a number passes 2^62, searches once more with a new table, and then with
+    /// few rows. Each of these searches looks at no more than `most` nodes. If a number passes 2^62 in the last of them too, the call
+    /// stops, but another search can still be made.
     pub fn beating(
         &mut self,
         weights: &[Narrow],
@@ -75,8 +77,8 @@ impl CompositionSearch {
         self.beating_by_few_rows(weights, need, most, budget)
     }
 
-    /// Searches within the rows without a coefficient above 1. While the point found is outside of another row, adds that row, and searches
-    /// again.
+    /// Searches within the rows without a coefficient above 1 by absolute value. While the point found breaks another row, adds that row,
+    /// and searches again.
     fn beating_by_few_rows(
         &self,
         weights: &[Narrow],
@@ -96,7 +98,7 @@ impl CompositionSearch {
         Ok(Found::Doubt)
     }
 
-    /// Returns a search within the rows without a coefficient above 1.
+    /// Returns a search within the rows without a coefficient above 1 by absolute value.
     fn of_few_rows(&self) -> Result<CompositionSearch, ProveStop> {
         let mut search = CompositionSearch::new(self.alloc, &self.columns)?;
         for (coefficients, span) in self.coefficients.iter().zip(&self.rows) {
@@ -107,7 +109,7 @@ impl CompositionSearch {
         Ok(search)
     }
 
-    /// Adds the first row that the point found is outside of to a search. False if there is none.
+    /// Adds to `search` the first row that the point found breaks. False if it breaks none, or no point was found.
     fn extend(&self, search: &mut CompositionSearch, found: &Found) -> Result<bool, ProveStop> {
         let Found::Point(point) = found else {
             return Ok(false);
@@ -121,7 +123,7 @@ impl CompositionSearch {
         }
     }
 
-    /// Returns the number of the first row that a point is outside of, or None if it is within all.
+    /// Returns the number of the first row that a point breaks, or None if it is within all.
     fn broken_by(&self, point: &[Narrow]) -> Result<Option<usize>, ProveStop> {
         for (row, (coefficients, span)) in self.coefficients.iter().zip(&self.rows).enumerate() {
             let mut sum = 0;
@@ -164,7 +166,8 @@ impl CompositionSearch {
         )
     }
 
-    /// Searches for any composition, and prefers those with a great sum of wishes.
+    /// Searches for any composition at no more than `most` nodes, and prefers those with a great sum of wishes. `wishes` has a number for
+    /// each column, and missing ones are 0. After an error the search must not be used further.
     pub fn wished(
         &mut self,
         wishes: &[i64],

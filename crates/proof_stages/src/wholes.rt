@@ -1,11 +1,12 @@
-//! Whole weights near fixed-point multipliers. `quick` uses this.
+//! Whole weights near fixed-point multipliers. Stands on `proof_mixes` and `frac128`; `quick` uses this.
 
 use frac128::gcd;
 use proof_limits::{Narrow, ProveStop, narrow_add};
 use proof_mixes::rounded;
 use std::alloc::{AllocError, Global};
 
-/// How much more than the known compositions one that a search wants weighs, of weights rounded so.
+/// By rounded weights, a search asks for a composition that weighs at least this much more than those of the basis, since a smaller
+/// difference may come from rounding.
 const MARGIN: i128 = 100;
 
 /// Returns the greatest absolute value, at least 1.
@@ -36,7 +37,7 @@ pub(crate) fn rounded_weights(
 }
 
 /// Returns the least scale in `from..=most` at which all multipliers are near whole numbers, where the scale is what the greatest becomes;
-/// and these whole numbers without their common divisor.
+/// and these whole numbers without their common divisor. Returns None if there is no such scale.
 pub(crate) fn whole_weights(
     alloc: Global,
     multipliers: &[i64],
@@ -67,7 +68,7 @@ pub(crate) fn whole_weights(
     Ok(None)
 }
 
-/// True if all multipliers, times a scale and divided by the greatest, are near whole numbers.
+/// True if all multipliers, times a scale and divided by the greatest, are within 2^-18 of whole numbers.
 fn are_whole(multipliers: &[i64], scale: i64, greatest: i128) -> bool {
     let slack = greatest >> 18;
     multipliers.iter().all(|multiplier| {

@@ -1,5 +1,5 @@
 //! The candidates of a row whose variable is out of its span: the slots whose variables can move it back. One of them enters the basis.
-//! `table` uses this.
+//! Stands on `rows`, `slots`, `spans`, `variables` and `worst`; `table` uses this.
 
 ghost use Rattle.std.specs.Prelude.{◌≢◌, pos, IfErr};
 ghost use Rattle.proof_limits.specs.Stops.{IsWideOrMemory};
@@ -96,7 +96,8 @@ fn least(candidates: &[Candidate]) -> Option<Candidate> {
     found
 }
 
-// Returns how far the row's variable is still out of its span once a candidate's variable has moved to its other end.
+// Returns how far the row's variable is still out of its span, times the denominator, once a candidate's variable has moved from one end
+// of `span`, its own span, to the other.
 fn need_after(need: i128, candidate: &Candidate, span: Span) -> Result<i128, ProveStop>
     ensures { IfErr result IsWideOrMemory }
 {

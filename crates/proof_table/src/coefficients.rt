@@ -1,4 +1,5 @@
-//! The coefficients of the rows, by column: each column lists those that are not 0. `table` and `combining` use this.
+//! The coefficients of the rows, by column: each column lists those that are not 0. Stands on `proof_limits` alone; `table` and `combining`
+//! use this.
 
 ghost use Rattle.std.specs.Prelude.{IfErr};
 ghost use Rattle.proof_limits.specs.Stops.{IsWideOrMemory};
@@ -18,12 +19,12 @@ pub(crate) struct Coefficient {
 pub(crate) struct Coefficients {
     alloc: Global,
     columns: Vec<Vec<Coefficient>>,
-    // the greatest absolute value of each row
+    // the greatest absolute value of a coefficient of each row
     greatest: Vec<u64>,
 }
 
 impl Coefficients {
-    // Returns the coefficients of columns without rows.
+    // Returns the coefficients of `columns` columns before any row is added: each column lists none.
     pub(crate) fn new(alloc: Global, columns: usize) -> Result<Coefficients, AllocError> {
         let mut empty = Vec::new(alloc);
         for _ in 0..columns {
@@ -36,7 +37,7 @@ impl Coefficients {
         })
     }
 
-    // Returns the coefficients of a column.
+    // Returns the coefficients of a column, or none if there is no such column.
     pub(crate) fn of(&self, column: usize) -> &[Coefficient] {
         match self.columns.get(column) {
             Some(own) => own,
@@ -44,7 +45,7 @@ impl Coefficients {
         }
     }
 
-    // Adds a row with a coefficient for each column. After an error nothing is added.
+    // Adds a row, whose number `row` is above all others, with a coefficient for each column. After an error nothing is added.
     pub(crate) fn add_row(&mut self, row: usize, values: &[Narrow]) -> Result<(), AllocError> {
         let added = self.push_row(row, values);
         if added.is_err() {
@@ -53,7 +54,7 @@ impl Coefficients {
         added
     }
 
-    // Adds the coefficients of a row, as far as there is memory.
+    // Adds the coefficients of a row. If memory runs out, those of the first columns stay added.
     fn push_row(&mut self, row: usize, values: &[Narrow]) -> Result<(), AllocError> {
         let mut greatest: u64 = 0;
         for (own, value) in self.columns.iter_mut().zip(values) {
@@ -67,7 +68,7 @@ impl Coefficients {
         Ok(())
     }
 
-    // Removes the coefficients of the last row.
+    // Removes the coefficients of the last row, whose number is `row`.
     pub(crate) fn drop_row(&mut self, row: usize) {
         self.greatest.truncate(row);
         for own in self.columns.iter_mut() {
@@ -92,7 +93,8 @@ impl Coefficients {
         Ok(())
     }
 
-    // True if no sum of coefficients times these multipliers, nor a part of one, passes 2^62.
+    // True if the absolute values of the multipliers, each times the greatest one of its row, sum to at most 2^62. Then no column's sum of
+    // coefficients times these multipliers passes 2^62, and no part of such a sum does.
     pub(crate) fn are_small(&self, multipliers: &[Narrow]) -> bool {
         let mut bound: u128 = 0;
         for (greatest, multiplier) in self.greatest.iter().zip(multipliers) {
@@ -103,7 +105,8 @@ impl Coefficients {
     }
 }
 
-// Returns the sum of a column's coefficients, each times the multiplier of its row, if `are_small` holds of the multipliers.
+// Returns the sum of a column's coefficients, each times the multiplier of its row. It is right only if `are_small` holds of the
+// multipliers.
 #[inline(always)]
 pub(crate) fn priced_small(column: &[Coefficient], multipliers: &[Narrow]) -> i64 {
     let mut sum: i64 = 0;

@@ -1,5 +1,5 @@
 //! Common divisors of numbers. That they are the greatest is no promise, since each proof is verified before it is printed. Promises: a
-//! divisor is at least 1, and a list keeps its length. `table` uses this, and so do `proof_branching` and `proof_stages`.
+//! divisor is at least 1, and a list keeps its length. Stands on `frac128`; `table`, `proof_branching` and `proof_stages` use this.
 
 ghost use Rattle.std.specs.Prelude.{◌≡◌, ◌≤ℤ◌, pos, length};
 

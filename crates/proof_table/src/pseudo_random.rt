@@ -1,5 +1,5 @@
-//! Pseudo-random numbers, by a linear congruential generator. They break ties in goals here and in the mixes of `proof_stages`, and vary
-//! the turns of `proof_peeling`. The contracts promise the range of each number.
+//! Pseudo-random numbers, by a linear congruential generator. They break ties in goals here, in `proof_stages` and in `proof_peeling`; vary
+//! the wishes of `proof_peeling`; and disturb the choice of variables in `proof_mixes`. The contracts promise the range of each number.
 
 ghost use Rattle.std.specs.Prelude.{◌<◌, ◌≤◌, ◌≤ℤ◌, pos, neg_ℤ};
 

@@ -1,5 +1,5 @@
-//! Slots: the places of the variables that are not basic. Each such variable is at one end of its span. `table`, `candidates` and
-//! `combining` use this.
+//! Slots: one for each variable that is not basic. Each such variable is at one end of its span. Stands on `spans`, `variables` and
+//! `pseudo_random`; `table`, `candidates` and `combining` use this.
 
 ghost use Rattle.std.specs.Prelude.{◌≤◌, length};
 
@@ -8,7 +8,7 @@ use crate::spans::Spans;
 use crate::variables::Variable;
 use proof_limits::{Narrow, narrow_mul};
 
-// The greatest pseudo-random part of a fresh goal.
+// The greatest pseudo-random number in a fresh goal, where each is multiplied by the denominator.
 const MOST_PART: u64 = 1024;
 
 // A variable that is not basic, and the end of its span that it is at.

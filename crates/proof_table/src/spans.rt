@@ -1,4 +1,5 @@
-//! The spans of one run, by variable. `table` makes a `Spans` for each run; `slots`, `candidates` and `worst` look spans up in it.
+//! The spans of one run, by variable. Stands on `variables`. `table` makes a `Spans` for each run; `slots`, `candidates` and `worst` look
+//! spans up in it.
 
 use crate::variables::Variable;
 use proof_limits::{Narrow, Span};

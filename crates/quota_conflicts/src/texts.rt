@@ -159,7 +159,8 @@ fn is_seated(standing: Standing) -> bool
     }
 }
 
-/// Adds the line that says by how many people the quotas are missed.
+/// Adds the line that says by how many people the quotas are missed at least; if that isn't known, only that no panel of whole people
+/// meets them together.
 fn push_miss(text: &mut Vec<u8>, least_miss: Option<usize>) -> Result<(), AllocError>
     ensures { OnOk result (text.new.items ≡ text.old.items ++ miss_line least_miss) }
 {

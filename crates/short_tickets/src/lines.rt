@@ -16,7 +16,8 @@ pub(crate) struct Line {
 }
 
 impl Line {
-    /// True if the next row, with this remainder, gets a ticket. If the row is on the line, one tie fewer is left.
+    /// True if the next row, with this remainder, gets a ticket. If its remainder is that of the line, one of `ties` is
+    /// used up, if any is left.
     pub(crate) fn gives(&mut self, remainder: u128) -> bool
         ensures given { result ≡ (nat_lt self.old.remainder remainder || ((remainder == self.old.remainder) && nat_lt 0 self.old.ties)) }
         ensures remainder { self.new.remainder ≡ self.old.remainder }

@@ -69,7 +69,7 @@ pub(crate) enum Place {
     Trees,
     /// The line after `close`.
     Closed,
-    /// No further line is read, since it isn't known what the lines are.
+    /// No further line is read: the text has gone on after its last line, or a first line didn't show which part of a text follows.
     Lost,
 }
 

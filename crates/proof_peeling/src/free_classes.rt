@@ -1,5 +1,6 @@
-//! The kinds of a point: classes of alike volunteers, of which those with a chance between 0 and 1 are free. A composition is a count for
-//! each free kind. `class_mixes` and `pricing` use this.
+//! The classes of a point with their chances, and which of them are free: those with a chance between 0 and 1. A composition is a count for
+//! each class; only the counts of free classes differ between the compositions of a mix. Stands on `rows`; `class_mixes` and `pricing` use
+//! this, and `lotteries` calls `counts_of`.
 
 use crate::rows::{PanelRow, value_at};
 use proof_branching::ceiling;
@@ -9,15 +10,16 @@ use proof_program::Program;
 use proof_stages::Chances;
 use std::alloc::{AllocError, Global};
 
-/// The kinds of a point.
+/// The classes of a point, and which of them are free.
 #[derive(Drop)]
-pub(crate) struct Kinds<'a> {
+pub(crate) struct FreeClasses<'a> {
     alloc: Global,
     classes: &'a Program,
     // the number of each free class
-    pub(crate) free: Vec<usize>,
+    pub(crate) numbers: Vec<usize>,
     // the chance of a member of each class, times the total
     pub(crate) parts: Vec<Narrow>,
+    // a common multiple of the denominators of the chances, at least 1
     pub(crate) total: Narrow,
     // the span of each class's count in panels of the point's face
     pub(crate) spans: Vec<Span>,
@@ -40,15 +42,15 @@ pub(crate) fn counts_of(
     Ok(counts)
 }
 
-impl<'a> Kinds<'a> {
-    /// Returns the kinds of a point with these chances of classes.
+impl<'a> FreeClasses<'a> {
+    /// Returns the classes of a point with these chances.
     pub(crate) fn new(
         alloc: Global,
         classes: &'a Program,
         chances: &Chances,
-    ) -> Result<Kinds<'a>, ProveStop> {
+    ) -> Result<FreeClasses<'a>, ProveStop> {
         let total = chances.common();
-        let mut free = Vec::new(alloc);
+        let mut numbers = Vec::new(alloc);
         let mut parts = Vec::new(alloc);
         let mut spans = Vec::new(alloc);
         for class in 0..classes.columns() {
@@ -60,14 +62,14 @@ impl<'a> Kinds<'a> {
             } else if part.get() >= total.get() {
                 spans.push(Span::point(classes.size_of(class)))?;
             } else {
-                free.push(class)?;
+                numbers.push(class)?;
                 spans.push(classes.spans()[class])?;
             }
         }
-        Ok(Kinds {
+        Ok(FreeClasses {
             alloc,
             classes,
-            free,
+            numbers,
             parts,
             total,
             spans,
@@ -83,10 +85,10 @@ impl<'a> Kinds<'a> {
         }
     }
 
-    /// Returns the amount of each free kind, and last the total.
+    /// Returns the amount of each free class, and last the total.
     pub(crate) fn amounts(&self) -> Result<Vec<i128>, AllocError> {
         let mut amounts = Vec::new(self.alloc);
-        for class in &self.free {
+        for class in &self.numbers {
             amounts.push(self.amount(*class))?;
         }
         amounts.push(self.total.wide())?;
@@ -112,7 +114,7 @@ impl<'a> Kinds<'a> {
         Ok(coefficients)
     }
 
-    /// Returns the counts of the free kinds, or None if a count is not in its span.
+    /// Returns the counts of the free classes of a composition, given by its count for each class, or None if a count is not in its span.
     pub(crate) fn free_counts(&self, counts: &[i64]) -> Result<Option<Vec<i64>>, AllocError> {
         for (count, span) in counts.iter().zip(&self.spans) {
             if *count < span.least().get() || span.greatest().get() < *count {
@@ -120,19 +122,19 @@ impl<'a> Kinds<'a> {
             }
         }
         let mut own = Vec::new(self.alloc);
-        for class in &self.free {
+        for class in &self.numbers {
             own.push(counts.get(*class).copied().unwrap_or(0))?;
         }
         Ok(Some(own))
     }
 
-    /// Returns the count of each class in a composition.
+    /// Returns the count of each class in a composition, given by its counts of the free classes.
     pub(crate) fn all_counts(&self, counts: &[i64]) -> Result<Vec<i64>, AllocError> {
         let mut all = Vec::new(self.alloc);
         for span in &self.spans {
             all.push(span.least().get())?;
         }
-        for (class, count) in self.free.iter().zip(counts) {
+        for (class, count) in self.numbers.iter().zip(counts) {
             if let Some(own) = all.get_mut(*class) {
                 *own = *count;
             }
@@ -140,15 +142,15 @@ impl<'a> Kinds<'a> {
         Ok(all)
     }
 
-    /// Returns a weight for each class: minus the dual of its row, where the greatest becomes `most`, rounded; 0 for classes that are not
-    /// free.
+    /// Returns a weight for each class: minus the dual of its row, scaled so that the greatest absolute value becomes `most`, and rounded;
+    /// 0 for classes that are not free.
     pub(crate) fn weights(&self, duals: &[i64], most: i128) -> Result<Vec<Narrow>, AllocError> {
         let mut greatest: i128 = 1;
-        for (dual, _) in duals.iter().zip(&self.free) {
+        for (dual, _) in duals.iter().zip(&self.numbers) {
             greatest = greatest.max(i128::from(dual.unsigned_abs()));
         }
         let mut weights = vec![in self.alloc; Narrow::ZERO; self.classes.columns()]?;
-        for (dual, class) in duals.iter().zip(&self.free) {
+        for (dual, class) in duals.iter().zip(&self.numbers) {
             let scaled = i128::from(*dual).wrapping_neg().wrapping_mul(most);
             if let Some(weight) = weights.get_mut(*class) {
                 *weight = i64::try_from(rounded(scaled, greatest))
@@ -160,10 +162,10 @@ impl<'a> Kinds<'a> {
         Ok(weights)
     }
 
-    /// Returns the least whole number that is at least the weight of the point.
+    /// Returns the least whole number that is at least the weight of the point. In each mix of the point some composition weighs that much.
     pub(crate) fn need(&self, weights: &[Narrow]) -> Result<Narrow, ProveStop> {
         let mut sum = 0;
-        for class in &self.free {
+        for class in &self.numbers {
             let own = wide_mul(value_at(weights, *class).wide(), self.amount(*class))?;
             sum = wide_add(sum, own)?;
         }
