@@ -188,7 +188,8 @@ module _ (all : Classes) (closed : List Row) (row : Row) (depth : ℕ) (front : 
       ∙ (skip_below class.least (low - class.least) (top - low) (λ c m n. below c (omega (arith, n, h)) m)
       ∙ ap (λ n. among (counts_down n (top - low))) h)))
 
-  -- If only children with counts from `low` to `top` may be reachable, and `top` is below `low`, the search finds nothing without a visit.
+  -- If only children with counts from `low` to `top` may be reachable, and `top` is below `low`, the search makes no visit, and finds
+  -- nothing.
   pub none_left : (class : Class) (low top : ℕ) → Stands all depth class → class.least ≤ class.most → top < low → ((c : ℕ) → top < c → c ≤ class.most → Dead c) → ((c : ℕ) → c < low → class.least ≤ c → Dead c) →
       among (counts_at all depth) ≡ nothing
   none_left class low top stands ordered passed above below =

@@ -33,7 +33,7 @@ pub record Begins (all : Classes) (closed : List Row) (row : Row) (search : Sear
 abbrev pub child_above : Classes → List Row → Row → List Class → List ℕ → Due
 child_above all closed row later child = if is_live_above all closed row row.b child then enter_above all closed row later child else record { visits = 0; found = None }
 
--- the searches of a front's live children, with the counts `counts` of the next class, one after the other
+-- takes the children of a front whose count of the next class is one of `counts`, and searches the live ones one after the other
 abbrev pub children_above : Classes → List Row → Row → List Class → List ℕ → List ℕ → Due
 children_above all closed row later front counts =
     one_by_one (map (λ child. enter_above all closed row later child) (filter (is_live_above all closed row row.b) (map (λ c. front ++ c ∷ []) counts)))

@@ -6,7 +6,7 @@ use command_meanings::seal_has_one_answer;
 use command_shell::{Answer, Command, Meaning, Printed};
 use std::alloc::{AllocError, Global};
 
-/// `seal`: prints the seal of a bundle's text. It has no arguments.
+/// `seal`: prints the seal of a bundle's text.
 #[derive(Clone, Copy, Debug)]
 pub struct Seal;
 

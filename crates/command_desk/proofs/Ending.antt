@@ -22,7 +22,7 @@ line_of_counts visits counts are = ap (λ (n : ℕ). numbers_line n counts.broke
 
 -- if the door was served without a failure, and the line was told, whole or cut off, the call ends as `ServeOutcome` says
 pub served : (path : List ℕ) (port connections : ℕ) (call : Told) (keeper : Keeper) (door : Door) (ports : Ports) (counts : Counts) (saying : Saying) → IsAttached path keeper →
-    ServesAt port connections door ports.after (kept_before keeper) (kept_after keeper) (Ok counts) → saying ≡ Prints printed.Done (numbers_line counts.served counts.broken) →
+    ServesAt port connections door ports (kept_before keeper) (kept_after keeper) (Ok counts) → saying ≡ Prints printed.Done (numbers_line counts.served counts.broken) →
     IsToldOrCutOff saying call → ServeOutcome path port connections (desk_told (store_told call keeper) door ports)
 served path port connections call keeper door ports counts saying attached ((visits, attended, within, end, counted), opened) says tells =
     let line = says ∙ ap (λ (text : List ℕ). Prints printed.Done text) (line_of_counts visits counts counted) in
@@ -32,14 +32,14 @@ served path port connections call keeper door ports counts saying attached ((vis
 
 -- if the door failed, and the call told so, the call ends as `ServeOutcome` says
 pub door_failed : (path : List ℕ) (port connections : ℕ) (call : Told) (keeper : Keeper) (door : Door) (ports : Ports) (failed : Failed) → IsAttached path keeper →
-    ServesAt port connections door ports.after (kept_before keeper) (kept_after keeper) (Err failed) → IsStopped 10 door_fault_line call → ServeOutcome path port connections (desk_told (store_told call keeper) door ports)
+    ServesAt port connections door ports (kept_before keeper) (kept_after keeper) (Err failed) → IsStopped 10 door_fault_line call → ServeOutcome path port connections (desk_told (store_told call keeper) door ports)
 door_failed path port connections call keeper door ports failed attached (visits, attended, within, faulted, at) stopped =
     DoorFault visits at (record { attached = attached; attended = attended; within = within }) faulted stopped
 
 -- if attaching changed neither the tables that the keeper tells nor its count of faults, then in `ServesAt` the keeper from before the
 -- attaching can take the place of the attached keeper
-pub from_before : (port connections : ℕ) (door : Door) (opened : Option ℕ) (tables now : Option Tables) (faults count : ℕ) (after : Kept) (result : Result Counts Failed) → now ≡ tables → count ≡ faults →
-    ServesAt port connections door opened (kept now count) after result → ServesAt port connections door opened (kept tables faults) after result
-from_before port connections door opened tables now faults count after result same none serves =
-    subst (λ (t : Option Tables). ServesAt port connections door opened (kept t faults) after result) same
-    (subst (λ (f : ℕ). ServesAt port connections door opened (kept now f) after result) none serves)
+pub from_before : (port connections : ℕ) (door : Door) (ports : Ports) (tables now : Option Tables) (faults count : ℕ) (after : Kept) (result : Result Counts Failed) → now ≡ tables → count ≡ faults →
+    ServesAt port connections door ports (kept now count) after result → ServesAt port connections door ports (kept tables faults) after result
+from_before port connections door ports tables now faults count after result same none serves =
+    subst (λ (t : Option Tables). ServesAt port connections door ports (kept t faults) after result) same
+    (subst (λ (f : ℕ). ServesAt port connections door ports (kept now f) after result) none serves)

@@ -7,7 +7,7 @@ use Rattle.office_http.specs.declared.attending.LinkFault.{LinkFault}
 use Rattle.outside.specs.Faults.{Rose}
 use Rattle.outside.specs.Links.{DoorLinks}
 use Rattle.outside.specs.declared.source.Failed.{Failed}
-use Rattle.command_desk.specs.DeskTold.{Door, door_told, seen_links}
+use Rattle.command_desk.specs.DeskTold.{Door, Ports, door_told, seen_links}
 use Rattle.command_desk.specs.Serving.{AreAttended, broken_of, served_of}
 use Rattle.command_desk.specs.Turns.{AreUnderWay, ServesAt, ServesDoor, TakesTurn}
 use Rattle.command_desk.specs.declared.serving.Counts.{Counts}
@@ -75,14 +75,14 @@ opened {L} sees connections links between after faults faults_between faults_aft
     (subst (λ (f : ℕ). ServesDoor connections (door_told sees between after f faults_after) before left result) none served)
 
 -- if the open door listens at `port`, and still does after the serving, `ServesAt` follows from `ServesDoor`
-pub at_port : (port connections : ℕ) (door : Door) (listens opened : Option ℕ) (before after : Kept) (result : Result Counts Failed) → listens ≡ Some port → opened ≡ listens →
-    ServesDoor connections door before after result → ServesAt port connections door opened before after result
-at_port port connections door listens opened before after (Ok counts) at stays served = (served, stays ∙ at)
-at_port port connections door listens opened before after (Err failed) at stays (visits, attended, within, faulted) = (visits, attended, within, faulted, inr (stays ∙ at))
+pub at_port : (port connections : ℕ) (door : Door) (listens : Option ℕ) (ports : Ports) (before after : Kept) (result : Result Counts Failed) → listens ≡ Some port → ports.after ≡ listens →
+    ServesDoor connections door before after result → ServesAt port connections door ports before after result
+at_port port connections door listens ports before after (Ok counts) at stays served = (served, stays ∙ at)
+at_port port connections door listens ports before after (Err failed) at stays (visits, attended, within, faulted) = (visits, attended, within, faulted, inr (stays ∙ at))
 
 -- if opening the door fails, no link is attended, and the serving ends with the failure
-pub not_opened : {L : Type 0} (sees : L → LinkTold) (port connections : ℕ) (links after : Option (DoorLinks L)) (faults faults_after : ℕ) (opened : Option ℕ) (kept : Kept) (failed : Failed) → after ≡ links →
-    Rose faults faults_after → ServesAt port connections (door_told sees links after faults faults_after) opened kept kept (Err failed)
-not_opened {L} sees port connections links after faults faults_after opened kept failed same rose =
+pub not_opened : {L : Type 0} (sees : L → LinkTold) (port connections : ℕ) (links after : Option (DoorLinks L)) (faults faults_after : ℕ) (ports : Ports) (kept : Kept) (failed : Failed) → after ≡ links →
+    Rose faults faults_after → ports.after ≡ ports.before → ServesAt port connections (door_told sees links after faults faults_after) ports kept kept (Err failed)
+not_opened {L} sees port connections links after faults faults_after ports kept failed same rose shut =
     let within : 0 ≤ connections = omega arith in
-    ([], none_attended _ _ kept kept (ap (λ (l : Option (DoorLinks L)). option_map (seen_links sees) l) same) refl, within, rose, inl refl)
+    ([], none_attended _ _ kept kept (ap (λ (l : Option (DoorLinks L)). option_map (seen_links sees) l) same) refl, within, rose, inl (refl, shut))

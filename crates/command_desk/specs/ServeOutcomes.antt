@@ -7,7 +7,7 @@ use Rattle.command_shell.specs.Told.{HasFaulted, HasNoFault, IsUntouched}
 use Rattle.command_stores.specs.StoreOutcomes.{HasFailed, HasStoredNothing}
 use Rattle.command_stores.specs.StoreTold.{IsAttached, Keeper}
 use Rattle.office_http.specs.Visits.{Kept, Visit, kept}
-use Rattle.command_desk.specs.DeskTold.{DeskTold, Door, IsUnopened}
+use Rattle.command_desk.specs.DeskTold.{DeskTold, Door, IsUnopened, Ports}
 use Rattle.command_desk.specs.Serving.{AreAttended, served_line}
 
 -- what the keeper told as the call began; `kept_after` is what it tells afterwards
@@ -28,6 +28,10 @@ pub record IsAtEnd (connections : ℕ) (door : Door) (visits : List Visit) : Typ
   pub all : (length visits ≡ connections) ⊎ IfSome door.after (λ links. links.coming ≡ [])
   pub no_fault : HasNoFault door
 
+-- no link was attended, and the door listens where it did before the call, if it did; or it listens at `port`
+abbrev pub IsShutOrOpened : ℕ → List Visit → Ports → Type 0
+IsShutOrOpened port visits ports = ((visits ≡ []) × (ports.after ≡ ports.before)) ⊎ (ports.after ≡ Some port)
+
 -- how a call of `serve` ends over the store at `path`, which opens the door at `port` and attends at most `connections` links. A fault of
 -- the keeper at a link is the reply 503 to that link, and a fault of a link is counted; neither ends the call
 pub data ServeOutcome (path : List ℕ) (port connections : ℕ) (told : DeskTold) : Type 0 where
@@ -37,9 +41,9 @@ pub data ServeOutcome (path : List ℕ) (port connections : ℕ) (told : DeskTol
   WriteFault : (visits : List Visit) → told.ports.after ≡ Some port → HasServed path connections told visits → IsAtEnd connections told.door visits → IsCutOff (served_line visits) told.store.call → ServeOutcome path port connections told
   -- 9: the keeper counted a fault when it was attached, and the door wasn't opened
   KeeperFault : IsUnopened told → HasFailed path told.store.keeper → IsStopped 9 keeper_fault_line told.store.call → ServeOutcome path port connections told
-  -- 10: the door counted a fault. If it did when it was opened, no link was attended; if it did later, it listens at the port. What the
-  -- visits changed is kept
-  DoorFault : (visits : List Visit) → (visits ≡ []) ⊎ (told.ports.after ≡ Some port) → HasServed path connections told visits → HasFaulted told.door → IsStopped 10 door_fault_line told.store.call → ServeOutcome path port connections told
+  -- 10: the door counted a fault. If it did when it was opened, no link was attended, and it listens where it did before; if it did later,
+  -- it listens at the port. What the visits changed is kept
+  DoorFault : (visits : List Visit) → IsShutOrOpened port visits told.ports → HasServed path connections told visits → HasFaulted told.door → IsStopped 10 door_fault_line told.store.call → ServeOutcome path port connections told
   -- 12: memory was wanting, and the door wasn't opened
   WantOfMemory : IsUnopened told → HasStoredNothing path told.store.keeper → IsStopped 12 want_of_memory_line told.store.call → ServeOutcome path port connections told
 

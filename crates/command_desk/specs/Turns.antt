@@ -1,13 +1,13 @@
 -- What a turn of `serve` does, and what all turns do. The contracts of src/visiting.rt and src/serving.rt cite it.
-use Rattle.std.specs.Prelude.{◌≡◌, ◌⊎◌, ◌≤◌, ℕ, List, [], ◌∷◌, length, Option, Some, None, IfSome, Result, Ok, Err}
+use Rattle.std.specs.Prelude.{◌≡◌, ◌≤◌, ℕ, List, [], ◌∷◌, length, Option, Some, None, IfSome, Result, Ok, Err}
 use Rattle.command_shell.specs.Told.{HasFaulted}
 use Rattle.outside.specs.Links.{DoorLinks}
 use Rattle.outside.specs.declared.source.Failed.{Failed}
 use Rattle.office_http.specs.Visits.{Kept, LinkTold, Visit}
 use Rattle.office_http.specs.declared.attending.LinkFault.{LinkFault}
-use Rattle.command_desk.specs.DeskTold.{Door}
+use Rattle.command_desk.specs.DeskTold.{Door, Ports}
 use Rattle.command_desk.specs.Serving.{AreAttended, broken_of, served_of}
-use Rattle.command_desk.specs.ServeOutcomes.{IsAtEnd}
+use Rattle.command_desk.specs.ServeOutcomes.{IsAtEnd, IsShutOrOpened}
 use Rattle.command_desk.specs.declared.serving.Counts.{Counts}
 
 -- the result says that one link was attended, that none is to come, or that the door failed; in the last two cases links and keeper are as
@@ -37,9 +37,9 @@ ServesDoor connections door before after (Ok counts) =
 ServesDoor connections door before after (Err failed) =
     (visits : List Visit) × AreAttended door.before before visits door.after after × (length visits ≤ connections) × HasFaulted door
 
--- the door was opened at `port`, and links were attended as `ServesDoor` says; or the door failed: either no link was attended, or the door
--- listens at `port`. `opened` is the port at which it listens afterwards
-abbrev pub ServesAt : ℕ → ℕ → Door → Option ℕ → Kept → Kept → Result Counts Failed → Type 0
-ServesAt port connections door opened before after (Ok counts) = ServesDoor connections door before after (Ok counts) × (opened ≡ Some port)
-ServesAt port connections door opened before after (Err failed) =
-    (visits : List Visit) × AreAttended door.before before visits door.after after × (length visits ≤ connections) × HasFaulted door × ((visits ≡ []) ⊎ (opened ≡ Some port))
+-- the door was opened at `port`, and links were attended as `ServesDoor` says; or the door failed: either no link was attended, and the
+-- door listens where it did, or it listens at `port`
+abbrev pub ServesAt : ℕ → ℕ → Door → Ports → Kept → Kept → Result Counts Failed → Type 0
+ServesAt port connections door ports before after (Ok counts) = ServesDoor connections door before after (Ok counts) × (ports.after ≡ Some port)
+ServesAt port connections door ports before after (Err failed) =
+    (visits : List Visit) × AreAttended door.before before visits door.after after × (length visits ≤ connections) × HasFaulted door × IsShutOrOpened port visits ports

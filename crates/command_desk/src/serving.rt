@@ -2,7 +2,7 @@
 
 ghost use Rattle.std.specs.Prelude.{◌≡◌, ◌+◌, ◌-◌, ◌<◌, ◌^◌, if◌then◌else◌, is_err, is_ok};
 ghost use Rattle.office_http.specs.Visits.{kept, link_told};
-ghost use Rattle.command_desk.specs.DeskTold.{NoMoreBack, door_told};
+ghost use Rattle.command_desk.specs.DeskTold.{NoMoreBack, door_told, ports};
 ghost use Rattle.command_desk.specs.Turns.{ServesAt, ServesDoor};
 
 use crate::calling::Serve;
@@ -31,7 +31,7 @@ pub(crate) fn serve_door<R: Threads + Sync, W: Watch + Sync, K: Keeper, D: Door>
     ensures served { ServesAt serve.port serve.connections
         (door_told (λ link. link_told (D.Link.left link) (D.Link.written link) (D.Link.faults link))
         (D.links door.old) (D.links door.new) (D.faults door.old) (D.faults door.new))
-        (D.opened_at door.new)
+        (ports (D.opened_at door.old) (D.opened_at door.new))
         (kept (K.tables keeper.old) (K.faults keeper.old)) (kept (K.tables keeper.new) (K.faults keeper.new)) result }
     ensures place { K.place keeper.new ≡ K.place keeper.old }
 {

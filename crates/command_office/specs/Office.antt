@@ -71,8 +71,8 @@ AnswersAlone (Some (asks.DrawnPage tickets digits)) told = Answers bundle_or_pro
 AnswersAlone (Some (asks.Panel it)) told = Answers pool_format (PanelMeans it.nodes) told
 AnswersAlone (Some (asks.Loosen it)) told = Answers pool_format (LoosenMeans it.nodes) told
 AnswersAlone (Some (asks.LoosenByProof it)) told = TextOutcome (About pool_format (LoosensWithin it.pivots it.nodes)) told
--- this meaning doesn't depend on the number of workers, and neither do those of `make` and of a solve over a store. So that number
--- changes nothing that is told
+-- the number of workers is no part of this meaning, so what is told is the same with any number. That holds for `make` and for a solve
+-- over a store too
 AnswersAlone (Some (asks.Lottery it)) told = Answers pool_format (LotteryMeans it.limits) told
 AnswersAlone (Some (asks.Check it)) told = Answers bundle_format (CheckMeans it.nodes) told
 -- `explain` reads any bytes. What its words are isn't defined, only which status comes, and the first line of the words at status 3

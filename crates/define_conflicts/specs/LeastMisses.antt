@@ -1,6 +1,6 @@
--- A lower bound on what every selection misses, by weights of quotas: what the quotas ask for, and what selections can give. Only whole
--- numbers of at least 0 are added and multiplied. Builds on Quotas. `quota_conflicts`, `define_cost_bounds` and `loosening_by_proof` use
--- it.
+-- A lower bound on what every selection misses. Each quota has a weight. `asked` is what the weighted quotas ask for, `given` the most that
+-- a selection can give. Each selection's weighted misses sum to at least `asked` less `given`. All numbers are whole and at least 0. Builds
+-- on Quotas. `quota_conflicts`, `define_cost_bounds` and `loosening_by_proof` use it.
 use Rattle.std.specs.Prelude.{ℕ, ◌+◌, ◌-◌, ◌*◌, if◌then◌else◌, Bool, true, false, ◌&&◌, List, map, sum_by}
 use Rattle.std.specs.List.{enumerate_from}
 use Rattle.define_pools.specs.declared.Standing.{Standing}
@@ -59,8 +59,8 @@ asked pool weighted all =
     weighed_bounds pool AtLeast weighted
     + sum_by (λ (i, standing). taken_by standing (weights_for pool AtMost weighted i)) (enumerate_from 0 all)
 
--- the most that a selection that keeps the standings `all` can give: the greatest numbers, each times its quota's weight, and what each
--- volunteer gives
+-- the most that a selection that keeps the standings `all` can give: the sum of the bounds of the quotas with greatest numbers, each times
+-- its quota's weight, and of the most that each volunteer gives
 abbrev pub given : Pool → List WeightedQuota → List Standing → ℕ
 given pool weighted all =
     weighed_bounds pool AtMost weighted

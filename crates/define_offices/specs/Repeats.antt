@@ -19,8 +19,8 @@ abbrev pub RulesAgain : Type 0
 RulesAgain = (tables : Tables) (rules : List Category) (change : Option Change) (reply : Reply) → Comes tables (SetRules rules) (Replies change reply) →
     asked (applied tables change) (SetRules rules) ≡ IsDecided (tells (rules_line (codes "same")))
 
--- the reply at `later` tables to a command that had the reply `reply`: an import counts all its rows as repeated; any other reply is the
--- same
+-- the reply to a command that had the reply `reply` and is given again, when the tables are `later`. If rows are registered again, all of
+-- them are counted as repeated; any other command has the same reply
 abbrev pub reply_again : Tables → Command → Reply → Reply
 reply_again later (Register rows) reply = one_line (register_line 0 (length rows) (length later.register))
 reply_again later (SetCharter charter) reply = reply

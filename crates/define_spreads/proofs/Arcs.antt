@@ -19,7 +19,8 @@ sum_step g x (suc w) same =
     let here = same (x + w) (omega arith) (omega arith) in
     rw e (omega (arith, rest, here))
 
--- `g` has one value from each place of a list up to the next place, and from the last place up to `end`
+-- the places of a list don't fall, and the last is at most `end`. `g` is constant from each place up to the next, and from the last up to
+-- `end`
 abbrev pub Steps : (ℕ → ℕ) → ℕ → List ℕ → Type 0
 Steps g end [] = Unit {0}
 Steps g end (x ∷ []) = (x ≤ end) × ((z : ℕ) → x ≤ z → z < end → g z ≡ g x)

@@ -18,7 +18,17 @@ fn points_have_lotteries(rt: HostRuntime) -> Result<(), Fail> {
         return Err("no point".into());
     };
     let rows = PanelRows::new(alloc, &single, &classes, &stages)?;
-    let found = lottery_of_point(alloc, &single, &rows, &classes, &chances, 1, &mut budget)?;
+    let mut known = Vec::new(alloc);
+    let found = lottery_of_point(
+        alloc,
+        &single,
+        &rows,
+        &classes,
+        &chances,
+        1,
+        &mut known,
+        &mut budget,
+    )?;
     let said = format!(in alloc; "{found:?}")?;
     assert_eq!(rt;
         said.as_str(),

@@ -18,7 +18,8 @@ reads_same said other (Ok value) e h = e ∙ h
 reads_same said other (Err (fault f)) e h = e ∙ h
 reads_same said other (Err OutOfMemory) e h = tt
 
--- if a record is refused, the stop is right for the whole file
+-- if the fault of the record at `place`, when it has one, is the fault of the file, a stop that is right for the record is right for the
+-- file
 pub record_stops : {T : Type 0} (X : Type 0) (said : Result T Fault) (kind : Option ℕ) (place : ℕ) → ((k : ℕ) → kind ≡ Some k → said ≡ Err (record { place = place; kind = k })) →
     (stop : BuildStop) → Tells {T = X} kind (Err stop) → (told : ImportStop) → told ≡ stopped place stop → IsFault (λ f. said ≡ Err f) told
 record_stops X said kind place has (Kind k) tells told e = subst (IsFault (λ f. said ≡ Err f)) (sym e) (has k tells)

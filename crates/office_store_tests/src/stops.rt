@@ -1,5 +1,6 @@
-//! The machine stops at each call of a file: while a new store is made, while a change of each kind is stored, and while a store of version
-//! 1 is brought to version 2. When the store is opened again, it must hold what it held before the step, or what it holds after it.
+//! Tests in which the machine stops at a call on a file, tried for each call: while a new store is made, while a change of each kind is
+//! stored, and while a store of version 1 is brought to version 2. When the store is opened again, it must hold what it held before the
+//! step, or what it holds after it.
 
 use crate::assembly::{Asked, HOUSEHOLDS, command_of, done};
 use crate::disks::{

@@ -224,7 +224,7 @@ fn with_one_more(alloc: Global, names: &[Name], last: &Name) -> Result<Vec<Name>
     Ok(all)
 }
 
-/// Returns equal rounds.
+/// Returns copies of the rounds.
 pub(crate) fn copied_rounds(alloc: Global, rounds: &[Round]) -> Result<Vec<Round>, AllocError>
     ensures { IfOk result (λ copies. copies.items ≡ rounds.now) }
 {

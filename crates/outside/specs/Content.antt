@@ -15,7 +15,7 @@ AppendsLess old new piece = (count : ℕ) × (count < length piece) × Appends o
 abbrev pub LosesFront : Option (List ℕ) → Option (List ℕ) → Type 0
 LosesFront old new = (front : List ℕ) × Consumes old new front
 
--- the bytes, if they are told, lost more than `limit` bytes from their front
+-- more than `limit` bytes were taken from the front of what was left, as far as the object tells its bytes
 abbrev pub LosesMore : ℕ → Option (List ℕ) → Option (List ℕ) → Type 0
 LosesMore limit old new = (front : List ℕ) × (limit < length front) × Consumes old new front
 

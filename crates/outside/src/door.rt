@@ -19,9 +19,11 @@ pub trait Door {
     /// The port at which the door listens, if it does.
     ghost opened_at: { Self → Option ℕ };
 
-    /// Opens the door at `port`. A call that fails counts a fault; no other call counts one. No link is given or lost.
+    /// Opens the door at `port`. A call that fails leaves the door as it was, and counts a fault; no other call counts one. No link is
+    /// given or lost.
     fn listen(&mut self, port: u16) -> Result<(), Failed>
         ensures port { OnOk result (opened_at self.new ≡ Some port) }
+        ensures shut { OnErr result (opened_at self.new ≡ opened_at self.old) }
         ensures same { links self.new ≡ links self.old }
         ensures never_falls { faults self.old ≤ faults self.new }
         ensures cause { OnErr result (Rose (faults self.old) (faults self.new)) }

@@ -100,6 +100,7 @@ impl Door for MemDoor {
 
     fn listen(&mut self, port: u16) -> Result<(), Failed>
         ensures port { OnOk result (self.new.port ≡ Some port) }
+        ensures shut { OnErr result (self.new.port ≡ self.old.port) }
         ensures same { Some self.new.links ≡ Some self.old.links }
         ensures never_falls { self.old.calls.faults ≤ self.new.calls.faults }
         ensures cause { OnErr result (Rose self.old.calls.faults self.new.calls.faults) }

@@ -65,6 +65,8 @@ impl<R: Net + Drop> Door for TcpDoor<R> {
 
     fn listen(&mut self, port: u16) -> Result<(), Failed>
         ensures port { OnOk result (⟦<TcpDoor<R> as Door>⟧.opened_at self.new ≡ Some port) }
+        ensures shut { OnErr result (⟦<TcpDoor<R> as Door>⟧.opened_at self.new
+            ≡ ⟦<TcpDoor<R> as Door>⟧.opened_at self.old) }
         ensures same { ⟦<TcpDoor<R> as Door>⟧.links self.new
             ≡ ⟦<TcpDoor<R> as Door>⟧.links self.old }
         ensures never_falls { ⟦<TcpDoor<R> as Door>⟧.faults self.old

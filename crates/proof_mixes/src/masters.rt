@@ -113,7 +113,7 @@ impl Master {
     }
 
     /// Begins anew, at the basis where all is missing. Fails only if memory runs out; then the program must not be used further.
-    pub fn begin(&mut self) -> Result<(), AllocError> {
+    fn begin(&mut self) -> Result<(), AllocError> {
         let size = self.point.len();
         self.inverse.clear();
         self.basis.clear();
@@ -166,7 +166,6 @@ impl Master {
         if let Some(own) = self.is_open.get_mut(row) {
             *own = is_open;
         }
-        self.changes = FRESH;
     }
 
     /// Puts a variable of the caller in the place of the least weight: from now on `solve` makes it as great as possible, and `least`

@@ -46,7 +46,7 @@ pub(crate) enum Mixed {
     Found(Vec<WeightedPanel>),
     /// The point is no mix of compositions.
     Outside,
-    /// No mix was found, or no whole weights of one.
+    /// No mix was found, or the weights of the mix that was found could not be made whole.
     Doubt,
 }
 

@@ -19,5 +19,5 @@ mod seen;
 mod spreads;
 mod tails;
 
-pub use lotteries::{Peeled, WeightedPanel, lottery_noting, lottery_of_point, mix_of};
+pub use lotteries::{Peeled, WeightedPanel, lottery_of_point, mix_of};
 pub use rows::{PanelRows, weights_of};

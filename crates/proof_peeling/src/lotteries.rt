@@ -1,6 +1,6 @@
 //! The lottery of a point: turns of peeling, and if these get stuck, tails and a mix of compositions. Stands on `peels`, `tails`,
-//! `class_mixes`, `free_classes`, `remainders`, `rows` and `seen`. `proof_run` calls `lottery_noting` and `mix_of`, and `engine_tests`
-//! calls `lottery_of_point`. Promise: nothing of the budget is given back.
+//! `class_mixes`, `free_classes`, `remainders`, `rows` and `seen`. `proof_run` calls `lottery_of_point` and `mix_of`. Promise:
+//! nothing of the budget is given back.
 
 ghost use Rattle.std.specs.Prelude.{◌≡◌, length, IfOk, IfNone, OnOk};
 ghost use Rattle.proof_peeling.specs.Shapes.{HasTable, IsPeelingRun};
@@ -43,8 +43,8 @@ const SHORT_STEPS: usize = 40;
 /// The most nodes at which each search of a short tail looks.
 const SHORT_NODES: u64 = 100;
 
-/// How many short tails are tried at most. Before each but the first, panels are put back: 2, then 4, and so on up to 32.
-const SHORT_TAILS: u32 = 6;
+/// How many short tails are tried at most. Before each but the first, panels are put back: 2, then 4, then 8.
+const SHORT_TAILS: u32 = 4;
 
 /// How many of the other tails are tried at most in a round.
 const TAILS: u32 = 63;
@@ -83,28 +83,11 @@ struct PeelingRun<'a> {
     best: Option<Remainder>,
 }
 
-/// Makes a lottery over panels of `size` members that satisfy the rows, in which each volunteer has the chance of their column. The
-/// contract says nothing of the lottery, since each proof is verified before it is printed.
+/// Makes a lottery over panels of `size` members that satisfy the rows, in which each volunteer has the chance of their column. If it finds
+/// none, adds the compositions of the panels seen to `known`, each with a count for each class. The contract says nothing of the lottery,
+/// since each proof is verified before it is printed. Stops if `program` has not as many columns as `classes` has volunteers, or if a class
+/// has no chance.
 pub fn lottery_of_point(
-    alloc: Global,
-    program: &Program,
-    rows: &PanelRows,
-    classes: &Program,
-    chances: &Chances,
-    size: usize,
-    budget: &mut Budget,
-) -> Result<Peeled, ProveStop>
-    ensures { SpendsOn budget.old budget.new }
-{
-    let mut known = Vec::new(alloc);
-    lottery_noting(
-        alloc, program, rows, classes, chances, size, &mut known, budget,
-    )
-}
-
-/// Makes a lottery as `lottery_of_point` does. If it finds none, adds the compositions of the panels seen to `known`, each with a count for
-/// each class. Stops if `program` has not as many columns as `classes` has volunteers, or if a class has no chance.
-pub fn lottery_noting(
     alloc: Global,
     program: &Program,
     rows: &PanelRows,

@@ -20,7 +20,7 @@ use std::alloc::Global;
 pub(crate) const MOST_NODES: u64 = 2000;
 
 /// How many nodes a search for a panel may look at in each further turn.
-const NEXT_NODES: u64 = 400;
+const NEXT_NODES: u64 = 50;
 
 /// A turn of peeling: its number, which seeds its pseudo-random numbers, and how far these may shift wishes.
 #[derive(Clone, Copy, Debug)]

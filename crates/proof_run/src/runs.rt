@@ -13,7 +13,7 @@ use bundle_text::Bundle;
 use pool_model::Pool;
 use proof_limits::{Budget, Limit, ProveStop};
 use proof_model::Proof;
-use proof_peeling::{PanelRows, Peeled, WeightedPanel, lottery_noting, mix_of};
+use proof_peeling::{PanelRows, Peeled, WeightedPanel, lottery_of_point, mix_of};
 use proof_program::Program;
 use proof_stages::{Chances, ClassStage, Columned, Relaxed, column_stages_from, relaxed_stages};
 use std::alloc::Global;
@@ -129,7 +129,7 @@ fn lottery_of_chances(
     ensures { SpendsOn budget.old budget.new }
 {
     let (single, classes) = (&programs.by_volunteer, &programs.by_class);
-    lottery_noting(
+    lottery_of_point(
         alloc,
         single,
         rows,

@@ -62,24 +62,17 @@ impl Chances {
         self.common
     }
 
-    /// Settles a column's chance. After an error nothing has changed.
+    /// Settles a column's chance. Stops if there is no such column. After an error nothing has changed.
     pub(crate) fn settle(&mut self, column: usize, chance: Chance) -> Result<(), ProveStop>
-        requires { column < length self.old.chances }
         ensures chances { OnOk result (self.new.chances ≡ slice_set self.old.chances column (Some chance)) }
         ensures err { OnErr result (self.new ≡ self.old) }
     {
+        if column >= self.chances.len() {
+            return Err(ProveStop::Lost);
+        }
         self.common = self.common_with(chance)?;
         self.chances[column] = Some(chance);
         Ok(())
-    }
-
-    /// Settles a column's chance. Stops if there is no such column. After an error nothing has changed.
-    pub(crate) fn settle_at(&mut self, column: usize, chance: Chance) -> Result<(), ProveStop> {
-        if column < self.chances.len() {
-            self.settle(column, chance)
-        } else {
-            Err(ProveStop::Lost)
-        }
     }
 
     /// Returns the least common multiple of the common multiple and a chance's denominator. It is at least 1.

@@ -1,7 +1,7 @@
 //! Stages over columns, and what the ways to find stages share. Stands on `chances` and `fractions`; `relaxed`, `quick` and `columned` make
 //! these stages, and `proof_peeling` and `proof_run` read them.
 
-ghost use Rattle.std.specs.Prelude.{◌≡◌, ◌≤◌, length, IfOk};
+ghost use Rattle.std.specs.Prelude.{◌≡◌, length, IfOk};
 
 use crate::chances::Chances;
 use crate::fractions::Chance;
@@ -48,13 +48,12 @@ pub(crate) fn one_if(holds: bool) -> Narrow {
     if holds { Narrow::ONE } else { Narrow::ZERO }
 }
 
-/// Settles each unsettled column whose weight is above 0 at a chance.
+/// Settles each unsettled column whose weight is above 0 at a chance. Stops if there is no such column.
 pub(crate) fn settle(
     chances: &mut Chances,
     weights: &[Narrow],
     chance: Chance,
 ) -> Result<(), ProveStop>
-    requires { length weights.now ≤ length chances.old.chances }
     ensures { length chances.new.chances ≡ length chances.old.chances }
 {
     for column in 0..weights.len() {

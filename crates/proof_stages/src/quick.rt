@@ -6,7 +6,7 @@
 ghost use Rattle.proof_limits.specs.Budgets.{SpendsOn};
 
 use crate::chances::Chances;
-use crate::class_stages::{ClassStage, everybody_left};
+use crate::class_stages::{ClassStage, everybody_left, settle};
 use crate::columned::Columned;
 use crate::fractions::Chance;
 use crate::levels::weight_sums;
@@ -140,7 +140,9 @@ fn from_known(
 ) -> Result<Option<Columned>, ProveStop>
     ensures { SpendsOn budget.old budget.new }
 {
-    let unreached = cover(alloc, program, &mut search, known, budget)?;
+    let Some(unreached) = cover(alloc, program, &mut search, known, budget)? else {
+        return Ok(None);
+    };
     let mut quick = begun(alloc, program, search, known, unreached)?;
     let is_settled = quick.stages(budget)?;
     quick.note(known)?;
@@ -175,14 +177,14 @@ fn begun<'a>(
 }
 
 /// Adds compositions until each column of which a panel can have a member has one in some known composition. Returns a weight for each
-/// column: 1 if no known composition has a member of it and it isn't seated, else 0.
+/// column: 1 if no known composition has a member of it and it isn't seated, else 0. Returns None in doubt.
 fn cover(
     alloc: Global,
     program: &Program,
     search: &mut CompositionSearch,
     known: &mut Vec<Vec<i64>>,
     budget: &mut Budget,
-) -> Result<Vec<Narrow>, ProveStop>
+) -> Result<Option<Vec<Narrow>>, ProveStop>
     ensures { SpendsOn budget.old budget.new }
 {
     let mut weights = Vec::new(alloc);
@@ -203,10 +205,11 @@ fn cover(
                 clear(&mut weights, &counts);
                 known.push(counts)?;
             }
-            Found::Nothing | Found::Doubt => return Ok(weights),
+            Found::Nothing => return Ok(Some(weights)),
+            Found::Doubt => return Ok(None),
         }
     }
-    Ok(weights)
+    Ok(Some(weights))
 }
 
 /// Sets the weights of the columns of which a composition has members to 0.
@@ -225,16 +228,6 @@ fn counts_of(alloc: Global, point: &[Narrow]) -> Result<Vec<i64>, ProveStop> {
         counts.push(count.get())?;
     }
     Ok(counts)
-}
-
-/// Settles each unsettled column whose weight is above 0 at a chance.
-fn settle(chances: &mut Chances, weights: &[Narrow], chance: Chance) -> Result<(), ProveStop> {
-    for (column, weight) in weights.iter().enumerate() {
-        if chances.chance(column).is_none() && weight.get() > 0 {
-            chances.settle_at(column, chance)?;
-        }
-    }
-    Ok(())
 }
 
 impl<'a> Quick<'a> {

@@ -63,7 +63,7 @@ with_value-push [] category value = refl
 with_value-push (first ∷ []) category value = refl
 with_value-push (first ∷ next ∷ later) category value = ap (λ rest. first ∷ rest) (with_value-push (next ∷ later) category value)
 
--- the pool with a category that has its values up to place `i`
+-- the pool with one more category, which has the name of `category_of` and its first `i` values
 abbrev pub with_values : Pool → Category → ℕ → Pool
 with_values pool category_of i = record pool { categories = pool.categories ++ record { name = category_of.name; values = take i category_of.values } ∷ [] }
 

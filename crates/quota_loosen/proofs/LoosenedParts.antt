@@ -32,7 +32,8 @@ value_at volunteers team c category i d e l =
     let s : 0 + i ≡ i = omega arith in
     at_place (λ (v, value). loosened_value value (members_with volunteers team c v)) 0 category.values i d e l ∙ ap (λ k. loosened_value (get_or category.values i d) (members_with volunteers team c k)) s
 
--- a value with the name of value `i`, and with its bounds moved so that `number` lies within them, is value `i` of the loosened category
+-- let `number` be how many of the team have value `i` of category `c`. A value with the name of value `i`, and with its bounds moved just
+-- so far that `number` lies within them, is value `i` of the loosened category
 pub next_value : (volunteers : List Volunteer) (team : List ℕ) (c : ℕ) (category : Category) (items : List BoundedValue) (i : ℕ) (d : BoundedValue) (name : List ℕ) (low up number lower upper : ℕ) →
     items ≡ category.values → i < length category.values → d ≡ get_or items i d → name ≡ d.name → low ≡ d.lower → up ≡ d.upper → number ≡ members_with volunteers team c i →
     lower ≡ min low number → upper ≡ max up number → record { name = name; lower = lower; upper = upper } ≡ get_or (loosened_category volunteers team c category).values i d

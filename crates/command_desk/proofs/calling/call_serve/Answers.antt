@@ -12,7 +12,7 @@ returns-in-Ok-serve_door g c source alone =
     let sees = λ (link : g.row.D-Link.Denot). link_told (g.D.Link.Link.left link) (g.D.Link.Link.written link) (g.D.Link.Link.faults link) in
     let door = door_told sees (g.D.Door.links c.args.door.now) (g.D.Door.links c.serve_door.new.door) (g.D.Door.faults c.args.door.now) (g.D.Door.faults c.serve_door.new.door) in
     let after = kept (g.K.Keeper.tables c.serve_door.new.keeper) (g.K.Keeper.faults c.serve_door.new.keeper) in
-    let serves = from_before c.args.serve.port c.args.serve.connections door (g.D.Door.opened_at c.serve_door.new.door) (g.K.Keeper.tables c.args.keeper.now) (g.K.Keeper.tables c.open_store.new.keeper) (g.K.Keeper.faults c.args.keeper.now)
+    let serves = from_before c.args.serve.port c.args.serve.connections door (ports (g.D.Door.opened_at c.args.door.now) (g.D.Door.opened_at c.serve_door.new.door)) (g.K.Keeper.tables c.args.keeper.now) (g.K.Keeper.tables c.open_store.new.keeper) (g.K.Keeper.faults c.args.keeper.now)
     (g.K.Keeper.faults c.open_store.new.keeper) after (Ok c.in-Ok-serve_door.counts) c.open_store.ensures.same c.in-Ok.ensures.cause c.in-Ok-serve_door.ensures.served in
     record {
       source = alone;
@@ -31,7 +31,7 @@ returns-in-Err g c source alone =
     let sees = λ (link : g.row.D-Link.Denot). link_told (g.D.Link.Link.left link) (g.D.Link.Link.written link) (g.D.Link.Link.faults link) in
     let door = door_told sees (g.D.Door.links c.args.door.now) (g.D.Door.links c.serve_door.new.door) (g.D.Door.faults c.args.door.now) (g.D.Door.faults c.serve_door.new.door) in
     let after = kept (g.K.Keeper.tables c.serve_door.new.keeper) (g.K.Keeper.faults c.serve_door.new.keeper) in
-    let serves = from_before c.args.serve.port c.args.serve.connections door (g.D.Door.opened_at c.serve_door.new.door) (g.K.Keeper.tables c.args.keeper.now) (g.K.Keeper.tables c.open_store.new.keeper) (g.K.Keeper.faults c.args.keeper.now)
+    let serves = from_before c.args.serve.port c.args.serve.connections door (ports (g.D.Door.opened_at c.args.door.now) (g.D.Door.opened_at c.serve_door.new.door)) (g.K.Keeper.tables c.args.keeper.now) (g.K.Keeper.tables c.open_store.new.keeper) (g.K.Keeper.faults c.args.keeper.now)
     (g.K.Keeper.faults c.open_store.new.keeper) after (Err c.in-Err.field-0) c.open_store.ensures.same c.in-Ok.ensures.cause c.in-Err.ensures.served in
     record {
       source = alone;
