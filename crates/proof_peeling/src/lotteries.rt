@@ -20,7 +20,7 @@ use proof_table::Table;
 use std::alloc::Global;
 
 /// How many turns of peeling each round has. One more turn comes before the first round.
-const TURNS: [u64; 4] = [12, 4, 56, 96];
+const TURNS: [u64; 4] = [11, 4, 57, 96];
 
 /// How far pseudo-random numbers may shift a volunteer's wish, up or down, in all turns but the first.
 const WILDNESS: u32 = 40;
@@ -43,8 +43,8 @@ const SHORT_STEPS: usize = 40;
 /// The most nodes at which each search of a short tail looks.
 const SHORT_NODES: u64 = 100;
 
-/// How many short tails are tried at most. Before each but the first, panels are put back: 2, then 4, then 8.
-const SHORT_TAILS: u32 = 4;
+/// How many short tails are tried at most. Before each but the first, panels are put back: 2, then 4, 8 and 16.
+const SHORT_TAILS: u32 = 5;
 
 /// How many of the other tails are tried at most in a round.
 const TAILS: u32 = 63;
