@@ -48,7 +48,7 @@ pub(crate) fn one_if(holds: bool) -> Narrow {
     if holds { Narrow::ONE } else { Narrow::ZERO }
 }
 
-/// Settles each unsettled column whose weight is above 0 at a chance. Stops if there is no such column.
+/// Settles each unsettled column whose weight is above 0 at a chance. Stops if a weight above 0 has no column.
 pub(crate) fn settle(
     chances: &mut Chances,
     weights: &[Narrow],
