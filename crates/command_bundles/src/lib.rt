@@ -1,8 +1,8 @@
 //! The commands about a bundle: `seal`, `draw`, `short-draw` and `check`. Each is a struct of its arguments that answers about a bundle;
 //! `command_meanings` defines which answers are right, and `specs/ShortDraw.antt` those of `short-draw`. Stands on `sealed_draw`,
-//! `short_draws`, the checker, and the texts of bundles. Used by `command_proofs` for `valid_line` and `refused_line`, by
-//! `command_stores` for `refused_line`, by `command_page`, `command_browser` and `command_office`, and by `command_headline`, which states
-//! what the program promises. Promises: the four commands, and these two lines.
+//! `short_draws`, the checker, and the texts of bundles.
+//!
+//! Promises: the four commands, and the lines for valid and refused certificates, which `command_proofs` and `command_stores` print too.
 #![tactic(auto)]
 
 mod check;

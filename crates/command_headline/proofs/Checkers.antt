@@ -21,7 +21,7 @@ use Rattle.command_shell.specs.Told.{Told}
 use Rattle.command_meanings.specs.Check.{CheckMeans}
 use Rattle.command_meanings.specs.Verify.{VerifyMeans}
 use Rattle.command_headline.specs.Headline.{ToldText}
-use Rattle.command_office.specs.Office.{Answers}
+use Rattle.command_asked.specs.Office.{Answers}
 use Rattle.command_headline.proofs.Reading.{its_status}
 
 -- if the source told that it held `text`, the bytes that were read are `text`

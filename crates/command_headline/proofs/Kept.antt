@@ -5,11 +5,11 @@ use Rattle.command_desk.specs.ServeOutcomes.{Done, DoorFault, KeeperFault, Serve
 use Rattle.command_shell.specs.Formats.{pool_format}
 use Rattle.command_stores.specs.StoreTold.{StoreTold}
 use Rattle.command_meanings.specs.Lottery.{LotteryMeans}
-use Rattle.command_office.specs.Asked.{asked}
-use Rattle.command_office.specs.declared.asked.Asked.{Asked}
-use Rattle.command_office.specs.declared.asked.Asked.TheVariants as asks
+use Rattle.command_asked.specs.Asked.{asked}
+use Rattle.command_asked.specs.declared.asked.Asked.{Asked}
+use Rattle.command_asked.specs.declared.asked.Asked.TheVariants as asks
 use Rattle.command_headline.specs.Headline.{BrokenAlone, BudgetSpent, DoneAlone, Headline, Keeps, KeepsDesk, NoneAlone, NumberPassed, PassedAlone, Promises, RuleBroken, SpentAlone, TellsDone, TellsNone, TextIsWrong, WorkersChangeNothing, WrongAlone, is_serve_status, is_status}
-use Rattle.command_office.specs.Office.{AnswersAlone, AnswersRightly, Asks, EndsRightly, LeavesDoor, LeavesStore, NoMemory, OfficeIsRight, WantsMemory}
+use Rattle.command_asked.specs.Office.{AnswersAlone, AnswersRightly, Asks, EndsRightly, LeavesDoor, LeavesStore, NoMemory, OfficeIsRight, WantsMemory}
 use Rattle.command_headline.proofs.Checkers.{check_is_exact, verify_is_exact}
 use Rattle.command_headline.proofs.Promises as promise
 use Rattle.command_headline.proofs.ProofPromises.{import_keeps, prove_keeps}
@@ -56,7 +56,7 @@ asks_keep : (told : StoreTold) (it : Option Asked) → AnswersRightly it told �
 asks_keep told (Some (asks.Step path step)) right = step_keeps told path step right
 asks_keep told (Some (asks.Import path import)) right = import_keeps path told import right
 asks_keep told (Some (asks.ProveRound path proving)) right = prove_keeps path told proving right
-asks_keep told (Some (asks.Text path text)) right = text_keeps path told text right
+asks_keep told (Some (asks.StoreText path text)) right = text_keeps path told text right
 asks_keep told other right = alone_keeps told other (record { answers = λ x. x; done = λ x. x; no_panel = λ x. x; text = λ x. x; number = λ x. x; budget = λ x. x; rule = λ x. x }) right
 
 wants_keep : (it : Option Asked) (told : StoreTold) → LeavesStore WantsMemory told → Keeps it told

@@ -46,10 +46,11 @@ use Rattle.command_why.specs.PoolsAndProofs.{pool_in as pool_asked, pool_or_proo
 use Rattle.command_why.specs.Why.{ExplainsWithin}
 use Rattle.command_why.specs.declared.about.PoolOrProof.{PoolOrProof}
 use Rattle.command_why.specs.declared.about.PoolOrProof.TheVariants as asked_of
-use Rattle.command_office.specs.declared.asked.Asked.{Asked}
-use Rattle.command_office.specs.declared.asked.Asked.TheVariants as asks
+use Rattle.command_asked.specs.declared.asked.Asked.{Asked}
+use Rattle.command_asked.specs.declared.asked.Asked.TheVariants as asks
+use Rattle.command_texts.specs.declared.commands.TextCommand.TheVariants as texts
 use Rattle.command_headline.specs.Headline.{SpentAlone, CheckFailed, HasNoLottery, HeldBundle, HeldBundleOrProof, HeldEither, HeldNoPage, HeldNoText, HeldPool, HeldPoolOrProof, HeldProof, PassedAlone, BrokenAlone, IsShown, TellsBundle, TellsDrawnPage, TellsPage, DoneAlone, TellsItsBundle, NoneAlone, TellsProof, TellsShown, TellsSummary, TellsValid, WrongAlone, is_status}
-use Rattle.command_office.specs.Office.{Answers, AnswersAlone, IsUsage}
+use Rattle.command_asked.specs.Office.{Answers, AnswersAlone, IsUsage}
 use Rattle.command_headline.proofs.Leximin.{leximin}
 use Rattle.command_headline.proofs.Reading.{IsInput, Long, NoText, OfValue, about_done, about_input, about_no_panel, about_refused, about_rule, about_spent, about_wide, is_done, is_input, is_no_panel, is_refused, is_rule, is_spent, is_wide, outcome_is_status, outcome_not_nine, outcome_not_seven, outcome_not_two, reads_not, said_at, text_is_status, text_not_nine, text_not_two, text_writes_not, writes_not}
 
@@ -142,7 +143,7 @@ module _ (told : Told) where
   page_broken line gained (inr (pool, lines, held, right)) = (pool, lines, held, subst (GainsLine told.errs) right gained)
 
   drawn_page_broken : (tickets : Option ℕ) (digits line : List ℕ) → GainsLine told.errs line → PageAbout (DrawnPageOfBundle tickets digits) (Stops Rule line) →
-      BrokenAlone (Some (asks.DrawnPage tickets digits)) told
+      BrokenAlone (Some (asks.Text (texts.DrawnPage tickets digits))) told
   drawn_page_broken None digits line gained (inl (bundle, held, right)) = inr (bundle, held, line, gained, right)
   drawn_page_broken (Some tickets) digits line gained (inl (bundle, held, right)) = inr (bundle, held, line, gained, right)
   drawn_page_broken tickets digits line gained (inr (pool, lines, held, right)) = inl (pool, lines, held, subst (GainsLine told.errs) right gained)
@@ -238,42 +239,42 @@ module _ (told : Told) where
 
   pub done : (it : Option Asked) → AnswersAlone it told → told.status ≡ 0 → DoneAlone it told
   done None right s = absurd (cc (right.stopped.status, s))
-  done (Some (asks.Prove it)) right s = proof_told it.pivots it.nodes right s
-  done (Some (asks.Verify it)) right s = shown_told right s
-  done (Some (asks.Why it)) right s =
+  done (Some (asks.Text (texts.Prove it))) right s = proof_told it.pivots it.nodes right s
+  done (Some (asks.Text (texts.Verify it))) right s = shown_told right s
+  done (Some (asks.Text (texts.Why it))) right s =
       let at = about_done pool_or_proof_format (explains it.pivots it.nodes) told right s in
       record { pool = pool_asked at.1.value; held = held_asked at.1.value at.1.bytes at.1.held at.1.spells; text = at.0; out = at.1.is_told.out; why = at.1.means.right }
-  done (Some (asks.Bundle it)) right s =
+  done (Some (asks.Text (texts.Bundle it))) right s =
       let at = about_done proof_format (one BundleMeans) told right s in its_bundle at.1.value at.1.bytes at.0 at.1.held at.1.spells at.1.is_told.out at.1.means.right
-  done (Some (asks.Seal it)) right s =
+  done (Some (asks.Text (texts.Seal it))) right s =
       let is = (about_done bundle_format (one SealMeans) told right s).1 in
       record { bundle = is.value; held = held_bundle is.value is.bytes is.held is.spells; out = subst (Gains told.out) is.means.right is.is_told.out }
-  done (Some (asks.Draw seal digits)) right s =
+  done (Some (asks.Text (texts.Draw seal digits))) right s =
       let at = about_done bundle_format (one (DrawMeans seal digits)) told right s in
       record { bundle = at.1.value; held = held_bundle at.1.value at.1.bytes at.1.held at.1.spells; text = at.0; out = at.1.is_told.out; drawn = at.1.means.right }
-  done (Some (asks.ShortDraw tickets seal digits)) right s =
+  done (Some (asks.Text (texts.ShortDraw tickets seal digits))) right s =
       let at = about_done bundle_format (one (ShortDrawMeans tickets seal digits)) told right s in
       record { bundle = at.1.value; held = held_bundle at.1.value at.1.bytes at.1.held at.1.spells; text = at.0; out = at.1.is_told.out; drawn = at.1.means.right }
-  done (Some (asks.Page it)) right s =
+  done (Some (asks.Text (texts.Page it))) right s =
       let at = about_done bundle_or_proof_format (one PageMeans) told right s in
       page_done at.0 at.1.is_told.out (page_about PageOfBundle (Prints Done at.0) at.1.value at.1.bytes at.1.held at.1.spells at.1.means.right)
-  done (Some (asks.DrawnPage tickets digits)) right s =
+  done (Some (asks.Text (texts.DrawnPage tickets digits))) right s =
       let at = about_done bundle_or_proof_format (one (DrawnPageMeans tickets digits)) told right s in
       drawn_page_done tickets digits at.0 at.1.is_told.out (page_about (DrawnPageOfBundle tickets digits) (Prints Done at.0) at.1.value at.1.bytes at.1.held at.1.spells at.1.means.right)
-  done (Some (asks.Panel it)) right s =
+  done (Some (asks.Text (texts.Panel it))) right s =
       let at = about_done pool_format (one (PanelMeans it.nodes)) told right s in
       record { pool = at.1.value; held = held_pool at.1.value at.1.bytes at.1.held at.1.spells; text = at.0; out = at.1.is_told.out; panel = at.1.means.right }
-  done (Some (asks.Loosen it)) right s =
+  done (Some (asks.Text (texts.Loosen it))) right s =
       let at = about_done pool_format (one (LoosenMeans it.nodes)) told right s in
       record { pool = at.1.value; held = held_pool at.1.value at.1.bytes at.1.held at.1.spells; text = at.0; out = at.1.is_told.out; loosening = at.1.means.right }
-  done (Some (asks.LoosenByProof it)) right s =
+  done (Some (asks.Text (texts.LoosenByProof it))) right s =
       let at = about_done pool_format (LoosensWithin it.pivots it.nodes) told right s in
       record { pool = at.1.value; held = held_pool at.1.value at.1.bytes at.1.held at.1.spells; text = at.0; out = at.1.is_told.out; loosening = at.1.means.right }
   done (Some (asks.Lottery it)) right s = lottery_told it.limits right s
-  done (Some (asks.Check it)) right s = valid_told it.nodes right s
-  done (Some (asks.Explain it)) right s =
+  done (Some (asks.Text (texts.Check it))) right s = valid_told it.nodes right s
+  done (Some (asks.Text (texts.Explain it))) right s =
       let is = (about_done any_format Explains told right s).1 in (is.bytes, is.held, subst (λ one. Decides one (IsText is.bytes)) is.means is.spells)
-  done (Some (asks.Question it)) right s =
+  done (Some (asks.Text (texts.Question it))) right s =
       let is = (about_done bundle_format (one (QuestionMeans it)) told right s).1 in
       record { bundle = is.value; held = held_bundle is.value is.bytes is.held is.spells; total = is.means.right.total; out = subst (Gains told.out) is.means.right.answers is.is_told.out }
   done (Some (asks.Make it)) right s = summary_told it.seed it.volunteers it.limits right.ends s
@@ -283,37 +284,37 @@ module _ (told : Told) where
 
   pub no_panel : (it : Option Asked) → AnswersAlone it told → told.status ≡ 1 → NoneAlone it told
   no_panel None right s = absurd (cc (right.stopped.status, s))
-  no_panel (Some (asks.Prove it)) right s =
+  no_panel (Some (asks.Text (texts.Prove it))) right s =
       let is = (about_no_panel pool_or_bundle_format (ProvesWithin it.pivots it.nodes) told right s).1 in
       (pool_in is.value, held_either is.value is.bytes is.held is.spells, is.means.right.none)
-  no_panel (Some (asks.Why it)) right s = absurd ((about_no_panel pool_or_proof_format (explains it.pivots it.nodes) told right s).1.means.right)
-  no_panel (Some (asks.Verify it)) right s = absurd ((about_no_panel proof_format (one VerifyMeans) told right s).1.means.right)
-  no_panel (Some (asks.Bundle it)) right s =
+  no_panel (Some (asks.Text (texts.Why it))) right s = absurd ((about_no_panel pool_or_proof_format (explains it.pivots it.nodes) told right s).1.means.right)
+  no_panel (Some (asks.Text (texts.Verify it))) right s = absurd ((about_no_panel proof_format (one VerifyMeans) told right s).1.means.right)
+  no_panel (Some (asks.Text (texts.Bundle it))) right s =
       let at = about_no_panel proof_format (one BundleMeans) told right s in absurd (bundle_not_no_panel at.1.value at.0 at.1.means.right)
-  no_panel (Some (asks.Seal it)) right s = absurd ((about_no_panel bundle_format (one SealMeans) told right s).1.means.right)
-  no_panel (Some (asks.Draw seal digits)) right s = absurd ((about_no_panel bundle_format (one (DrawMeans seal digits)) told right s).1.means.right)
-  no_panel (Some (asks.ShortDraw tickets seal digits)) right s = absurd ((about_no_panel bundle_format (one (ShortDrawMeans tickets seal digits)) told right s).1.means.right)
-  no_panel (Some (asks.Page it)) right s =
+  no_panel (Some (asks.Text (texts.Seal it))) right s = absurd ((about_no_panel bundle_format (one SealMeans) told right s).1.means.right)
+  no_panel (Some (asks.Text (texts.Draw seal digits))) right s = absurd ((about_no_panel bundle_format (one (DrawMeans seal digits)) told right s).1.means.right)
+  no_panel (Some (asks.Text (texts.ShortDraw tickets seal digits))) right s = absurd ((about_no_panel bundle_format (one (ShortDrawMeans tickets seal digits)) told right s).1.means.right)
+  no_panel (Some (asks.Text (texts.Page it))) right s =
       let at = about_no_panel bundle_or_proof_format (one PageMeans) told right s in
       absurd (not_about PageOfBundle (Prints NoPanel at.0) (λ bundle never. never) (λ never. never) (page_about PageOfBundle (Prints NoPanel at.0) at.1.value at.1.bytes at.1.held at.1.spells at.1.means.right))
-  no_panel (Some (asks.DrawnPage tickets digits)) right s =
+  no_panel (Some (asks.Text (texts.DrawnPage tickets digits))) right s =
       let at = about_no_panel bundle_or_proof_format (one (DrawnPageMeans tickets digits)) told right s in
       absurd (not_about (DrawnPageOfBundle tickets digits) (Prints NoPanel at.0) (λ bundle never. never) (λ never. never) (page_about (DrawnPageOfBundle tickets digits) (Prints NoPanel at.0) at.1.value at.1.bytes at.1.held at.1.spells at.1.means.right))
-  no_panel (Some (asks.Panel it)) right s =
+  no_panel (Some (asks.Text (texts.Panel it))) right s =
       let is = (about_no_panel pool_format (one (PanelMeans it.nodes)) told right s).1 in
       (is.value, held_pool is.value is.bytes is.held is.spells, is.means.right.none)
-  no_panel (Some (asks.Loosen it)) right s =
+  no_panel (Some (asks.Text (texts.Loosen it))) right s =
       let at = about_no_panel pool_format (one (LoosenMeans it.nodes)) told right s in
       (at.1.value, held_pool at.1.value at.1.bytes at.1.held at.1.spells, at.0, at.1.is_told.out, at.1.means.right)
-  no_panel (Some (asks.LoosenByProof it)) right s =
+  no_panel (Some (asks.Text (texts.LoosenByProof it))) right s =
       let at = about_no_panel pool_format (LoosensWithin it.pivots it.nodes) told right s in
       (at.1.value, held_pool at.1.value at.1.bytes at.1.held at.1.spells, at.0, at.1.is_told.out, at.1.means.right)
   no_panel (Some (asks.Lottery it)) right s =
       let is = (about_no_panel pool_format (one (LotteryMeans it.limits)) told right s).1 in
       (is.value, held_pool is.value is.bytes is.held is.spells, is.means.right.finds.none)
-  no_panel (Some (asks.Question it)) right s = absurd ((about_no_panel bundle_format (one (QuestionMeans it)) told right s).1.means.right)
-  no_panel (Some (asks.Explain it)) right s = absurd ((about_no_panel any_format Explains told right s).1.means)
-  no_panel (Some (asks.Check it)) right s = absurd ((about_no_panel bundle_format (one (CheckMeans it.nodes)) told right s).1.means.right)
+  no_panel (Some (asks.Text (texts.Question it))) right s = absurd ((about_no_panel bundle_format (one (QuestionMeans it)) told right s).1.means.right)
+  no_panel (Some (asks.Text (texts.Explain it))) right s = absurd ((about_no_panel any_format Explains told right s).1.means)
+  no_panel (Some (asks.Text (texts.Check it))) right s = absurd ((about_no_panel bundle_format (one (CheckMeans it.nodes)) told right s).1.means.right)
   no_panel (Some (asks.Make it)) right s =
       let at = said_at told 1 (λ e. absurd (cc)) (λ e. absurd (cc)) s right.ends in
       let is = is_no_panel at.0 at.1 in
@@ -335,7 +336,7 @@ module _ (told : Told) where
   how_it_ends (Some (asks.Step store step)) right = absurd right
   how_it_ends (Some (asks.Import store import)) right = absurd right
   how_it_ends (Some (asks.ProveRound store proving)) right = absurd right
-  how_it_ends (Some (asks.Text store text)) right = absurd right
+  how_it_ends (Some (asks.StoreText store text)) right = absurd right
   how_it_ends (Some (asks.Serve store serve)) right = absurd right
   how_it_ends other right = ByText _ right
 
@@ -354,7 +355,7 @@ module _ (told : Told) where
   no_text format Means never (Long held) = inr held
   no_text format Means never (OfValue line is) = absurd (never is.value line is.means)
 
-  no_draw : (seal digits : List ℕ) → IsInput bundle_format (one (DrawMeans seal digits)) told → WrongAlone (Some (asks.Draw seal digits)) told
+  no_draw : (seal digits : List ℕ) → IsInput bundle_format (one (DrawMeans seal digits)) told → WrongAlone (Some (asks.Text (texts.Draw seal digits))) told
   no_draw seal digits (NoText bytes fault held fails) = inl (inl (bytes, fault, held, fails))
   no_draw seal digits (Long held) = inl (inr held)
   no_draw seal digits (OfValue line is) = inr (is.value, held_bundle is.value is.bytes is.held is.spells, is.means.right.total)
@@ -372,7 +373,7 @@ module _ (told : Told) where
       wrong_total (DrawnPageOfBundle tickets digits) line (λ bundle right. right.total)
       (page_about (DrawnPageOfBundle tickets digits) (Stops Input line) is.value is.bytes is.held is.spells is.means.right)
 
-  no_short_draw : (tickets : ℕ) (seal digits : List ℕ) → IsInput bundle_format (one (ShortDrawMeans tickets seal digits)) told → WrongAlone (Some (asks.ShortDraw tickets seal digits)) told
+  no_short_draw : (tickets : ℕ) (seal digits : List ℕ) → IsInput bundle_format (one (ShortDrawMeans tickets seal digits)) told → WrongAlone (Some (asks.Text (texts.ShortDraw tickets seal digits))) told
   no_short_draw tickets seal digits (NoText bytes fault held fails) = inl (inl (bytes, fault, held, fails))
   no_short_draw tickets seal digits (Long held) = inl (inr held)
   no_short_draw tickets seal digits (OfValue line is) = inr (is.value, held_bundle is.value is.bytes is.held is.spells, is.means.right.total)
@@ -381,34 +382,34 @@ module _ (told : Told) where
   no_fault_left bytes any.Right line spells means = absurd means
   no_fault_left bytes (any.Faulty fault) line spells means = spells
 
-  no_right_text : IsInput any_format Explains told → WrongAlone (Some (asks.Explain (record {}))) told
+  no_right_text : IsInput any_format Explains told → WrongAlone (Some (asks.Text (texts.Explain (record {})))) told
   no_right_text (NoText bytes fault held fails) = absurd (cc (fails))
   no_right_text (Long held) = inr held
   no_right_text (OfValue line is) = inl (is.bytes, is.held, no_fault_left is.bytes is.value line is.spells is.means)
 
-  no_answer : (question : Question) → IsInput bundle_format (one (QuestionMeans question)) told → WrongAlone (Some (asks.Question question)) told
+  no_answer : (question : Question) → IsInput bundle_format (one (QuestionMeans question)) told → WrongAlone (Some (asks.Text (texts.Question question))) told
   no_answer question (NoText bytes fault held fails) = inl (inl (bytes, fault, held, fails))
   no_answer question (Long held) = inl (inr held)
   no_answer question (OfValue line is) = inr (is.value, held_bundle is.value is.bytes is.held is.spells, is.means.right.total)
 
   pub text : (it : Option Asked) → AnswersAlone it told → told.status ≡ 3 → WrongAlone it told
   text None right s = absurd (cc (right.stopped.status, s))
-  text (Some (asks.Prove it)) right s = no_text pool_or_bundle_format (ProvesWithin it.pivots it.nodes) (λ value line means. means.right) (about_input pool_or_bundle_format (ProvesWithin it.pivots it.nodes) told right s)
-  text (Some (asks.Why it)) right s = no_text pool_or_proof_format (explains it.pivots it.nodes) (λ value line means. means.right) (about_input pool_or_proof_format (explains it.pivots it.nodes) told right s)
-  text (Some (asks.Verify it)) right s = no_text proof_format (one VerifyMeans) (λ value line means. means.right) (about_input proof_format (one VerifyMeans) told right s)
-  text (Some (asks.Bundle it)) right s = no_text proof_format (one BundleMeans) (λ value line means. bundle_not_input value line means.right) (about_input proof_format (one BundleMeans) told right s)
-  text (Some (asks.Seal it)) right s = no_text bundle_format (one SealMeans) (λ value line means. means.right) (about_input bundle_format (one SealMeans) told right s)
-  text (Some (asks.Draw seal digits)) right s = no_draw seal digits (about_input bundle_format (one (DrawMeans seal digits)) told right s)
-  text (Some (asks.ShortDraw tickets seal digits)) right s = no_short_draw tickets seal digits (about_input bundle_format (one (ShortDrawMeans tickets seal digits)) told right s)
-  text (Some (asks.Question it)) right s = no_answer it (about_input bundle_format (one (QuestionMeans it)) told right s)
-  text (Some (asks.Explain it)) right s = no_right_text (about_input any_format Explains told right s)
-  text (Some (asks.Page it)) right s = no_page (about_input bundle_or_proof_format (one PageMeans) told right s)
-  text (Some (asks.DrawnPage tickets digits)) right s = no_drawn_page tickets digits (about_input bundle_or_proof_format (one (DrawnPageMeans tickets digits)) told right s)
-  text (Some (asks.Panel it)) right s = no_text pool_format (one (PanelMeans it.nodes)) (λ value line means. means.right) (about_input pool_format (one (PanelMeans it.nodes)) told right s)
-  text (Some (asks.LoosenByProof it)) right s = no_text pool_format (LoosensWithin it.pivots it.nodes) (λ value line means. means.right) (about_input pool_format (LoosensWithin it.pivots it.nodes) told right s)
-  text (Some (asks.Loosen it)) right s = no_text pool_format (one (LoosenMeans it.nodes)) (λ value line means. means.right) (about_input pool_format (one (LoosenMeans it.nodes)) told right s)
+  text (Some (asks.Text (texts.Prove it))) right s = no_text pool_or_bundle_format (ProvesWithin it.pivots it.nodes) (λ value line means. means.right) (about_input pool_or_bundle_format (ProvesWithin it.pivots it.nodes) told right s)
+  text (Some (asks.Text (texts.Why it))) right s = no_text pool_or_proof_format (explains it.pivots it.nodes) (λ value line means. means.right) (about_input pool_or_proof_format (explains it.pivots it.nodes) told right s)
+  text (Some (asks.Text (texts.Verify it))) right s = no_text proof_format (one VerifyMeans) (λ value line means. means.right) (about_input proof_format (one VerifyMeans) told right s)
+  text (Some (asks.Text (texts.Bundle it))) right s = no_text proof_format (one BundleMeans) (λ value line means. bundle_not_input value line means.right) (about_input proof_format (one BundleMeans) told right s)
+  text (Some (asks.Text (texts.Seal it))) right s = no_text bundle_format (one SealMeans) (λ value line means. means.right) (about_input bundle_format (one SealMeans) told right s)
+  text (Some (asks.Text (texts.Draw seal digits))) right s = no_draw seal digits (about_input bundle_format (one (DrawMeans seal digits)) told right s)
+  text (Some (asks.Text (texts.ShortDraw tickets seal digits))) right s = no_short_draw tickets seal digits (about_input bundle_format (one (ShortDrawMeans tickets seal digits)) told right s)
+  text (Some (asks.Text (texts.Question it))) right s = no_answer it (about_input bundle_format (one (QuestionMeans it)) told right s)
+  text (Some (asks.Text (texts.Explain it))) right s = no_right_text (about_input any_format Explains told right s)
+  text (Some (asks.Text (texts.Page it))) right s = no_page (about_input bundle_or_proof_format (one PageMeans) told right s)
+  text (Some (asks.Text (texts.DrawnPage tickets digits))) right s = no_drawn_page tickets digits (about_input bundle_or_proof_format (one (DrawnPageMeans tickets digits)) told right s)
+  text (Some (asks.Text (texts.Panel it))) right s = no_text pool_format (one (PanelMeans it.nodes)) (λ value line means. means.right) (about_input pool_format (one (PanelMeans it.nodes)) told right s)
+  text (Some (asks.Text (texts.LoosenByProof it))) right s = no_text pool_format (LoosensWithin it.pivots it.nodes) (λ value line means. means.right) (about_input pool_format (LoosensWithin it.pivots it.nodes) told right s)
+  text (Some (asks.Text (texts.Loosen it))) right s = no_text pool_format (one (LoosenMeans it.nodes)) (λ value line means. means.right) (about_input pool_format (one (LoosenMeans it.nodes)) told right s)
   text (Some (asks.Lottery it)) right s = no_text pool_format (one (LotteryMeans it.limits)) (λ value line means. means.right) (about_input pool_format (one (LotteryMeans it.limits)) told right s)
-  text (Some (asks.Check it)) right s = no_text bundle_format (one (CheckMeans it.nodes)) (λ value line means. means.right) (about_input bundle_format (one (CheckMeans it.nodes)) told right s)
+  text (Some (asks.Text (texts.Check it))) right s = no_text bundle_format (one (CheckMeans it.nodes)) (λ value line means. means.right) (about_input bundle_format (one (CheckMeans it.nodes)) told right s)
   text (Some (asks.Make it)) right s =
       let at = said_at told 3 (λ e. absurd (cc)) (λ e. absurd (cc)) s right.ends in
       let is = is_input at.0 at.1 in
@@ -417,31 +418,31 @@ module _ (told : Told) where
 
   pub number : (it : Option Asked) → AnswersAlone it told → told.status ≡ 4 → PassedAlone it told
   number None right s = absurd (cc (right.stopped.status, s))
-  number (Some (asks.Prove it)) right s =
+  number (Some (asks.Text (texts.Prove it))) right s =
       let at = about_wide pool_or_bundle_format (ProvesWithin it.pivots it.nodes) told right s in (at.0, at.1.is_told.errs, at.1.means.right)
-  number (Some (asks.Why it)) right s =
+  number (Some (asks.Text (texts.Why it))) right s =
       let at = about_wide pool_or_proof_format (explains it.pivots it.nodes) told right s in (at.0, at.1.is_told.errs, at.1.means.right)
-  number (Some (asks.Verify it)) right s = absurd ((about_wide proof_format (one VerifyMeans) told right s).1.means.right)
-  number (Some (asks.Bundle it)) right s = let at = about_wide proof_format (one BundleMeans) told right s in absurd (bundle_not_wide at.1.value at.0 at.1.means.right)
-  number (Some (asks.Seal it)) right s = absurd ((about_wide bundle_format (one SealMeans) told right s).1.means.right)
-  number (Some (asks.Draw seal digits)) right s = absurd ((about_wide bundle_format (one (DrawMeans seal digits)) told right s).1.means.right)
-  number (Some (asks.ShortDraw tickets seal digits)) right s = absurd ((about_wide bundle_format (one (ShortDrawMeans tickets seal digits)) told right s).1.means.right)
-  number (Some (asks.Question it)) right s = absurd ((about_wide bundle_format (one (QuestionMeans it)) told right s).1.means.right)
-  number (Some (asks.Explain it)) right s = absurd ((about_wide any_format Explains told right s).1.means)
-  number (Some (asks.Page it)) right s =
+  number (Some (asks.Text (texts.Verify it))) right s = absurd ((about_wide proof_format (one VerifyMeans) told right s).1.means.right)
+  number (Some (asks.Text (texts.Bundle it))) right s = let at = about_wide proof_format (one BundleMeans) told right s in absurd (bundle_not_wide at.1.value at.0 at.1.means.right)
+  number (Some (asks.Text (texts.Seal it))) right s = absurd ((about_wide bundle_format (one SealMeans) told right s).1.means.right)
+  number (Some (asks.Text (texts.Draw seal digits))) right s = absurd ((about_wide bundle_format (one (DrawMeans seal digits)) told right s).1.means.right)
+  number (Some (asks.Text (texts.ShortDraw tickets seal digits))) right s = absurd ((about_wide bundle_format (one (ShortDrawMeans tickets seal digits)) told right s).1.means.right)
+  number (Some (asks.Text (texts.Question it))) right s = absurd ((about_wide bundle_format (one (QuestionMeans it)) told right s).1.means.right)
+  number (Some (asks.Text (texts.Explain it))) right s = absurd ((about_wide any_format Explains told right s).1.means)
+  number (Some (asks.Text (texts.Page it))) right s =
       let at = about_wide bundle_or_proof_format (one PageMeans) told right s in
       absurd (not_about PageOfBundle (Stops Wide at.0) (λ bundle never. never) (λ never. never) (page_about PageOfBundle (Stops Wide at.0) at.1.value at.1.bytes at.1.held at.1.spells at.1.means.right))
-  number (Some (asks.DrawnPage tickets digits)) right s =
+  number (Some (asks.Text (texts.DrawnPage tickets digits))) right s =
       let at = about_wide bundle_or_proof_format (one (DrawnPageMeans tickets digits)) told right s in
       absurd (not_about (DrawnPageOfBundle tickets digits) (Stops Wide at.0) (λ bundle never. never) (λ never. never) (page_about (DrawnPageOfBundle tickets digits) (Stops Wide at.0) at.1.value at.1.bytes at.1.held at.1.spells at.1.means.right))
-  number (Some (asks.Panel it)) right s = absurd ((about_wide pool_format (one (PanelMeans it.nodes)) told right s).1.means.right)
-  number (Some (asks.LoosenByProof it)) right s =
+  number (Some (asks.Text (texts.Panel it))) right s = absurd ((about_wide pool_format (one (PanelMeans it.nodes)) told right s).1.means.right)
+  number (Some (asks.Text (texts.LoosenByProof it))) right s =
       let at = about_wide pool_format (LoosensWithin it.pivots it.nodes) told right s in (at.0, at.1.is_told.errs, at.1.means.right)
-  number (Some (asks.Loosen it)) right s = absurd ((about_wide pool_format (one (LoosenMeans it.nodes)) told right s).1.means.right)
+  number (Some (asks.Text (texts.Loosen it))) right s = absurd ((about_wide pool_format (one (LoosenMeans it.nodes)) told right s).1.means.right)
   number (Some (asks.Lottery it)) right s =
       let at = about_wide pool_format (one (LotteryMeans it.limits)) told right s in
       (at.1.value, held_pool at.1.value at.1.bytes at.1.held at.1.spells, at.0, at.1.is_told.errs, at.1.means.right)
-  number (Some (asks.Check it)) right s = absurd ((about_wide bundle_format (one (CheckMeans it.nodes)) told right s).1.means.right)
+  number (Some (asks.Text (texts.Check it))) right s = absurd ((about_wide bundle_format (one (CheckMeans it.nodes)) told right s).1.means.right)
   number (Some (asks.Make it)) right s =
       let at = said_at told 4 (λ e. absurd (cc)) (λ e. absurd (cc)) s right.ends in
       let is = is_wide at.0 at.1 in
@@ -450,35 +451,35 @@ module _ (told : Told) where
 
   pub budget : (it : Option Asked) → AnswersAlone it told → told.status ≡ 5 → SpentAlone it told
   budget None right s = absurd (cc (right.stopped.status, s))
-  budget (Some (asks.Prove it)) right s =
+  budget (Some (asks.Text (texts.Prove it))) right s =
       let at = about_spent pool_or_bundle_format (ProvesWithin it.pivots it.nodes) told right s in (at.1.means.left, at.1.means.spends, at.0, at.1.is_told.errs, at.1.means.right)
-  budget (Some (asks.Why it)) right s =
+  budget (Some (asks.Text (texts.Why it))) right s =
       let at = about_spent pool_or_proof_format (explains it.pivots it.nodes) told right s in (at.1.means.left, at.1.means.spends, at.0, at.1.is_told.errs, at.1.means.right)
-  budget (Some (asks.Verify it)) right s = absurd ((about_spent proof_format (one VerifyMeans) told right s).1.means.right)
-  budget (Some (asks.Bundle it)) right s = let at = about_spent proof_format (one BundleMeans) told right s in absurd (bundle_not_spent at.1.value at.0 at.1.means.right)
-  budget (Some (asks.Seal it)) right s = absurd ((about_spent bundle_format (one SealMeans) told right s).1.means.right)
-  budget (Some (asks.Draw seal digits)) right s = absurd ((about_spent bundle_format (one (DrawMeans seal digits)) told right s).1.means.right)
-  budget (Some (asks.ShortDraw tickets seal digits)) right s = absurd ((about_spent bundle_format (one (ShortDrawMeans tickets seal digits)) told right s).1.means.right)
-  budget (Some (asks.Question it)) right s = absurd ((about_spent bundle_format (one (QuestionMeans it)) told right s).1.means.right)
-  budget (Some (asks.Explain it)) right s = absurd ((about_spent any_format Explains told right s).1.means)
-  budget (Some (asks.Page it)) right s =
+  budget (Some (asks.Text (texts.Verify it))) right s = absurd ((about_spent proof_format (one VerifyMeans) told right s).1.means.right)
+  budget (Some (asks.Text (texts.Bundle it))) right s = let at = about_spent proof_format (one BundleMeans) told right s in absurd (bundle_not_spent at.1.value at.0 at.1.means.right)
+  budget (Some (asks.Text (texts.Seal it))) right s = absurd ((about_spent bundle_format (one SealMeans) told right s).1.means.right)
+  budget (Some (asks.Text (texts.Draw seal digits))) right s = absurd ((about_spent bundle_format (one (DrawMeans seal digits)) told right s).1.means.right)
+  budget (Some (asks.Text (texts.ShortDraw tickets seal digits))) right s = absurd ((about_spent bundle_format (one (ShortDrawMeans tickets seal digits)) told right s).1.means.right)
+  budget (Some (asks.Text (texts.Question it))) right s = absurd ((about_spent bundle_format (one (QuestionMeans it)) told right s).1.means.right)
+  budget (Some (asks.Text (texts.Explain it))) right s = absurd ((about_spent any_format Explains told right s).1.means)
+  budget (Some (asks.Text (texts.Page it))) right s =
       let at = about_spent bundle_or_proof_format (one PageMeans) told right s in
       absurd (not_about PageOfBundle (Stops Spent at.0) (λ bundle never. never) (λ never. never) (page_about PageOfBundle (Stops Spent at.0) at.1.value at.1.bytes at.1.held at.1.spells at.1.means.right))
-  budget (Some (asks.DrawnPage tickets digits)) right s =
+  budget (Some (asks.Text (texts.DrawnPage tickets digits))) right s =
       let at = about_spent bundle_or_proof_format (one (DrawnPageMeans tickets digits)) told right s in
       absurd (not_about (DrawnPageOfBundle tickets digits) (Stops Spent at.0) (λ bundle never. never) (λ never. never) (page_about (DrawnPageOfBundle tickets digits) (Stops Spent at.0) at.1.value at.1.bytes at.1.held at.1.spells at.1.means.right))
-  budget (Some (asks.Panel it)) right s =
+  budget (Some (asks.Text (texts.Panel it))) right s =
       let at = about_spent pool_format (one (PanelMeans it.nodes)) told right s in
       (at.1.value, held_pool at.1.value at.1.bytes at.1.held at.1.spells, at.0, at.1.is_told.errs, at.1.means.right)
-  budget (Some (asks.LoosenByProof it)) right s =
+  budget (Some (asks.Text (texts.LoosenByProof it))) right s =
       let at = about_spent pool_format (LoosensWithin it.pivots it.nodes) told right s in (at.1.means.left, at.1.means.spends, at.0, at.1.is_told.errs, at.1.means.right)
-  budget (Some (asks.Loosen it)) right s =
+  budget (Some (asks.Text (texts.Loosen it))) right s =
       let at = about_spent pool_format (one (LoosenMeans it.nodes)) told right s in
       (at.1.value, held_pool at.1.value at.1.bytes at.1.held at.1.spells, at.0, at.1.is_told.errs, at.1.means.right)
   budget (Some (asks.Lottery it)) right s =
       let at = about_spent pool_format (one (LotteryMeans it.limits)) told right s in
       (at.1.value, held_pool at.1.value at.1.bytes at.1.held at.1.spells, at.0, at.1.is_told.errs, at.1.means.right)
-  budget (Some (asks.Check it)) right s =
+  budget (Some (asks.Text (texts.Check it))) right s =
       let at = about_spent bundle_format (one (CheckMeans it.nodes)) told right s in
       (at.1.value, held_bundle at.1.value at.1.bytes at.1.held at.1.spells, at.0, at.1.is_told.errs, at.1.means.right)
   budget (Some (asks.Make it)) right s =
@@ -489,37 +490,37 @@ module _ (told : Told) where
 
   -- if `bundle` refuses the proof that the source held, it is a proof that there is no quota panel
   no_lottery : (proof : Proof) (bytes line : List ℕ) → HeldAll told.source bytes → IsProofText proof bytes → GainsLine told.errs line → IsRight (BundleMeans proof) (Stops Rule line) →
-      BrokenAlone (Some (asks.Bundle (record {}))) told
+      BrokenAlone (Some (asks.Text (texts.Bundle (record {})))) told
   no_lottery (OfLottery pool its trees) bytes line held is gained right = absurd right
   no_lottery (OfNoPanel pool lines) bytes line held is gained right = (pool, lines, held_proof (OfNoPanel pool lines) bytes held is, subst (GainsLine told.errs) right gained)
 
   pub rule : (it : Option Asked) → AnswersAlone it told → told.status ≡ 6 → BrokenAlone it told
   rule None right s = absurd (cc (right.stopped.status, s))
-  rule (Some (asks.Prove it)) right s = absurd ((about_rule pool_or_bundle_format (ProvesWithin it.pivots it.nodes) told right s).1.means.right)
-  rule (Some (asks.Why it)) right s = absurd ((about_rule pool_or_proof_format (explains it.pivots it.nodes) told right s).1.means.right)
-  rule (Some (asks.Verify it)) right s = absurd ((about_rule proof_format (one VerifyMeans) told right s).1.means.right)
-  rule (Some (asks.Bundle it)) right s =
+  rule (Some (asks.Text (texts.Prove it))) right s = absurd ((about_rule pool_or_bundle_format (ProvesWithin it.pivots it.nodes) told right s).1.means.right)
+  rule (Some (asks.Text (texts.Why it))) right s = absurd ((about_rule pool_or_proof_format (explains it.pivots it.nodes) told right s).1.means.right)
+  rule (Some (asks.Text (texts.Verify it))) right s = absurd ((about_rule proof_format (one VerifyMeans) told right s).1.means.right)
+  rule (Some (asks.Text (texts.Bundle it))) right s =
       let at = about_rule proof_format (one BundleMeans) told right s in no_lottery at.1.value at.1.bytes at.0 at.1.held at.1.spells at.1.is_told.errs at.1.means.right
-  rule (Some (asks.Seal it)) right s = absurd ((about_rule bundle_format (one SealMeans) told right s).1.means.right)
-  rule (Some (asks.Draw seal digits)) right s =
+  rule (Some (asks.Text (texts.Seal it))) right s = absurd ((about_rule bundle_format (one SealMeans) told right s).1.means.right)
+  rule (Some (asks.Text (texts.Draw seal digits))) right s =
       let at = about_rule bundle_format (one (DrawMeans seal digits)) told right s in
       (at.1.value, held_bundle at.1.value at.1.bytes at.1.held at.1.spells, at.0, at.1.is_told.errs, at.1.means.right)
-  rule (Some (asks.ShortDraw tickets seal digits)) right s =
+  rule (Some (asks.Text (texts.ShortDraw tickets seal digits))) right s =
       let at = about_rule bundle_format (one (ShortDrawMeans tickets seal digits)) told right s in
       (at.1.value, held_bundle at.1.value at.1.bytes at.1.held at.1.spells, at.0, at.1.is_told.errs, at.1.means.right)
-  rule (Some (asks.Question it)) right s = absurd ((about_rule bundle_format (one (QuestionMeans it)) told right s).1.means.right)
-  rule (Some (asks.Explain it)) right s = absurd ((about_rule any_format Explains told right s).1.means)
-  rule (Some (asks.Page it)) right s =
+  rule (Some (asks.Text (texts.Question it))) right s = absurd ((about_rule bundle_format (one (QuestionMeans it)) told right s).1.means.right)
+  rule (Some (asks.Text (texts.Explain it))) right s = absurd ((about_rule any_format Explains told right s).1.means)
+  rule (Some (asks.Text (texts.Page it))) right s =
       let at = about_rule bundle_or_proof_format (one PageMeans) told right s in
       page_broken at.0 at.1.is_told.errs (page_about PageOfBundle (Stops Rule at.0) at.1.value at.1.bytes at.1.held at.1.spells at.1.means.right)
-  rule (Some (asks.DrawnPage tickets digits)) right s =
+  rule (Some (asks.Text (texts.DrawnPage tickets digits))) right s =
       let at = about_rule bundle_or_proof_format (one (DrawnPageMeans tickets digits)) told right s in
       drawn_page_broken tickets digits at.0 at.1.is_told.errs (page_about (DrawnPageOfBundle tickets digits) (Stops Rule at.0) at.1.value at.1.bytes at.1.held at.1.spells at.1.means.right)
-  rule (Some (asks.Panel it)) right s = absurd ((about_rule pool_format (one (PanelMeans it.nodes)) told right s).1.means.right)
-  rule (Some (asks.LoosenByProof it)) right s = absurd ((about_rule pool_format (LoosensWithin it.pivots it.nodes) told right s).1.means.right)
-  rule (Some (asks.Loosen it)) right s = absurd ((about_rule pool_format (one (LoosenMeans it.nodes)) told right s).1.means.right)
+  rule (Some (asks.Text (texts.Panel it))) right s = absurd ((about_rule pool_format (one (PanelMeans it.nodes)) told right s).1.means.right)
+  rule (Some (asks.Text (texts.LoosenByProof it))) right s = absurd ((about_rule pool_format (LoosensWithin it.pivots it.nodes) told right s).1.means.right)
+  rule (Some (asks.Text (texts.Loosen it))) right s = absurd ((about_rule pool_format (one (LoosenMeans it.nodes)) told right s).1.means.right)
   rule (Some (asks.Lottery it)) right s = absurd ((about_rule pool_format (one (LotteryMeans it.limits)) told right s).1.means.right)
-  rule (Some (asks.Check it)) right s = absurd ((about_rule bundle_format (one (CheckMeans it.nodes)) told right s).1.means.right)
+  rule (Some (asks.Text (texts.Check it))) right s = absurd ((about_rule bundle_format (one (CheckMeans it.nodes)) told right s).1.means.right)
   rule (Some (asks.Make it)) right s =
       let at = said_at told 6 (λ e. absurd (cc)) (λ e. absurd (cc)) s right.ends in
       let is = is_rule at.0 at.1 in
@@ -544,7 +545,7 @@ module _ (told : Told) where
 
   -- if `prove` prints a refusal, the source held a bundle, and with some trees this bundle is a refused proof
   given_fails : (about : PoolOrBundle) (bytes : List ℕ) → HeldAll told.source bytes → IsTextOfEither about bytes → (pivots nodes : ℕ) (text : List ℕ) → Gains told.out text →
-      ProvesWithin pivots nodes about (Prints Rejected text) → CheckFailed (Some (asks.Prove (record { pivots = pivots; nodes = nodes }))) told
+      ProvesWithin pivots nodes about (Prints Rejected text) → CheckFailed (Some (asks.Text (texts.Prove (record { pivots = pivots; nodes = nodes })))) told
   given_fails (either.Pool pool) bytes held is pivots nodes text out means = absurd (cc (means.right.is_given))
   given_fails (either.Bundle bundle) bytes held is pivots nodes text out means =
       let same : means.right.its ≡ bundle.answer = cc (means.right.is_given) in (
@@ -559,30 +560,30 @@ module _ (told : Told) where
 
   pub check : (it : Option Asked) → AnswersAlone it told → told.status ≡ 11 → CheckFailed it told
   check None right s = absurd (cc (right.stopped.status, s))
-  check (Some (asks.Prove it)) right s =
+  check (Some (asks.Text (texts.Prove it))) right s =
       let at = about_refused pool_or_bundle_format (ProvesWithin it.pivots it.nodes) told right s in
       given_fails at.1.value at.1.bytes at.1.held at.1.spells it.pivots it.nodes at.0 at.1.is_told.out at.1.means
-  check (Some (asks.Why it)) right s = absurd ((about_refused pool_or_proof_format (explains it.pivots it.nodes) told right s).1.means.right)
-  check (Some (asks.Verify it)) right s =
+  check (Some (asks.Text (texts.Why it))) right s = absurd ((about_refused pool_or_proof_format (explains it.pivots it.nodes) told right s).1.means.right)
+  check (Some (asks.Text (texts.Verify it))) right s =
       let is = (about_refused proof_format (one VerifyMeans) told right s).1 in
       (is.value, held_proof is.value is.bytes is.held is.spells, λ valid. not_valid is.means.right.refusal (sym is.means.right.refuses ∙ valid))
-  check (Some (asks.Bundle it)) right s = let at = about_refused proof_format (one BundleMeans) told right s in absurd (bundle_not_refused at.1.value at.0 at.1.means.right)
-  check (Some (asks.Seal it)) right s = absurd ((about_refused bundle_format (one SealMeans) told right s).1.means.right)
-  check (Some (asks.Draw seal digits)) right s = absurd ((about_refused bundle_format (one (DrawMeans seal digits)) told right s).1.means.right)
-  check (Some (asks.ShortDraw tickets seal digits)) right s = absurd ((about_refused bundle_format (one (ShortDrawMeans tickets seal digits)) told right s).1.means.right)
-  check (Some (asks.Question it)) right s = absurd ((about_refused bundle_format (one (QuestionMeans it)) told right s).1.means.right)
-  check (Some (asks.Explain it)) right s = absurd ((about_refused any_format Explains told right s).1.means)
-  check (Some (asks.Page it)) right s =
+  check (Some (asks.Text (texts.Bundle it))) right s = let at = about_refused proof_format (one BundleMeans) told right s in absurd (bundle_not_refused at.1.value at.0 at.1.means.right)
+  check (Some (asks.Text (texts.Seal it))) right s = absurd ((about_refused bundle_format (one SealMeans) told right s).1.means.right)
+  check (Some (asks.Text (texts.Draw seal digits))) right s = absurd ((about_refused bundle_format (one (DrawMeans seal digits)) told right s).1.means.right)
+  check (Some (asks.Text (texts.ShortDraw tickets seal digits))) right s = absurd ((about_refused bundle_format (one (ShortDrawMeans tickets seal digits)) told right s).1.means.right)
+  check (Some (asks.Text (texts.Question it))) right s = absurd ((about_refused bundle_format (one (QuestionMeans it)) told right s).1.means.right)
+  check (Some (asks.Text (texts.Explain it))) right s = absurd ((about_refused any_format Explains told right s).1.means)
+  check (Some (asks.Text (texts.Page it))) right s =
       let at = about_refused bundle_or_proof_format (one PageMeans) told right s in
       absurd (not_about PageOfBundle (Prints Rejected at.0) (λ bundle never. never) (λ never. never) (page_about PageOfBundle (Prints Rejected at.0) at.1.value at.1.bytes at.1.held at.1.spells at.1.means.right))
-  check (Some (asks.DrawnPage tickets digits)) right s =
+  check (Some (asks.Text (texts.DrawnPage tickets digits))) right s =
       let at = about_refused bundle_or_proof_format (one (DrawnPageMeans tickets digits)) told right s in
       absurd (not_about (DrawnPageOfBundle tickets digits) (Prints Rejected at.0) (λ bundle never. never) (λ never. never) (page_about (DrawnPageOfBundle tickets digits) (Prints Rejected at.0) at.1.value at.1.bytes at.1.held at.1.spells at.1.means.right))
-  check (Some (asks.Panel it)) right s = absurd ((about_refused pool_format (one (PanelMeans it.nodes)) told right s).1.means.right)
-  check (Some (asks.LoosenByProof it)) right s = absurd ((about_refused pool_format (LoosensWithin it.pivots it.nodes) told right s).1.means.right)
-  check (Some (asks.Loosen it)) right s = absurd ((about_refused pool_format (one (LoosenMeans it.nodes)) told right s).1.means.right)
+  check (Some (asks.Text (texts.Panel it))) right s = absurd ((about_refused pool_format (one (PanelMeans it.nodes)) told right s).1.means.right)
+  check (Some (asks.Text (texts.LoosenByProof it))) right s = absurd ((about_refused pool_format (LoosensWithin it.pivots it.nodes) told right s).1.means.right)
+  check (Some (asks.Text (texts.Loosen it))) right s = absurd ((about_refused pool_format (one (LoosenMeans it.nodes)) told right s).1.means.right)
   check (Some (asks.Lottery it)) right s = absurd ((about_refused pool_format (one (LotteryMeans it.limits)) told right s).1.means.right)
-  check (Some (asks.Check it)) right s =
+  check (Some (asks.Text (texts.Check it))) right s =
       let is = (about_refused bundle_format (one (CheckMeans it.nodes)) told right s).1 in
       (is.value, held_bundle is.value is.bytes is.held is.spells, is.means.right.fails)
   check (Some (asks.Make it)) right s =

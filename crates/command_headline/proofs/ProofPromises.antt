@@ -29,7 +29,7 @@ use Rattle.command_stores.specs.StoreTold.{StoreTold}
 use Rattle.command_stores.specs.declared.imports.Import.{Import}
 use Rattle.command_stores.specs.declared.imports.Import.TheVariants as imports
 use Rattle.command_stores.specs.declared.proving.ProveRound.{ProveRound}
-use Rattle.command_office.specs.declared.asked.Asked.TheVariants as asks
+use Rattle.command_asked.specs.declared.asked.Asked.TheVariants as asks
 use Rattle.command_headline.specs.Headline.{BudgetSpent, CheckFailed, IsRoundPool, Keeps, NumberPassed, RuleBroken, SolvesRound, TellsImport, TellsProved}
 use Rattle.command_headline.proofs.KeptRounds.{KeepComes, answered_not_refused, keep_comes, keep_done, keep_none, keep_none_stays, keep_unproved, valid_comes}
 use Rattle.command_headline.proofs.Plain.{is_plain, solve_plain}

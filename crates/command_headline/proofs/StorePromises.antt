@@ -31,12 +31,13 @@ use Rattle.command_stores.specs.Steps.{StepMeans, TellsEnding, TellsOutcome, Tel
 use Rattle.command_stores.specs.declared.texts.StoreText.{StoreText}
 use Rattle.command_stores.specs.StoreOutcomes.{Answered as Tells, IsAnswered, KeeperFault, NoMemory, NotAttached, Read, ReadFault, SilentStoreOutcome, StoreMeaning, StoreOutcome, TextStoreOutcome, TooLong, WantOfMemory, WriteFault}
 use Rattle.command_stores.specs.StoreTold.{KeepsTables, StoreTold}
-use Rattle.command_office.specs.declared.asked.Asked.{Asked}
-use Rattle.command_office.specs.declared.asked.Asked.TheVariants as asks
-use Rattle.command_office.specs.declared.steps.Step.{Step}
-use Rattle.command_office.specs.declared.steps.Step.TheVariants as steps
+use Rattle.command_asked.specs.declared.asked.Asked.{Asked}
+use Rattle.command_asked.specs.declared.asked.Asked.TheVariants as asks
+use Rattle.command_texts.specs.declared.commands.TextCommand.TheVariants as texts
+use Rattle.command_asked.specs.declared.steps.Step.{Step}
+use Rattle.command_asked.specs.declared.steps.Step.TheVariants as steps
 use Rattle.command_headline.specs.Headline.{BudgetSpent, ByOffice, CheckFailed, HeldFault, IsRoundPool, Keeps, NoRules as LacksRules, NumberPassed, RefusesImport, RuleBroken, TellsDone, TellsFile, TellsImport, TellsNone, TellsRefusal, TellsReply, TellsText, TextIsWrong, is_status}
-use Rattle.command_office.specs.Steps.{step_command}
+use Rattle.command_asked.specs.Steps.{step_command}
 use Rattle.command_headline.proofs.Plain.{file_plain, is_plain, is_plain_command, is_plain_import, plain_comes}
 use Rattle.command_headline.proofs.SolvedRounds.{none_stays, solve_checks_none, solve_done, solve_none, solve_stops}
 use Rattle.command_headline.proofs.Reading.{is_done, is_input, is_no_panel, is_refused, is_rule, is_spent, is_wide, its_status, said_is_status}
@@ -133,8 +134,8 @@ module _ (path : List ℕ) (Means : StoreMeaning) (told : StoreTold) where
     pub rule : (line : List ℕ) → Says path Means told (StopsBy Rule line) → RuleBroken (Some it) told
     pub refused : (text : List ℕ) → Says path Means told (Prints Rejected text) → CheckFailed (Some it) told.call
     pub quiet : (tables : Tables) (answer : Saying) (change : Option Change) → Means tables answer change → status_of answer ≢ 0 → change ≡ None
-    pub no_check : (check : Check) → Some it ≡ Some (asks.Check check) → ⊥
-    pub no_verify : (verify : Verify) → Some it ≡ Some (asks.Verify verify) → ⊥
+    pub no_check : (check : Check) → Some it ≡ Some (asks.Text (texts.Check check)) → ⊥
+    pub no_verify : (verify : Verify) → Some it ≡ Some (asks.Text (texts.Verify verify)) → ⊥
 
   -- a call over the store keeps the promises, if its answers give what `Gives` says
   pub keeps_promises : (it : Asked) → Gives it → StoreOutcome path Means told → Keeps (Some it) told
@@ -262,7 +263,7 @@ module _ (path : List ℕ) (Means : StoreMeaning) (told : StoreTold) (plain : (t
 
   plain_gives : (it : Asked) → ((text : List ℕ) → Says path Means told (Prints Done text) → TellsDone (Some it) told) → ((line : List ℕ) → Says path Means told (StopsBy Rule line) → RuleBroken (Some it) told) →
       ((tables : Tables) (answer : Saying) (change : Option Change) → Means tables answer change → status_of answer ≢ 0 → change ≡ None) →
-      ((check : Check) → Some it ≡ Some (asks.Check check) → ⊥) → ((verify : Verify) → Some it ≡ Some (asks.Verify verify) → ⊥) → Gives path Means told it
+      ((check : Check) → Some it ≡ Some (asks.Text (texts.Check check)) → ⊥) → ((verify : Verify) → Some it ≡ Some (asks.Text (texts.Verify verify)) → ⊥) → Gives path Means told it
   plain_gives it done rule quiet no_check no_verify = record {
     done = done;
     no_panel = λ text says. absurd (not_plain (Prints NonePrinted text) refl says);
@@ -419,10 +420,10 @@ module _ (path : List ℕ) (told : StoreTold) (text : StoreText) where
       let (refusal, is, same) = text_refused (stored_text text says.is.tables) line says.is.means.is in
       record { tables = says.is.tables; loaded = says.is.loaded; refusal = refusal; refused = is; errs = subst (GainsLine told.call.errs) same says.is_told.errs }
 
-  pub text_keeps : SilentStoreOutcome path (TextMeans text) told → Keeps (Some (asks.Text path text)) told
+  pub text_keeps : SilentStoreOutcome path (TextMeans text) told → Keeps (Some (asks.StoreText path text)) told
   text_keeps right =
-      keeps_promises path (TextMeans text) told (asks.Text path text)
-      (plain_gives path (TextMeans text) told (λ tables answer change means. text_said (stored_text text tables) answer means.is) (asks.Text path text) text_done text_rule (λ tables answer change means n0. means.stays) (λ check e. cc (e)) (λ verify e. cc (e)))
+      keeps_promises path (TextMeans text) told (asks.StoreText path text)
+      (plain_gives path (TextMeans text) told (λ tables answer change means. text_said (stored_text text tables) answer means.is) (asks.StoreText path text) text_done text_rule (λ tables answer change means n0. means.stays) (λ check e. cc (e)) (λ verify e. cc (e)))
       right.ends
 
 -- ---- imports

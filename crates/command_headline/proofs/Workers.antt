@@ -8,7 +8,7 @@ use Rattle.command_shell.specs.Outcomes.{Answered, Ends, IsAboutSource, IsTold, 
 use Rattle.command_shell.specs.Subjects.{About, AboutFault, AboutValue, Format}
 use Rattle.command_shell.specs.Told.{Told, HasFaulted}
 use Rattle.command_headline.specs.Headline.{TellTheSame}
-use Rattle.command_office.specs.Office.{Answers}
+use Rattle.command_asked.specs.Office.{Answers}
 use Rattle.command_headline.proofs.Checkers.{not_longer, same_text}
 
 module _ {Value : Type 0} (format : Format Value) (Means : Value → RightAnswers) where

@@ -74,13 +74,14 @@ use Rattle.office_core.specs.Acting.{IsLoaded}
 use Rattle.office_http.specs.Visits.{Visit}
 use Rattle.proof_limits.specs.Budgets.{Left, SpendsOn, unspent}
 use Rattle.command_explain.specs.AnyTexts.{IsText}
-use Rattle.command_office.specs.Asked.{asked}
-use Rattle.command_office.specs.Office.{OfficeIsRight}
-use Rattle.command_office.specs.Steps.{step_command}
-use Rattle.command_office.specs.declared.asked.Asked.{Asked}
-use Rattle.command_office.specs.declared.asked.Asked.TheVariants as asks
-use Rattle.command_office.specs.declared.steps.Step.{Step}
-use Rattle.command_office.specs.declared.steps.Step.TheVariants as steps
+use Rattle.command_asked.specs.Asked.{asked}
+use Rattle.command_asked.specs.Office.{OfficeIsRight}
+use Rattle.command_asked.specs.Steps.{step_command}
+use Rattle.command_asked.specs.declared.asked.Asked.{Asked}
+use Rattle.command_asked.specs.declared.asked.Asked.TheVariants as asks
+use Rattle.command_texts.specs.declared.commands.TextCommand.TheVariants as texts
+use Rattle.command_asked.specs.declared.steps.Step.{Step}
+use Rattle.command_asked.specs.declared.steps.Step.TheVariants as steps
 
 -- ---- what is promised of a lottery over the quota panels of a pool
 
@@ -276,22 +277,22 @@ abbrev pub HeldText : Told → Type 0
 HeldText told = (bytes : List ℕ) × HeldAll told.source bytes × IsText bytes
 
 abbrev pub DoneAlone : Option Asked → Told → Type 0
-DoneAlone (Some (asks.Prove it)) told = TellsProof told
-DoneAlone (Some (asks.Verify it)) told = TellsShown told
-DoneAlone (Some (asks.Bundle it)) told = TellsItsBundle told
-DoneAlone (Some (asks.Seal it)) told = TellsSeal told
-DoneAlone (Some (asks.Draw seal digits)) told = TellsDrawn seal digits told
-DoneAlone (Some (asks.ShortDraw tickets seal digits)) told = TellsShortDrawn tickets seal digits told
-DoneAlone (Some (asks.Page it)) told = TellsPage told
-DoneAlone (Some (asks.DrawnPage tickets digits)) told = TellsDrawnPage tickets digits told
-DoneAlone (Some (asks.Panel it)) told = TellsPanel it.nodes told
-DoneAlone (Some (asks.Loosen it)) told = TellsLoosening it.nodes told
-DoneAlone (Some (asks.LoosenByProof it)) told = TellsLeast told
-DoneAlone (Some (asks.Why it)) told = TellsWhy told
+DoneAlone (Some (asks.Text (texts.Prove it))) told = TellsProof told
+DoneAlone (Some (asks.Text (texts.Verify it))) told = TellsShown told
+DoneAlone (Some (asks.Text (texts.Bundle it))) told = TellsItsBundle told
+DoneAlone (Some (asks.Text (texts.Seal it))) told = TellsSeal told
+DoneAlone (Some (asks.Text (texts.Draw seal digits))) told = TellsDrawn seal digits told
+DoneAlone (Some (asks.Text (texts.ShortDraw tickets seal digits))) told = TellsShortDrawn tickets seal digits told
+DoneAlone (Some (asks.Text (texts.Page it))) told = TellsPage told
+DoneAlone (Some (asks.Text (texts.DrawnPage tickets digits))) told = TellsDrawnPage tickets digits told
+DoneAlone (Some (asks.Text (texts.Panel it))) told = TellsPanel it.nodes told
+DoneAlone (Some (asks.Text (texts.Loosen it))) told = TellsLoosening it.nodes told
+DoneAlone (Some (asks.Text (texts.LoosenByProof it))) told = TellsLeast told
+DoneAlone (Some (asks.Text (texts.Why it))) told = TellsWhy told
 DoneAlone (Some (asks.Lottery it)) told = TellsBundle told
-DoneAlone (Some (asks.Check it)) told = TellsValid told
-DoneAlone (Some (asks.Question it)) told = TellsAnswer it told
-DoneAlone (Some (asks.Explain it)) told = HeldText told
+DoneAlone (Some (asks.Text (texts.Check it))) told = TellsValid told
+DoneAlone (Some (asks.Text (texts.Question it))) told = TellsAnswer it told
+DoneAlone (Some (asks.Text (texts.Explain it))) told = HeldText told
 DoneAlone (Some (asks.Make it)) told = TellsSummary it.limits (made_pool it.seed it.volunteers) told
 -- a call whose words ask for nothing never has status 0; for commands over a store see `TellsDone`
 DoneAlone other told = ⊥
@@ -302,10 +303,10 @@ DoneAlone other told = ⊥
 -- `loosen-by-proof` it has none whatever its bounds are
 abbrev pub NoneAlone : Option Asked → Told → Type 0
 NoneAlone (Some (asks.Lottery it)) told = (pool : Pool) × HeldPool told.source pool × (panels pool ≡ [])
-NoneAlone (Some (asks.Panel it)) told = (pool : Pool) × HeldPool told.source pool × (panels pool ≡ [])
-NoneAlone (Some (asks.Loosen it)) told = (pool : Pool) × HeldPool told.source pool × (text : List ℕ) × Gains told.out text × PrintsNoTeam it.nodes pool text
-NoneAlone (Some (asks.LoosenByProof it)) told = (pool : Pool) × HeldPool told.source pool × (text : List ℕ) × Gains told.out text × PrintsNone pool text
-NoneAlone (Some (asks.Prove it)) told = (pool : Pool) × HeldEither told.source pool × (panels pool ≡ [])
+NoneAlone (Some (asks.Text (texts.Panel it))) told = (pool : Pool) × HeldPool told.source pool × (panels pool ≡ [])
+NoneAlone (Some (asks.Text (texts.Loosen it))) told = (pool : Pool) × HeldPool told.source pool × (text : List ℕ) × Gains told.out text × PrintsNoTeam it.nodes pool text
+NoneAlone (Some (asks.Text (texts.LoosenByProof it))) told = (pool : Pool) × HeldPool told.source pool × (text : List ℕ) × Gains told.out text × PrintsNone pool text
+NoneAlone (Some (asks.Text (texts.Prove it))) told = (pool : Pool) × HeldEither told.source pool × (panels pool ≡ [])
 NoneAlone (Some (asks.Make it)) told = panels (made_pool it.seed it.volunteers) ≡ []
 -- no call of another command without a store has status 1, and no call whose words ask for nothing; for commands over a store see
 -- `TellsNone`
@@ -332,29 +333,29 @@ HasNoLottery told = (pool : Pool) × (lines : List TreeLine) × HeldProof told.s
 
 -- status 3: the input is outside its format or too long, or has a bundle whose weights don't sum to its total
 abbrev pub WrongAlone : Option Asked → Told → Type 0
-WrongAlone (Some (asks.Prove it)) told = HeldNoText pool_or_bundle_format told
-WrongAlone (Some (asks.Verify it)) told = HeldNoText proof_format told
-WrongAlone (Some (asks.Bundle it)) told = HeldNoText proof_format told
-WrongAlone (Some (asks.Seal it)) told = HeldNoText bundle_format told
+WrongAlone (Some (asks.Text (texts.Prove it))) told = HeldNoText pool_or_bundle_format told
+WrongAlone (Some (asks.Text (texts.Verify it))) told = HeldNoText proof_format told
+WrongAlone (Some (asks.Text (texts.Bundle it))) told = HeldNoText proof_format told
+WrongAlone (Some (asks.Text (texts.Seal it))) told = HeldNoText bundle_format told
 -- status 3 of `draw` also means a bundle whose weights don't sum to its total
-WrongAlone (Some (asks.Draw seal digits)) told =
+WrongAlone (Some (asks.Text (texts.Draw seal digits))) told =
     HeldNoText bundle_format told ⊎ ((bundle : Bundle) × HeldBundle told.source bundle × (TotalAgrees bundle.answer.lottery → ⊥))
 -- status 3 of `short-draw`, and of a question about a bundle, means the same
-WrongAlone (Some (asks.ShortDraw tickets seal digits)) told =
+WrongAlone (Some (asks.Text (texts.ShortDraw tickets seal digits))) told =
     HeldNoText bundle_format told ⊎ ((bundle : Bundle) × HeldBundle told.source bundle × (TotalAgrees bundle.answer.lottery → ⊥))
-WrongAlone (Some (asks.Question it)) told =
+WrongAlone (Some (asks.Text (texts.Question it))) told =
     HeldNoText bundle_format told ⊎ ((bundle : Bundle) × HeldBundle told.source bundle × (TotalAgrees bundle.answer.lottery → ⊥))
-WrongAlone (Some (asks.Page it)) told = HeldNoPage told
-WrongAlone (Some (asks.DrawnPage tickets digits)) told = HeldNoPage told
+WrongAlone (Some (asks.Text (texts.Page it))) told = HeldNoPage told
+WrongAlone (Some (asks.Text (texts.DrawnPage tickets digits))) told = HeldNoPage told
 -- status 3 of `explain`: the bytes aren't the text of a pool, a bundle or a proof, or they are too many
-WrongAlone (Some (asks.Explain it)) told =
+WrongAlone (Some (asks.Text (texts.Explain it))) told =
     ((bytes : List ℕ) × HeldAll told.source bytes × (IsText bytes → ⊥)) ⊎ HeldMore told.source input_limit
-WrongAlone (Some (asks.Panel it)) told = HeldNoText pool_format told
-WrongAlone (Some (asks.Loosen it)) told = HeldNoText pool_format told
-WrongAlone (Some (asks.LoosenByProof it)) told = HeldNoText pool_format told
-WrongAlone (Some (asks.Why it)) told = HeldNoText pool_or_proof_format told
+WrongAlone (Some (asks.Text (texts.Panel it))) told = HeldNoText pool_format told
+WrongAlone (Some (asks.Text (texts.Loosen it))) told = HeldNoText pool_format told
+WrongAlone (Some (asks.Text (texts.LoosenByProof it))) told = HeldNoText pool_format told
+WrongAlone (Some (asks.Text (texts.Why it))) told = HeldNoText pool_or_proof_format told
 WrongAlone (Some (asks.Lottery it)) told = HeldNoText pool_format told
-WrongAlone (Some (asks.Check it)) told = HeldNoText bundle_format told
+WrongAlone (Some (asks.Text (texts.Check it))) told = HeldNoText bundle_format told
 -- `make`, and a call whose words ask for nothing, never have status 3; for imports see `TextIsWrong`
 WrongAlone other told = ⊥
 
@@ -363,22 +364,22 @@ WrongAlone other told = ⊥
 abbrev pub PassedAlone : Option Asked → Told → Type 0
 PassedAlone (Some (asks.Lottery it)) told = (pool : Pool) × HeldPool told.source pool × (line : List ℕ) × GainsLine told.errs line × PassesWidth it.limits pool line
 PassedAlone (Some (asks.Make it)) told = (line : List ℕ) × GainsLine told.errs line × PassesWidth it.limits (made_pool it.seed it.volunteers) line
-PassedAlone (Some (asks.Prove it)) told = (line : List ℕ) × GainsLine told.errs line × PassesProofWidth line
-PassedAlone (Some (asks.LoosenByProof it)) told = (line : List ℕ) × GainsLine told.errs line × PassesProofWidth line
-PassedAlone (Some (asks.Why it)) told = (line : List ℕ) × GainsLine told.errs line × PassesProofWidth line
+PassedAlone (Some (asks.Text (texts.Prove it))) told = (line : List ℕ) × GainsLine told.errs line × PassesProofWidth line
+PassedAlone (Some (asks.Text (texts.LoosenByProof it))) told = (line : List ℕ) × GainsLine told.errs line × PassesProofWidth line
+PassedAlone (Some (asks.Text (texts.Why it))) told = (line : List ℕ) × GainsLine told.errs line × PassesProofWidth line
 PassedAlone other told = ⊥
 
 -- status 5: a budget was spent, and errs gained the line that says which. For `prove`, `why` and `loosen-by-proof` nothing says how much of
 -- its budget a search spends, so each of their lines about a spent budget can be right
 abbrev pub SpentAlone : Option Asked → Told → Type 0
-SpentAlone (Some (asks.Panel it)) told = (pool : Pool) × HeldPool told.source pool × (line : List ℕ) × GainsLine told.errs line × SpendsVisits it.nodes pool line
-SpentAlone (Some (asks.Loosen it)) told = (pool : Pool) × HeldPool told.source pool × (line : List ℕ) × GainsLine told.errs line × SpendsSearch it.nodes pool line
+SpentAlone (Some (asks.Text (texts.Panel it))) told = (pool : Pool) × HeldPool told.source pool × (line : List ℕ) × GainsLine told.errs line × SpendsVisits it.nodes pool line
+SpentAlone (Some (asks.Text (texts.Loosen it))) told = (pool : Pool) × HeldPool told.source pool × (line : List ℕ) × GainsLine told.errs line × SpendsSearch it.nodes pool line
 SpentAlone (Some (asks.Lottery it)) told = (pool : Pool) × HeldPool told.source pool × (line : List ℕ) × GainsLine told.errs line × SpendsBudget it.limits pool line
 SpentAlone (Some (asks.Make it)) told = (line : List ℕ) × GainsLine told.errs line × SpendsBudget it.limits (made_pool it.seed it.volunteers) line
-SpentAlone (Some (asks.Check it)) told = (bundle : Bundle) × HeldBundle told.source bundle × (line : List ℕ) × GainsLine told.errs line × SpendsStage it.nodes bundle line
-SpentAlone (Some (asks.Prove it)) told = (left : Left) × SpendsOn (unspent it.pivots it.nodes) left × (line : List ℕ) × GainsLine told.errs line × SpendsProofBudget left line
-SpentAlone (Some (asks.LoosenByProof it)) told = (left : Left) × SpendsOn (unspent it.pivots it.nodes) left × (line : List ℕ) × GainsLine told.errs line × SpendsWhyBudget left line
-SpentAlone (Some (asks.Why it)) told = (left : Left) × SpendsOn (unspent it.pivots it.nodes) left × (line : List ℕ) × GainsLine told.errs line × SpendsWhyBudget left line
+SpentAlone (Some (asks.Text (texts.Check it))) told = (bundle : Bundle) × HeldBundle told.source bundle × (line : List ℕ) × GainsLine told.errs line × SpendsStage it.nodes bundle line
+SpentAlone (Some (asks.Text (texts.Prove it))) told = (left : Left) × SpendsOn (unspent it.pivots it.nodes) left × (line : List ℕ) × GainsLine told.errs line × SpendsProofBudget left line
+SpentAlone (Some (asks.Text (texts.LoosenByProof it))) told = (left : Left) × SpendsOn (unspent it.pivots it.nodes) left × (line : List ℕ) × GainsLine told.errs line × SpendsWhyBudget left line
+SpentAlone (Some (asks.Text (texts.Why it))) told = (left : Left) × SpendsOn (unspent it.pivots it.nodes) left × (line : List ℕ) × GainsLine told.errs line × SpendsWhyBudget left line
 SpentAlone other told = ⊥
 
 -- the digits draw nothing from the bundle, and `line` says why, as `draw` says it, or `short-draw` if a number of tickets is given
@@ -388,12 +389,12 @@ RefusesPage (Some tickets) digits bundle line = RefusesShortDraw tickets (bundle
 
 -- status 6: a rule was broken, and errs gained the line that says which
 abbrev pub BrokenAlone : Option Asked → Told → Type 0
-BrokenAlone (Some (asks.Draw seal digits)) told = (bundle : Bundle) × HeldBundle told.source bundle × (line : List ℕ) × GainsLine told.errs line × RefusesDraw seal digits bundle line
-BrokenAlone (Some (asks.ShortDraw tickets seal digits)) told =
+BrokenAlone (Some (asks.Text (texts.Draw seal digits))) told = (bundle : Bundle) × HeldBundle told.source bundle × (line : List ℕ) × GainsLine told.errs line × RefusesDraw seal digits bundle line
+BrokenAlone (Some (asks.Text (texts.ShortDraw tickets seal digits))) told =
     (bundle : Bundle) × HeldBundle told.source bundle × (line : List ℕ) × GainsLine told.errs line × RefusesShortDraw tickets seal digits bundle line
-BrokenAlone (Some (asks.Bundle it)) told = HasNoLottery told
-BrokenAlone (Some (asks.Page it)) told = HasNoLottery told
-BrokenAlone (Some (asks.DrawnPage tickets digits)) told =
+BrokenAlone (Some (asks.Text (texts.Bundle it))) told = HasNoLottery told
+BrokenAlone (Some (asks.Text (texts.Page it))) told = HasNoLottery told
+BrokenAlone (Some (asks.Text (texts.DrawnPage tickets digits))) told =
     HasNoLottery told ⊎ ((bundle : Bundle) × HeldBundleOrProof told.source bundle × (line : List ℕ) × GainsLine told.errs line × RefusesPage tickets digits bundle line)
 BrokenAlone other told = ⊥
 
@@ -401,13 +402,13 @@ BrokenAlone other told = ⊥
 -- the printed reason. If the reason's number is below 11, the certificate doesn't hold. The reasons from 11 on concern the trees alone, and
 -- say nothing of the certificate
 abbrev pub CheckFailed : Option Asked → Told → Type 0
-CheckFailed (Some (asks.Check it)) told =
+CheckFailed (Some (asks.Text (texts.Check it))) told =
     (bundle : Bundle) × HeldBundle told.source bundle × (Certifies bundle.pool bundle.answer.lottery bundle.answer.stages → ⊥)
-CheckFailed (Some (asks.Verify it)) told = (proof : Proof) × HeldProof told.source proof × (verdict proof ≢ Valid)
+CheckFailed (Some (asks.Text (texts.Verify it))) told = (proof : Proof) × HeldProof told.source proof × (verdict proof ≢ Valid)
 -- `keep`: the proof that the source held is not valid, and the reason is printed
 CheckFailed (Some (asks.Import store (import.Proof round))) told =
     (proof : Proof) × HeldProof told.source proof × (refusal : reasons.Refusal) × (verdict proof ≡ Refused refusal) × Gains told.out (refused_line refusal)
-CheckFailed (Some (asks.Prove it)) told =
+CheckFailed (Some (asks.Text (texts.Prove it))) told =
     (bundle : Bundle) × HeldBundle told.source bundle × (trees : List (List TreeLine)) × (refusal : reasons.Refusal) × (verdict (OfLottery bundle.pool bundle.answer trees) ≡ Refused refusal) ×
     RefusalMeans (OfLottery bundle.pool bundle.answer trees) refusal × Gains told.out (refused_line refusal)
 CheckFailed other told = ⊥
@@ -485,7 +486,7 @@ abbrev pub TellsDone : Option Asked → StoreTold → Type 0
 TellsDone (Some (asks.Step store step)) told = TellsStep step told
 TellsDone (Some (asks.Import store file)) told = TellsFile file told
 TellsDone (Some (asks.ProveRound store proving)) told = TellsProved proving.round told
-TellsDone (Some (asks.Text store text)) told = TellsText text told
+TellsDone (Some (asks.StoreText store text)) told = TellsText text told
 TellsDone other told = DoneAlone other told.call
 
 -- the pool of this round of the tables that were loaded. The round is open
@@ -557,7 +558,7 @@ RuleBroken (Some (asks.Step store step)) told = TellsRefusal (λ tables refusal.
 RuleBroken (Some (asks.Import store file)) told = TellsRefusal (RefusesImport file told.call.source) told
 -- for `prove`: a solve of the round has the same refusal, whatever its limits
 RuleBroken (Some (asks.ProveRound store proving)) told = TellsRefusal (λ tables refusal. (limits : Limits) → Comes tables (Solve proving.round limits) (Refuses refusal)) told
-RuleBroken (Some (asks.Text store text)) told = TellsRefusal (λ tables refusal. stored_text text tables ≡ Err refusal) told
+RuleBroken (Some (asks.StoreText store text)) told = TellsRefusal (λ tables refusal. stored_text text tables ≡ Err refusal) told
 RuleBroken other told = BrokenAlone other told.call
 
 -- ---- the promises
@@ -599,10 +600,10 @@ pub record Keeps (it : Option Asked) (told : StoreTold) : Type 0 where
   pub stays : told.call.status ≢ 0 → told.call.status ≢ 8 → KeepsTables told.keeper
   -- if the source told the text of a bundle, and the status is none of 5, 8 and 12, then `check` has status 0 exactly if the certificate
   -- holds
-  pub certificate : (check : Check) → it ≡ Some (asks.Check check) → (bundle : Bundle) → IsBundle bundle → ToldText told.call.source (bundle_spelling bundle) →
+  pub certificate : (check : Check) → it ≡ Some (asks.Text (texts.Check check)) → (bundle : Bundle) → IsBundle bundle → ToldText told.call.source (bundle_spelling bundle) →
       told.call.status ≢ 5 → told.call.status ≢ 8 → told.call.status ≢ 12 → told.call.status ≡ 0 ↔ Certifies bundle.pool bundle.answer.lottery bundle.answer.stages
   -- if the source told the text of a proof, and the status is neither 8 nor 12, then `verify` has status 0 exactly if the proof is valid
-  pub proof : (verify : Verify) → it ≡ Some (asks.Verify verify) → (proof : Proof) → IsProof proof → ToldText told.call.source (proof_spelling proof) →
+  pub proof : (verify : Verify) → it ≡ Some (asks.Text (texts.Verify verify)) → (proof : Proof) → IsProof proof → ToldText told.call.source (proof_spelling proof) →
       told.call.status ≢ 8 → told.call.status ≢ 12 → told.call.status ≡ 0 ↔ verdict proof ≡ Valid
 
 -- ---- the promises of `serve`, which attends links over the store at `path`

@@ -1,11 +1,11 @@
 //! What the program promises, for a reader who believes nothing but definitions: the laws of `specs/Headline.antt` about the contract of
-//! `office`. Each is proved as the contract of a function that does nothing. Stands on `command_office`, which has the contract, on the
-//! crates of commands, on `laws_of_offices` and `laws_of_runs`, and on the definitions. Nothing stands on it.
+//! `office`, which cites them too. Each is proved as the contract of a function that does nothing. Stands on `command_asked`, which has
+//! that contract, on the crates of commands, on `laws_of_offices` and `laws_of_runs`, and on the definitions.
 #![tactic(auto)]
 
 ghost use Rattle.std.specs.Prelude.{ℕ, List};
 ghost use Rattle.command_desk.specs.DeskTold.{DeskTold};
-ghost use Rattle.command_office.specs.Office.{OfficeIsRight};
+ghost use Rattle.command_asked.specs.Office.{OfficeIsRight};
 ghost use Rattle.command_headline.specs.Headline.{Headline, TellsNothingOfOthers, WorkersChangeNothing};
 
 use office_desk::desk_is_isolated;

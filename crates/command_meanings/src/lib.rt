@@ -1,8 +1,8 @@
 //! What nine commands answer: which text or line is right at which status. `panel`, `lottery`, `make`, `check`, `prove`, `verify`,
 //! `bundle`, `seal` and `draw` each have a file in `specs/`. The meanings of all other commands, and of commands over a store, are in the
-//! crates of these commands. Stands on `command_shell` and the definitions of pools, checks, runs, draws and proofs. Used by the crates of
-//! commands, by `command_office`, whose `office` promises these answers, by `command_headline` and by `command_browser`. Promises: the laws
-//! in `laws.rt`.
+//! crates of these commands. Stands on `command_shell` and the definitions of pools, checks, runs, draws and proofs.
+//!
+//! Promises: the laws in `laws.rt`.
 #![tactic(auto)]
 
 mod laws;

@@ -1,14 +1,9 @@
 -- If the words ask for a command, an outcome that is right for the command is right for the words.
 use Rattle.std.proofs.Common.{◌≡◌, ℕ, List, Option, Some, refl, subst, sym}
-use Rattle.command_bundles.specs.ShortDraw.{ShortDrawMeans}
 use Rattle.command_desk.specs.DeskTold.{DeskTold, desk_told, ports}
 use Rattle.command_desk.specs.ServeOutcomes.{SilentServeOutcome}
 use Rattle.office_http.specs.Visits.{LinkTold}
 use Rattle.outside.specs.Links.{DoorLinks}
-use Rattle.command_page.specs.Inputs.{bundle_or_proof_format}
-use Rattle.command_page.specs.Page.{DrawnPageMeans}
-use Rattle.command_meanings.specs.Draw.{DrawMeans}
-use Rattle.command_shell.specs.Formats.{bundle_format}
 use Rattle.command_shell.specs.Told.{Told, object}
 use Rattle.command_stores.specs.Imports.{ImportMeans}
 use Rattle.command_stores.specs.Steps.{StepMeans, TextMeans}
@@ -21,8 +16,8 @@ use Rattle.define_offices.specs.Commands.{Command}
 use Rattle.command_stores.specs.StoreTold.{StoreTold, keeper_told, store_told}
 use Rattle.define_offices.specs.Tables.{Tables}
 use Rattle.office_core.specs.Keeping.{Place}
-use Rattle.command_office.specs.Office.{Answers, EndsRightly, LeavesDoor, LeavesStore}
-use Rattle.command_office.specs.declared.asked.Asked.{Asked}
+use Rattle.command_asked.specs.Office.{EndsRightly, LeavesDoor, LeavesStore}
+use Rattle.command_asked.specs.declared.asked.Asked.{Asked}
 
 -- if a call is right, and the keeper's tables, faults and place are as before, the call leaves the store alone
 pub leaves : (Right : Told → Type 0) (call : Told) (kept : Option Tables) (faults : ℕ) (place : Place) → Right call → LeavesStore Right (store_told call (keeper_told (object kept kept faults faults) place place))
@@ -52,22 +47,3 @@ texts_so path store text told same right = subst (λ p. SilentStoreOutcome p (Te
 
 pub serves_so : (path store : List ℕ) (port connections : ℕ) (told : DeskTold) → path ≡ store → SilentServeOutcome path port connections told → SilentServeOutcome store port connections told
 serves_so path store port connections told same right = subst (λ p. SilentServeOutcome p port connections told) same right
-
--- an outcome that is right for a draw is right for a draw with an equal seal and equal digits
-pub draws_so : (seal digits given_seal given_digits : List ℕ) (told : Told) → seal ≡ given_seal → digits ≡ given_digits →
-    Answers bundle_format (DrawMeans seal digits) told → Answers bundle_format (DrawMeans given_seal given_digits) told
-draws_so seal digits given_seal given_digits told same_seal same_digits answers =
-    subst (λ one. Answers bundle_format (DrawMeans given_seal one) told) same_digits
-    (subst (λ one. Answers bundle_format (DrawMeans one digits) told) same_seal answers)
-
--- an outcome that is right for a draw in a number of tickets is right for one with an equal seal and equal digits
-pub short_draws_so : (tickets : ℕ) (seal digits given_seal given_digits : List ℕ) (told : Told) → seal ≡ given_seal → digits ≡ given_digits →
-    Answers bundle_format (ShortDrawMeans tickets seal digits) told → Answers bundle_format (ShortDrawMeans tickets given_seal given_digits) told
-short_draws_so tickets seal digits given_seal given_digits told same_seal same_digits answers =
-    subst (λ one. Answers bundle_format (ShortDrawMeans tickets given_seal one) told) same_digits
-    (subst (λ one. Answers bundle_format (ShortDrawMeans tickets one digits) told) same_seal answers)
-
--- an outcome that is right for a page with the digits of dice is right for a page with equal digits
-pub pages_so : (tickets : Option ℕ) (digits given : List ℕ) (told : Told) → digits ≡ given → Answers bundle_or_proof_format (DrawnPageMeans tickets digits) told →
-    Answers bundle_or_proof_format (DrawnPageMeans tickets given) told
-pages_so tickets digits given told same answers = subst (λ one. Answers bundle_or_proof_format (DrawnPageMeans tickets one) told) same answers

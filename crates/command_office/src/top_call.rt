@@ -6,13 +6,11 @@ ghost use Rattle.command_shell.specs.Answers.{status_number};
 ghost use Rattle.command_stores.specs.StoreTold.{keeper_told, store_told};
 ghost use Rattle.command_desk.specs.DeskTold.{NoMoreBack, desk_told, door_told, ports};
 ghost use Rattle.office_http.specs.Visits.{link_told};
-ghost use Rattle.command_office.specs.Office.{EndsRightly, OfficeIsRight};
+ghost use Rattle.command_asked.specs.Office.{EndsRightly, OfficeIsRight};
+ghost use Rattle.command_headline.specs.Headline.{Headline};
 
-use crate::asked::{Asked, read_asked};
-use crate::steps::command_of;
-use command_bundles::{Draw, ShortDraw};
+use command_asked::{Asked, command_of, read_asked};
 use command_desk::call_serve;
-use command_page::DrawnPage;
 use command_pools::{call_lottery, call_make};
 use command_shell::{Resources, Status, call, refuse_words, want_memory};
 use command_stores::{call_import, call_prove_round, call_step, call_text};
@@ -24,12 +22,14 @@ use std::thread::Threads;
 
 /// Makes one call of the program, and returns the program's status. `words` don't include the program's name.
 ///
-/// The contract says for each list of words what each status means, and what `out` and `errs` gained.
+/// The clause `right` says for each list of words what each status means, and what `out` and `errs` gained; `promises` says what that means
+/// for a reader who knows pools and lotteries, and nothing of runs.
 ///
 /// If the door tells its links, the caller must show that no more links came back to it than it gave. A new door has given none.
 ///
 /// For `lottery` and `make`, workers search the pieces of a pricing on threads, and `watch` is told of each piece as it starts. No answer
 /// depends on the workers or the watch.
+#[tactic(auto, using(command_headline::proofs::Kept::keeps))]
 pub fn office<R: Threads + Sync, S: Source, O: Sink, E: Sink, K: Keeper, D: Door, W: Watch + Sync>(
     rt: &R,
     alloc: Global,
@@ -42,7 +42,16 @@ pub fn office<R: Threads + Sync, S: Source, O: Sink, E: Sink, K: Keeper, D: Door
     watch: &W,
 ) -> u8
     requires { NoMoreBack (D.links door.old) }
-    ensures { OfficeIsRight (map string_bytes words.now) (desk_told (store_told
+    ensures right { OfficeIsRight (map string_bytes words.now) (desk_told (store_told
+        (told result
+        (object (S.left source.old) (S.left source.new) (S.faults source.old) (S.faults source.new))
+        (object (O.written out.old) (O.written out.new) (O.faults out.old) (O.faults out.new))
+        (object (E.written errs.old) (E.written errs.new) (E.faults errs.old) (E.faults errs.new)))
+        (keeper_told (object (K.tables keeper.old) (K.tables keeper.new) (K.faults keeper.old) (K.faults keeper.new)) (K.place keeper.old) (K.place keeper.new)))
+        (door_told (λ link. link_told (D.Link.left link) (D.Link.written link) (D.Link.faults link))
+        (D.links door.old) (D.links door.new) (D.faults door.old) (D.faults door.new))
+        (ports (D.opened_at door.old) (D.opened_at door.new))) }
+    ensures promises { Headline (map string_bytes words.now) (desk_told (store_told
         (told result
         (object (S.left source.old) (S.left source.new) (S.faults source.old) (S.faults source.new))
         (object (O.written out.old) (O.written out.new) (O.faults out.old) (O.faults out.new))
@@ -85,45 +94,8 @@ fn run<R: Threads + Sync, W: Watch + Sync, S: Source, O: Sink, E: Sink, K: Keepe
 {
     let alloc = resources.alloc;
     match asked {
-        Asked::Prove(prove) => call(alloc, &prove, source, out, errs),
-        Asked::Verify(verify) => call(alloc, &verify, source, out, errs),
-        Asked::Bundle(bundle) => call(alloc, &bundle, source, out, errs),
-        Asked::Seal(seal) => call(alloc, &seal, source, out, errs),
-        Asked::Draw { seal, digits } => {
-            let draw = Draw {
-                seal: seal.as_str(),
-                digits: digits.as_str(),
-            };
-            call(alloc, &draw, source, out, errs)
-        }
-        Asked::ShortDraw {
-            tickets,
-            seal,
-            digits,
-        } => {
-            let draw = ShortDraw {
-                tickets,
-                seal: seal.as_str(),
-                digits: digits.as_str(),
-            };
-            call(alloc, &draw, source, out, errs)
-        }
-        Asked::Page(page) => call(alloc, &page, source, out, errs),
-        Asked::DrawnPage { tickets, digits } => {
-            let page = DrawnPage {
-                tickets,
-                digits: digits.as_str(),
-            };
-            call(alloc, &page, source, out, errs)
-        }
-        Asked::Panel(panel) => call(alloc, &panel, source, out, errs),
-        Asked::Loosen(loosen) => call(alloc, &loosen, source, out, errs),
-        Asked::Why(why) => call(alloc, &why, source, out, errs),
-        Asked::LoosenByProof(loosen) => call(alloc, &loosen, source, out, errs),
+        Asked::Text(command) => call(alloc, &command, source, out, errs),
         Asked::Lottery(lottery) => call_lottery(resources, &lottery, source, out, errs),
-        Asked::Check(check) => call(alloc, &check, source, out, errs),
-        Asked::Question(question) => call(alloc, &question, source, out, errs),
-        Asked::Explain(explain) => call(alloc, &explain, source, out, errs),
         Asked::Make(make) => call_make(resources, &make, out, errs),
         Asked::Step { store, step } => match command_of(alloc, &step) {
             Ok(command) => call_step(resources, &command, store.as_str(), keeper, out, errs),
@@ -136,7 +108,9 @@ fn run<R: Threads + Sync, W: Watch + Sync, S: Source, O: Sink, E: Sink, K: Keepe
         Asked::ProveRound { store, proving } => {
             call_prove_round(resources, proving, store.as_str(), keeper, out, errs)
         }
-        Asked::Text { store, text } => call_text(alloc, text, store.as_str(), keeper, out, errs),
+        Asked::StoreText { store, text } => {
+            call_text(alloc, text, store.as_str(), keeper, out, errs)
+        }
         Asked::Serve { store, serve } => {
             call_serve(resources, serve, store.as_str(), keeper, door, out, errs)
         }

@@ -1,7 +1,7 @@
 //! The commands about a pool: `panel`, `lottery` and `make`. Each is a struct of its arguments that answers about a pool; what its answers
-//! mean is defined in `command_meanings`. Stands on the searches, the run, and the texts of pools and bundles. Used by the top call in
-//! `command_office`, by `command_stores` for `stop_answer`, and by `example_bundles`. Promises: the three commands, `call_lottery`,
-//! `call_make`, and `Volunteers::new`.
+//! mean is defined in `command_meanings`. Stands on the searches, the run, and the texts of pools and bundles.
+//!
+//! Promises: the three commands, `call_lottery`, `call_make`, `Volunteers::new`, and `stop_answer`, which commands over a store use too.
 #![tactic(auto)]
 
 mod lines;

@@ -1,9 +1,9 @@
 //! The commands about proofs: `prove`, `verify` and `bundle`. Each is a struct of its arguments; what its answers mean is defined in
 //! `command_meanings`. Stands on the run that makes proofs (`proof_run`), the verifier (`proof_verify`), the texts of proofs
-//! (`proof_text`), and `command_bundles`, whose lines for valid and refused certificates are printed here too. Used by `command_stores`,
-//! which keeps a proof for a round, `command_why`, whose lines for a search that stops are the same, `command_browser`, `command_office`,
-//! and `command_headline`, which states what the program promises. Promises: the three commands; `prove_within`; and `proof_within`, which
-//! makes a valid proof of a pool, or says why not. Their runs give nothing back to a budget.
+//! (`proof_text`), and `command_bundles`, whose lines for valid and refused certificates are printed here too.
+//!
+//! Promises: the three commands; `prove_within`; and `proof_within`, which makes a valid proof of a pool, or says why not. Their runs give
+//! nothing back to a budget.
 #![tactic(auto)]
 
 mod its_bundle;

@@ -2,7 +2,7 @@
 //! says how many dice are thrown and which part of the throws is thrown again, `tickets` which tickets draw which panel, and `chances` each
 //! volunteer's chance. `InTickets` are answers about a bundle in a round number of tickets: `short`, and `dice` and `tickets` with
 //! `--tickets`. Stands on the bundles of `bundle_text`, `chance_numbers`, `sealed_draw`, `short_draws`, the lines of `text_lines`, and the
-//! shell. Used by `command_office` and `command_browser`, and by `command_headline`, which states what the program promises.
+//! shell.
 //!
 //! Promises: `Question`, whose answers are those of `specs/Questions.antt`, and the law that each question has at most one. To add a
 //! question, add a variant, a line of `question_text` with its definition, and an arm of `text_about` with its function.

@@ -10,7 +10,7 @@ ghost use Rattle.command_shell.specs.Outcomes.{SilentOutcome, TextOutcome};
 ghost use Rattle.command_shell.specs.Subjects.{About, no_input};
 
 use crate::answer::Answer;
-use crate::command::{Command, Meaning};
+use crate::command::{Answering, Command, Meaning};
 use crate::lines::input_line;
 use crate::reading::{read_input, refuse_input};
 use crate::status::{Cause, Status};
@@ -22,20 +22,20 @@ use text_lines::{TextFault, TextStop};
 
 /// Makes one call of a command that reads the source and starts no threads. The source is read to its end, or past the limit, before the
 /// command is asked about its bytes. The answer is told once it is whole.
-pub fn call<C: Command, S: Source, O: Sink, E: Sink>(
+pub fn call<C: Answering, S: Source, O: Sink, E: Sink>(
     alloc: Global,
     command: &C,
     source: &mut S,
     out: &mut O,
     errs: &mut E,
 ) -> Status
-    ensures { TextOutcome (About C.About.format (C.means command.now)) (told (status_number result)
+    ensures { TextOutcome (C.answers command.now) (told (status_number result)
         (object (S.left source.old) (S.left source.new) (S.faults source.old) (S.faults source.new))
         (object (O.written out.old) (O.written out.new) (O.faults out.old) (O.faults out.new))
         (object (E.written errs.old) (E.written errs.new) (E.faults errs.old) (E.faults errs.new))) }
 {
     match read_input(alloc, source) {
-        Ok(bytes) => match answer_about(alloc, command, &bytes) {
+        Ok(bytes) => match command.answer_bytes(alloc, &bytes) {
             Ok(answer) => tell(out, errs, &answer),
             Err(AllocError) => want_memory(errs),
         },
@@ -88,7 +88,15 @@ pub fn call_silent<
 }
 
 /// Returns the command's answer about the value that `bytes` spell, or the line of their first fault.
-fn answer_about<C: Command>(alloc: Global, command: &C, bytes: &[u8]) -> Result<Answer, AllocError>
+///
+/// # Errors
+///
+/// Want of memory.
+pub fn answer_about<C: Command>(
+    alloc: Global,
+    command: &C,
+    bytes: &[u8],
+) -> Result<Answer, AllocError>
     ensures { IfOk result (λ answer. About C.About.format (C.means command.now) bytes.now (saying answer)) }
 {
     match C::About::read(alloc, bytes) {

@@ -1,6 +1,6 @@
 //! What a command is: its arguments, what its answers mean, and how it answers. `calling.rt` reads the source for it and writes its answer.
 
-ghost use Rattle.std.specs.Prelude.{IfOk};
+ghost use Rattle.std.specs.Prelude.{ℕ, IfOk, List};
 ghost use Rattle.command_shell.specs.Answers.{Saying, saying};
 
 use crate::answer::Answer;
@@ -38,4 +38,18 @@ pub trait Command: Meaning {
     fn answer(&self, alloc: Global, about: &Self::About, text: &[u8]) -> Result<Answer, AllocError>
         requires { Self.About.format.spells about.now text.now }
         ensures { IfOk result (λ answer. Self.means self.now about.now (saying answer)) };
+}
+
+/// A command with its arguments that answers from the bytes of its input, whatever they are, and starts no threads.
+pub trait Answering {
+    /// Which answers are right about some bytes.
+    ghost answers: { Self → List ℕ → Saying → Type 0 };
+
+    /// Returns an answer that is right about the bytes.
+    ///
+    /// # Errors
+    ///
+    /// Want of memory.
+    fn answer_bytes(&self, alloc: Global, bytes: &[u8]) -> Result<Answer, AllocError>
+        ensures { IfOk result (λ answer. Self.answers self.now bytes.now (saying answer)) };
 }

@@ -1,7 +1,8 @@
 //! The shell that all commands of the program share. A command is a function from its arguments and the value of its input to an answer; it
-//! never sees `out` or `errs`. `call` reads the source, asks the command and writes its answer; its contract is proved for every meaning of
-//! a command. `call_answered_by` does the same with a closure in place of the command's method `answer`, because methods of traits can't
-//! start threads. Stands on `outside` and on the readers of texts. Used by the crates of commands, `command_office` and `example_bundles`.
+//! never sees `out` or `errs`. `answer_about` reads that value from bytes and asks the command. `call` reads the source, asks for the
+//! answer about its bytes and writes it; its contract is proved for every meaning of a command. `call_answered_by` does the same with a
+//! closure that answers, because methods of traits can't start threads. Stands on `outside` and on the readers of texts.
+//!
 //! Promises: `call`, `call_answered_by`, `call_silent`, `refuse_words`, `want_memory`. The rest serves the commands.
 #![tactic(auto)]
 
@@ -16,8 +17,8 @@ mod subject;
 mod telling;
 
 pub use answer::Answer;
-pub use calling::{call, call_answered_by, call_silent};
-pub use command::{Command, Meaning, Resources};
+pub use calling::{answer_about, call, call_answered_by, call_silent};
+pub use command::{Answering, Command, Meaning, Resources};
 pub use formats::PoolOrBundle;
 pub use lines::{input_line, no_panel};
 pub use reading::{read_input, refuse_input};

@@ -1,137 +1,59 @@
-//! Calls of `office` over a source and sinks in memory: what it answers, and what `out` and `errs` gained.
+//! Calls of `office` over a source and sinks in memory that use no store: what it answers, what fails, and workers on threads.
 
+use crate::office_calls::{Call, Holding, Told, called};
 use crate::texts::{
-    APART, BARRED, COUPLE, COUPLE_PROOF, CROSSED, DOUBLED_PROOF, EITHER, EITHER_BUNDLE, FAMILY,
-    FIVE, FIVE_BUNDLE, FOUR, FOUR_BUNDLE, FOUR_BUNDLE_PROVED, FOUR_PROOF, FOUR_PROVED, LATER,
-    MEN_LEFT, MORE_BUNDLE, NOBODY, ONE_WOMAN, ONE_WOMAN_BUNDLE, PAIR, PASSED_CAP, REPLACED, SHORT,
-    SHORT_PROVED, SIX, STRANGER_BUNDLE, SURE_BUNDLE, TOTAL_OF_THREE, WIDE_BUNDLE, WOMEN_GONE,
-    WRONG_TOTAL,
+    APART, BARRED, COUPLE, EITHER, EITHER_BUNDLE, FAMILY, FIVE, FOUR, FOUR_BUNDLE, ONE_WOMAN, PAIR,
+    REPLACED, SIX, WOMEN_GONE,
 };
-use command_office::{no_words, office};
+use command_office::no_words;
 use office_keeper::MapKeeper;
-use outside::{MemDoor, MemSink, MemSource, NoWatch, Watch};
+use outside::MemSink;
 use std::alloc::{AllocError, Global};
 use std::io;
-use std::sync::atomic::{AtomicBool, Ordering};
-use std::test::Fail;
 use std::thread::Threads;
-
-/// One call: its words; the text that the source holds; which reads of the source, which puts of `out` and which puts of `errs` (`lines`)
-/// fail, counted from 1; and how many bytes `out` takes.
-#[derive(Clone, Copy)]
-struct Call<'a> {
-    words: &'a [&'a str],
-    text: &'a [u8],
-    reads: &'a [u64],
-    puts: &'a [u64],
-    lines: &'a [u64],
-    room: usize,
-}
 
 /// Returns a call with these words over this text, in which nothing fails.
 fn asking<'a>(words: &'a [&'a str], text: &'a [u8]) -> Call<'a> {
     Call {
-        words,
         text,
-        reads: &[],
-        puts: &[],
-        lines: &[],
-        room: 1000,
+        ..Call::new(words)
     }
-}
-
-/// What a call told: its status, and what `out` and `errs` gained.
-#[derive(Drop)]
-struct Answer {
-    status: u8,
-    out: MemSink,
-    errs: MemSink,
 }
 
 fn answer_of<R: Threads + Sync>(
     rt: &R,
     alloc: Global,
     call: &Call<'_>,
-) -> Result<Answer, AllocError> {
-    answer_watched(rt, alloc, call, &NoWatch)
-}
-
-fn answer_watched<R: Threads + Sync, W: Watch + Sync>(
-    rt: &R,
-    alloc: Global,
-    call: &Call<'_>,
-    watch: &W,
-) -> Result<Answer, AllocError> {
-    let mut words = Vec::new(alloc);
-    for word in call.words {
-        words.push(String::from_str(alloc, word)?)?;
-    }
-    let mut source = MemSource::new(alloc, call.text, call.reads)?;
-    let mut out = MemSink::new(alloc, call.room, call.puts)?;
-    let mut errs = MemSink::new(alloc, 1000, call.lines)?;
+) -> Result<Told, AllocError> {
     let mut keeper = MapKeeper::new(alloc, &[])?;
-    let mut door = MemDoor::new(alloc, Vec::new(alloc), &[])?;
-    let status = office(
+    called(
         rt,
         alloc,
-        &words,
-        &mut source,
-        &mut out,
-        &mut errs,
+        call,
         &mut keeper,
-        &mut door,
-        watch,
-    );
-    Ok(Answer { status, out, errs })
+        Vec::new(alloc),
+        &Holding::none(),
+    )
 }
 
-/// How many times a held piece checks whether a piece 2 has started.
-const TURNS: u64 = 1_000_000_000;
+/// The words of a call, the text of the source, the status, and what `out` and `errs` gained.
+type Row = (
+    &'static [&'static str],
+    &'static [u8],
+    u8,
+    &'static [u8],
+    &'static [u8],
+);
 
-/// Holds each piece of a pricing, except piece 2, until a piece 2 has started, for at most `TURNS` checks. `in_vain` becomes true if some
-/// piece used up its checks.
-#[derive(Drop)]
-struct Holding {
-    started: AtomicBool,
-    in_vain: AtomicBool,
-}
-
-impl Watch for Holding {
-    fn piece(&self, number: u64) {
-        if number == 2 {
-            self.started.store(true, Ordering::SeqCst);
-            return;
-        }
-        for _ in 0..TURNS {
-            if self.started.load(Ordering::SeqCst) {
-                return;
-            }
-        }
-        self.in_vain.store(true, Ordering::SeqCst);
-    }
-}
-
-/// Calls of `panel` and `lottery`: the words, the text of the source, the status, and what `out` and `errs` gained.
-const ROWS: &[(&[&str], &[u8], u8, &[u8], &[u8])] = &[
+/// Calls of `lottery`, one of `panel`, and words whose options don't go together.
+const ROWS: &[Row] = &[
     (&["panel"], FOUR, 0, b"panel\ta\tc\n", b""),
-    (&["panel"], LATER, 0, b"panel\ta\td\n", b""),
-    (&["panel"], SHORT, 1, b"no panel\n", b""),
-    (&["panel"], NOBODY, 1, b"no panel\n", b""),
-    (&["panel", "--nodes", "2"], CROSSED, 1, b"no panel\n", b""),
     (
-        &["panel", "--nodes", "1"],
-        CROSSED,
-        5,
+        &["page", "--store", "s", "--drawn", "97"],
+        FOUR,
+        2,
         b"",
-        b"spent\tnodes\t1\t0\t0\t0\n",
-    ),
-    (&["panel"], b"", 3, b"", b"input\t1\t12\n"),
-    (
-        &["panel"],
-        b"pool\t1\nsize\t0\nend\n",
-        3,
-        b"",
-        b"input\t2\t2\n",
+        b"error: these options don't go together, or a number is out of its range\n",
     ),
     (&["lottery"], FOUR, 0, FOUR_BUNDLE, b""),
     (
@@ -204,401 +126,8 @@ const ROWS: &[(&[&str], &[u8], u8, &[u8], &[u8])] = &[
     ),
 ];
 
-/// Rows as in `ROWS`, for words that ask for no command. `errs` gets the text of `clap`, or the program's own text if options don't go
-/// together.
-const USAGE_ROWS: &[(&[&str], &[u8], u8, &[u8], &[u8])] = &[
-    (
-        &[],
-        FOUR,
-        2,
-        b"",
-        b"error: 'sortition' requires a subcommand but one was not provided\n  [subcommands: prove, keep, verify, bundle, explain, why, loosen-by-proof, page, seal, dice, tickets, draw, chances, short, short-draw, import-charter, import-rules, import-register, solve, drop, next-round, show, report, pool, serve, panel, loosen, lottery, check, make, help]\n\nUsage: sortition <COMMAND>\n\nFor more information, try '--help'.\n",
-    ),
-    (
-        &["page", "--store", "s", "--drawn", "97"],
-        FOUR,
-        2,
-        b"",
-        b"error: these options don't go together, or a number is out of its range\n",
-    ),
-    (
-        &["panel", "--nodes", "x"],
-        FOUR,
-        2,
-        b"",
-        b"error: invalid value 'x' for '--nodes <nodes>': invalid digit found in string\n\nFor more information, try '--help'.\n",
-    ),
-    (
-        &["panel", "--help"],
-        FOUR,
-        2,
-        b"",
-        b"Prints the first quota panel of the pool on standard input\n\nUsage: sortition panel [OPTIONS]\n\nOptions:\n      --nodes <nodes>  The most visits that a search may make, up to 1000000000000 [default: 50000000]\n  -h, --help           Print help\n\nExample: sortition panel < city.pool\n",
-    ),
-    (
-        &["lottery", "--help"],
-        FOUR,
-        2,
-        b"",
-        b"Prints the lottery over the quota panels of the pool on standard input, with its certificate\n\nUsage: sortition lottery [OPTIONS]\n\nOptions:\n      --bits <bits>        The width in bits of the run's numbers, 1 to 127 [default: 127]\n      --pivots <pivots>    The most pivots that the run may make, up to 1000000000 [default: 100000]\n      --nodes <nodes>      The most visits that a search may make, up to 1000000000000 [default: 50000000]\n      --workers <workers>  How many workers price, on threads, 1 to 64 [default: 1]\n  -h, --help               Print help\n\nExample: sortition lottery < city.pool > city.bundle\n",
-    ),
-];
-
-/// Rows as in `ROWS`, for commands about a bundle. The seals are those that `sha256sum` prints.
-const BUNDLE_ROWS: &[(&[&str], &[u8], u8, &[u8], &[u8])] = &[
-    (
-        &["seal"],
-        ONE_WOMAN_BUNDLE,
-        0,
-        b"seal\t440a3e187e51d93413b4194ba9406ee50616ee839ed8f5a89869fd72bea7eda9\n",
-        b"",
-    ),
-    (
-        &["seal"],
-        WRONG_TOTAL,
-        0,
-        b"seal\t031d0ee43efe91c626aefe66f6b984ef9321b5f3a0fd62bb545a64b2000aa987\n",
-        b"",
-    ),
-    (&["seal"], ONE_WOMAN, 3, b"", b"input\t1\t13\n"),
-    (
-        &[
-            "draw",
-            "--seal",
-            "440a3e187e51d93413b4194ba9406ee50616ee839ed8f5a89869fd72bea7eda9",
-            "--digits",
-            "97",
-        ],
-        ONE_WOMAN_BUNDLE,
-        0,
-        b"ticket\t2\t2\npanel\tw\tz\n",
-        b"",
-    ),
-    (
-        &[
-            "draw",
-            "--seal",
-            "440A3E187E51D93413B4194BA9406EE50616EE839ED8F5A89869FD72BEA7EDA9",
-            "--digits",
-            "997",
-        ],
-        ONE_WOMAN_BUNDLE,
-        0,
-        b"ticket\t2\t3\npanel\tw\tz\n",
-        b"",
-    ),
-    (
-        &[
-            "draw",
-            "--seal",
-            "0000000000000000000000000000000000000000000000000000000000000000",
-            "--digits",
-            "97",
-        ],
-        ONE_WOMAN_BUNDLE,
-        6,
-        b"",
-        b"rule\tSealDiffers\t0000000000000000000000000000000000000000000000000000000000000000\t440a3e187e51d93413b4194ba9406ee50616ee839ed8f5a89869fd72bea7eda9\n",
-    ),
-    (
-        &["draw", "--seal", "ABC", "--digits", "x"],
-        ONE_WOMAN_BUNDLE,
-        6,
-        b"",
-        b"rule\tSealDiffers\tABC\t440a3e187e51d93413b4194ba9406ee50616ee839ed8f5a89869fd72bea7eda9\n",
-    ),
-    (
-        &[
-            "draw",
-            "--seal",
-            "440a3e187e51d93413b4194ba9406ee50616ee839ed8f5a89869fd72bea7eda9",
-            "--digits",
-            "",
-        ],
-        ONE_WOMAN_BUNDLE,
-        6,
-        b"",
-        b"rule\tMoreDigits\t0\n",
-    ),
-    (
-        &[
-            "draw",
-            "--seal",
-            "440a3e187e51d93413b4194ba9406ee50616ee839ed8f5a89869fd72bea7eda9",
-            "--digits",
-            "9",
-        ],
-        ONE_WOMAN_BUNDLE,
-        6,
-        b"",
-        b"rule\tMoreDigits\t1\n",
-    ),
-    (
-        &[
-            "draw",
-            "--seal",
-            "440a3e187e51d93413b4194ba9406ee50616ee839ed8f5a89869fd72bea7eda9",
-            "--digits",
-            "9 7",
-        ],
-        ONE_WOMAN_BUNDLE,
-        6,
-        b"",
-        b"rule\tBadDigit\t2\n",
-    ),
-    (
-        &[
-            "draw",
-            "--seal",
-            "0000000000000000000000000000000000000000000000000000000000000000",
-            "--digits",
-            "97",
-        ],
-        WRONG_TOTAL,
-        3,
-        b"",
-        b"input\t0\t14\n",
-    ),
-    (
-        &[
-            "draw",
-            "--seal",
-            "0000000000000000000000000000000000000000000000000000000000000000",
-            "--digits",
-            "97",
-        ],
-        FOUR,
-        3,
-        b"",
-        b"input\t1\t13\n",
-    ),
-    (
-        &[
-            "draw",
-            "--seal",
-            "c82948eb26297f15d8b4fea0b50612a4b7ce67f6b9100aedb613ebe799d6ab70",
-            "--digits",
-            "7",
-        ],
-        SURE_BUNDLE,
-        0,
-        b"ticket\t0\t1\npanel\ta\tb\n",
-        b"",
-    ),
-    (
-        &[
-            "draw",
-            "--seal",
-            "36cc9db090337e86d3378b04c71cfeb452ba9fca2e66fa85353e2ed3832e41d0",
-            "--digits",
-            "100000000000000000000000000000000000009",
-        ],
-        WIDE_BUNDLE,
-        0,
-        b"ticket\t10000000000000000000000000000000000000\t38\npanel\tw\ty\n",
-        b"",
-    ),
-    (
-        &["short"],
-        FIVE_BUNDLE,
-        0,
-        b"tickets\t1000\npanel\t333\t0\t3\npanel\t167\t1\t3\npanel\t167\t1\t4\npanel\t333\t2\t4\n",
-        b"",
-    ),
-    (
-        &["short", "--tickets", "1"],
-        FIVE_BUNDLE,
-        0,
-        b"tickets\t1\npanel\t1\t0\t3\n",
-        b"",
-    ),
-    (
-        &[
-            "short-draw",
-            "--seal",
-            "a565420624c0997ef1a88ed2c43beaf72d119b9729fc3ffc7e8020035d560b88",
-            "--digits",
-            "500",
-        ],
-        FIVE_BUNDLE,
-        0,
-        b"ticket\t500\t3\npanel\tb\te\n",
-        b"",
-    ),
-    (
-        &[
-            "short-draw",
-            "--tickets",
-            "1000",
-            "--seal",
-            "0000000000000000000000000000000000000000000000000000000000000000",
-            "--digits",
-            "500",
-        ],
-        FIVE_BUNDLE,
-        6,
-        b"",
-        b"rule\tSealDiffers\t0000000000000000000000000000000000000000000000000000000000000000\ta565420624c0997ef1a88ed2c43beaf72d119b9729fc3ffc7e8020035d560b88\n",
-    ),
-    (
-        &[
-            "short-draw",
-            "--seal",
-            "a565420624c0997ef1a88ed2c43beaf72d119b9729fc3ffc7e8020035d560b88",
-            "--digits",
-            "50",
-        ],
-        FIVE_BUNDLE,
-        6,
-        b"",
-        b"rule\tMoreDigits\t2\n",
-    ),
-    (
-        &[
-            "short-draw",
-            "--seal",
-            "0000000000000000000000000000000000000000000000000000000000000000",
-            "--digits",
-            "500",
-        ],
-        WRONG_TOTAL,
-        3,
-        b"",
-        b"input\t0\t14\n",
-    ),
-];
-
-/// Rows as in `ROWS`, for `dice`, `tickets`, `chances` and `check`.
-const CHECK_ROWS: &[(&[&str], &[u8], u8, &[u8], &[u8])] = &[
-    (
-        &["dice"],
-        FOUR_BUNDLE,
-        0,
-        b"digits\t1\ntickets\t2\nrefused\t0/1\t0.0\n",
-        b"",
-    ),
-    (
-        &["tickets"],
-        FOUR_BUNDLE,
-        0,
-        b"0\t1\ta\tc\n1\t2\tb\td\n",
-        b"",
-    ),
-    (
-        &["chances"],
-        FOUR_BUNDLE,
-        0,
-        b"chance\ta\t1/2\t0.5000\nchance\tb\t1/2\t0.5000\nchance\tc\t1/2\t0.5000\nchance\td\t1/2\t0.5000\nsum\tgender\tfemale\t1\t1\t1/1\nsum\tgender\tmale\t1\t1\t1/1\ncertain\t0\nnever\t0\nleast\t1/2\t4\ngreatest\t1/2\t4\n",
-        b"",
-    ),
-    (&["dice"], TOTAL_OF_THREE, 3, b"", b"input\t0\t14\n"),
-    (&["chances"], FOUR, 3, b"", b"input\t1\t13\n"),
-    (&["check"], FOUR_BUNDLE, 0, b"valid\n", b""),
-    (&["check"], PASSED_CAP, 11, b"refused\t1\t8\t0\t3\n", b""),
-    (&["check"], TOTAL_OF_THREE, 11, b"refused\t0\t3\n", b""),
-    (&["check"], MEN_LEFT, 11, b"refused\t1\t10\t2\n", b""),
-    (&["check"], EITHER_BUNDLE, 0, b"valid\n", b""),
-    (
-        &["check", "--nodes", "0"],
-        EITHER_BUNDLE,
-        5,
-        b"",
-        b"spent\tnodes\t0\t1\t0\t0\n",
-    ),
-    (&["check"], FOUR, 3, b"", b"input\t1\t13\n"),
-    (&["check"], MORE_BUNDLE, 3, b"", b"input\t18\t17\n"),
-    (&["check"], STRANGER_BUNDLE, 3, b"", b"input\t14\t15\n"),
-];
-
-/// Rows as in `ROWS`, for `verify`, `bundle`, `why`, `loosen`, `loosen-by-proof` and `page`.
-const PROOF_ROWS: &[(&[&str], &[u8], u8, &[u8], &[u8])] = &[
-    (&["verify"], FOUR_PROOF, 0, b"valid\n", b""),
-    (&["verify"], COUPLE_PROOF, 0, b"valid\tnone\n", b""),
-    (&["verify"], DOUBLED_PROOF, 11, b"refused\t1\t12\t20\n", b""),
-    (&["verify"], FOUR_BUNDLE, 3, b"", b"input\t1\t21\n"),
-    (&["bundle"], FOUR_PROOF, 0, FOUR_BUNDLE, b""),
-    (&["bundle"], DOUBLED_PROOF, 0, FOUR_BUNDLE, b""),
-    (&["bundle"], COUPLE_PROOF, 6, b"", b"rule\tNoLottery\n"),
-    (&["bundle"], FOUR, 3, b"", b"input\t1\t21\n"),
-    (
-        &["why"],
-        SHORT,
-        0,
-        b"gender female: at least 2; 1 available, 0 of them seated\nthese together miss by 1\neach is needed: without it the others can be met\n",
-        b"",
-    ),
-    (&["why"], FOUR, 0, b"a panel exists\na\nc\n", b""),
-    (&["why"], FOUR_PROOF, 0, b"a panel exists\na\nc\n", b""),
-    (&["why"], FOUR_BUNDLE, 3, b"", b"input\t1\t1\n"),
-    (
-        &["loosen"],
-        SHORT,
-        0,
-        b"loosen\t1\nbound\tgender\tfemale\t1\t2\npanel\ta\tb\n",
-        b"",
-    ),
-    (
-        &["loosen", "--nodes", "2"],
-        SHORT,
-        5,
-        b"",
-        b"spent\tnodes\t2\t0\t0\t0\n",
-    ),
-    (&["loosen"], NOBODY, 1, b"no panel\n", b""),
-    (
-        &["loosen-by-proof"],
-        SHORT,
-        0,
-        b"loosen\t1\nbound\tgender\tfemale\t1\t2\npanel\ta\tb\n",
-        b"",
-    ),
-    (
-        &["loosen-by-proof", "--nodes", "0"],
-        SHORT,
-        5,
-        b"",
-        b"spent\tnodes\t0\n",
-    ),
-    (&["loosen-by-proof"], NOBODY, 1, b"no panel\n", b""),
-    (&["page"], COUPLE_PROOF, 6, b"", b"rule\tNoLottery\n"),
-    (&["page"], TOTAL_OF_THREE, 3, b"", b"input\t0\t14\n"),
-    (
-        &["page", "--drawn", "x"],
-        FOUR_PROOF,
-        6,
-        b"",
-        b"rule\tBadDigit\t1\n",
-    ),
-];
-
-/// Rows as in `ROWS`, for `prove`.
-const PROVE_ROWS: &[(&[&str], &[u8], u8, &[u8], &[u8])] = &[
-    (&["prove"], FOUR, 0, FOUR_PROVED, b""),
-    (&["prove"], SHORT, 1, SHORT_PROVED, b""),
-    (
-        &["prove", "--pivots", "0"],
-        FOUR,
-        5,
-        b"",
-        b"spent\tpivots\t0\n",
-    ),
-    (
-        &["prove", "--nodes", "0"],
-        FOUR,
-        5,
-        b"",
-        b"spent\tnodes\t0\n",
-    ),
-    (&["prove"], FOUR_BUNDLE, 0, FOUR_BUNDLE_PROVED, b""),
-    (&["prove"], PASSED_CAP, 11, b"refused\t1\t11\t20\n", b""),
-    (&["prove"], TOTAL_OF_THREE, 11, b"refused\t0\t3\n", b""),
-    (&["prove"], MEN_LEFT, 11, b"refused\t1\t10\t2\n", b""),
-    (&["prove"], FOUR_PROOF, 3, b"", b"input\t1\t1\n"),
-    (&["prove"], b"bundle\t3\n", 3, b"", b"input\t1\t13\n"),
-];
-
-/// Rows as in `ROWS`, for `make`, which doesn't read what the source holds.
-const MAKE_ROWS: &[(&[&str], &[u8], u8, &[u8], &[u8])] = &[
+/// Calls of `make`, which doesn't read what the source holds.
+const MAKE_ROWS: &[Row] = &[
     (
         &["make", "--seed", "0", "--volunteers", "1"],
         FOUR,
@@ -618,15 +147,7 @@ const MAKE_ROWS: &[(&[&str], &[u8], u8, &[u8], &[u8])] = &[
 #[test]
 fn calls_are_answered(rt: HostRuntime) -> Result<(), AllocError> {
     let alloc = rt.alloc();
-    for rows in [
-        ROWS,
-        USAGE_ROWS,
-        BUNDLE_ROWS,
-        CHECK_ROWS,
-        PROOF_ROWS,
-        PROVE_ROWS,
-        MAKE_ROWS,
-    ] {
+    for rows in [ROWS, MAKE_ROWS] {
         for (words, text, status, out, errs) in rows {
             let told = answer_of(&rt, alloc, &asking(words, text))?;
             assert_eq!(rt; told.status, *status, "{words:?}");
@@ -634,6 +155,9 @@ fn calls_are_answered(rt: HostRuntime) -> Result<(), AllocError> {
             assert_eq!(rt; told.errs.written(), *errs, "{words:?}");
         }
     }
+    let long = vec![in alloc; b'x'; 16_777_217]?;
+    let told = answer_of(&rt, alloc, &asking(&["panel"], &long))?;
+    assert!(rt; told.status == 3 && told.errs.written() == b"input\t0\t10\n".as_slice());
     Ok(())
 }
 
@@ -665,67 +189,19 @@ fn made_pools_are_answered_alike(rt: HostRuntime) -> Result<(), AllocError> {
 
 #[test]
 fn the_third_worker_starts_while_two_are_held(rt: HostRuntime) -> Result<(), AllocError> {
+    let alloc = rt.alloc();
     for words in [
         ["lottery", "--workers=3"].as_slice(),
         &["make", "--seed=7", "--volunteers=20", "--workers=3"],
     ] {
-        let watch = Holding {
-            started: AtomicBool::new(false),
-            in_vain: AtomicBool::new(false),
-        };
-        let told = answer_watched(&rt, rt.alloc(), &asking(words, APART), &watch)?;
+        let watch = Holding::pieces();
+        let mut keeper = MapKeeper::new(alloc, &[])?;
+        let call = asking(words, APART);
+        let told = called(&rt, alloc, &call, &mut keeper, Vec::new(alloc), &watch)?;
         assert_eq!(rt; told.status, 0, "{words:?}");
-        assert!(rt; watch.started.load(Ordering::SeqCst), "{words:?}");
-        assert!(rt; !watch.in_vain.load(Ordering::SeqCst), "{words:?}");
+        assert!(rt; watch.has_started(), "{words:?}");
+        assert!(rt; !watch.was_in_vain(), "{words:?}");
     }
-    Ok(())
-}
-
-/// Texts that are cut off: the words of a call, the whole text, and the kinds of the fault, each with a number of lines. The fault is of a
-/// kind if at least its number of whole lines is left, and fewer than the next kind's number.
-const CUT: &[(&[&str], &[u8], &[(usize, u8)])] = &[
-    (&["lottery"], FOUR, &[(0, 12)]),
-    (&["prove"], FOUR, &[(0, 12)]),
-    (&["check"], FOUR_BUNDLE, &[(0, 17), (1, 12), (11, 17)]),
-    (
-        &["verify"],
-        FOUR_PROOF,
-        &[(0, 23), (2, 12), (12, 17), (18, 23)],
-    ),
-];
-
-/// Returns the kind of the fault of a text that is cut off after `lines` whole lines.
-fn kind_after(kinds: &[(usize, u8)], lines: usize) -> u8 {
-    let mut found = 0;
-    for (from, kind) in kinds {
-        if *from <= lines {
-            found = *kind;
-        }
-    }
-    found
-}
-
-/// A text that is cut off has its fault in the line after its last whole line. A text above 16 MiB is too long.
-#[test]
-fn each_cut_is_told(rt: HostRuntime) -> Result<(), AllocError> {
-    let alloc = rt.alloc();
-    for (words, text, kinds) in CUT {
-        let mut lines = 0;
-        for (length, byte) in text.iter().enumerate() {
-            let told = answer_of(&rt, alloc, &asking(words, &text[..length]))?;
-            let line = usize::saturating_add(lines, 1);
-            let kind = kind_after(kinds, lines);
-            let errs = format!(in alloc; "input\t{line}\t{kind}\n")?;
-            assert!(rt; told.status == 3 && told.errs.written() == errs.as_bytes());
-            assert!(rt; told.out.written().is_empty());
-            if *byte == b'\n' {
-                lines = line;
-            }
-        }
-    }
-    let long = vec![in alloc; b'x'; 16_777_217]?;
-    let told = answer_of(&rt, alloc, &asking(&["panel"], &long))?;
-    assert!(rt; told.status == 3 && told.errs.written() == b"input\t0\t10\n".as_slice());
     Ok(())
 }
 

@@ -1,6 +1,6 @@
 -- The command and the values that the words of a call ask for. `clap`'s definitions say how words are parsed; this file says what the
--- parsed words mean by a table of commands. Builds on Given, Program and Table. The contract of `read_words` cites it, and so does `Asked`
--- of `command_office`.
+-- parsed words mean by a table of commands. Builds on Given, Program and Table. The contract of `read_words` cites it, and so do the
+-- definitions of what words ask for.
 use Rattle.std.specs.Prelude.{◌≡◌, ◌≢◌, ◌^◌, ◌&&◌, ℕ, Bool, true, false, List, [], ◌∷◌, Option, Some, None, Result, Ok, Err, length, if◌then◌else◌, find, is_none, nat_le, nat_lt, option_and_then, option_map, ⊤}
 use Rattle.std.specs.List.{list_all}
 use Rattle.std.specs.Char.{digit_value}

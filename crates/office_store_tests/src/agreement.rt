@@ -2,10 +2,9 @@
 //! must load what the keeper in memory holds. At the end the files are closed and opened again, and a keeper over them must load the same.
 
 use crate::assembly::{HOUSEHOLDS, PLAIN, Row, done};
-use crate::disks::{closed, loaded, nothing, opened, spelled};
+use crate::disks::{Stored, closed, loaded, nothing, opened, spelled};
 use office_core::Keeper;
 use office_keeper::{MapKeeper, SqliteOver};
-use sqlite::Alter;
 use std::alloc::Global;
 use std::process::Abort;
 use std::thread::Threads;
@@ -17,7 +16,7 @@ fn ends<K: Keeper, R: Threads + Sync>(rt: &R, alloc: Global, keeper: &mut K, row
 }
 
 /// Attaches a keeper. True if it loads what the keeper in memory holds.
-fn agrees<S: Alter>(alloc: Global, over: &mut SqliteOver<S>, map: &MapKeeper) -> bool {
+fn agrees(alloc: Global, over: &mut SqliteOver<Stored>, map: &MapKeeper) -> bool {
     let held = loaded(alloc, over, "");
     held.is_some() && held == spelled(alloc, map.tables())
 }

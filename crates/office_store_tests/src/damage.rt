@@ -2,10 +2,10 @@
 //! fails, counts one fault and changes nothing.
 
 use crate::assembly::{HOUSEHOLDS, done};
-use crate::disks::{loaded, rows_of, spelled};
+use crate::disks::{Stored, loaded, nothing, opened, rows_of, spelled};
 use office_core::Keeper;
 use office_keeper::{MapKeeper, SqliteOver};
-use sqlite::{Alter, Connection, MemStore, params};
+use sqlite::{Connection, params};
 use std::alloc::Global;
 use std::process::Abort;
 use std::thread::Threads;
@@ -137,7 +137,7 @@ const OTHER: &[&str] = &[
 ];
 
 /// Attaches a keeper and loads its tables. Returns how that ended.
-fn outcome_of<S: Alter>(alloc: Global, keeper: &mut SqliteOver<S>) -> Taken {
+fn outcome_of(alloc: Global, keeper: &mut SqliteOver<Stored>) -> Taken {
     if keeper.attach(alloc, "").is_err() {
         return Taken::Refused;
     }
@@ -162,8 +162,8 @@ fn is_taken(alloc: Global, change: &str, wanted: Taken) -> Option<bool> {
 }
 
 /// Returns a store in memory with the rows of `STORE`, and with round 1 as drawn from `BUNDLE` by the digit 0.
-fn store(alloc: Global) -> Option<Connection<MemStore>> {
-    let mut keeper = SqliteOver::new(Connection::open_in_memory(alloc).ok()?);
+fn store(alloc: Global) -> Option<Connection<Stored>> {
+    let mut keeper = SqliteOver::new(opened(alloc, &nothing(alloc))?);
     keeper.attach(alloc, "").ok()?;
     let mut connection = keeper.into_connection();
     connection.execute_batch(STORE).ok()?;

@@ -1,7 +1,7 @@
 //! Stores in memory as two files, a database and its log.
 
 use office_core::{Keeper, Tables};
-use sqlite::{Alter, Connection, FileStore, Files, Options};
+use sqlite::{Connection, FileStore, Files, Options};
 use sqlite_disk::{Disk, Fuse, Memory};
 use std::alloc::Global;
 
@@ -85,7 +85,7 @@ const ALL: &[&str] = &[
 ];
 
 /// Returns the rows of all tables, as a text.
-pub(crate) fn rows_of<S: Alter>(alloc: Global, connection: &mut Connection<S>) -> Option<String> {
+pub(crate) fn rows_of(alloc: Global, connection: &mut Connection<Stored>) -> Option<String> {
     let mut all = String::new(alloc);
     for query in ALL {
         let rows = found(alloc, connection, query)?;
@@ -95,7 +95,7 @@ pub(crate) fn rows_of<S: Alter>(alloc: Global, connection: &mut Connection<S>) -
 }
 
 /// Returns what a query finds, as a text.
-fn found<S: Alter>(alloc: Global, connection: &mut Connection<S>, query: &str) -> Option<String> {
+fn found(alloc: Global, connection: &mut Connection<Stored>, query: &str) -> Option<String> {
     let rows = connection.query_all(query, &[]);
     format!(in alloc; "{rows:?}").ok()
 }

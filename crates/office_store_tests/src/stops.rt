@@ -9,7 +9,7 @@ use crate::disks::{
 use office_core::{Change, Keeper, Tables, decide};
 use office_keeper::{MapKeeper, SqliteOver};
 use outside::NoWatch;
-use sqlite::{Alter, Connection, Files, Options};
+use sqlite::{Connection, Files, Options};
 use sqlite_disk::{Crash, Fuse, Memory};
 use std::alloc::Global;
 use std::process::Abort;
@@ -29,7 +29,7 @@ enum Far {
 }
 
 /// Attaches a keeper, and stores a change if there is one.
-fn step<S: Alter>(alloc: Global, keeper: &mut SqliteOver<S>, change: &Option<Change>) -> Far {
+fn step(alloc: Global, keeper: &mut SqliteOver<Stored>, change: &Option<Change>) -> Far {
     if keeper.attach(alloc, "").is_err() {
         return Far::Opened;
     }

@@ -1,6 +1,5 @@
 //! The program: a citizens' assembly sortition office. `main` calls `office` over standard input and output, a keeper of files and a door
-//! over a port, and has no contract of its own. Stands on `command_office`. Promises: none of its own; those of `office` are in
-//! `command_office`, and what they mean for a reader is in `command_headline`.
+//! over a port, and has no contract of its own. Stands on `command_office`, whose `office` has the promises.
 #![tactic(auto)]
 
 mod given;

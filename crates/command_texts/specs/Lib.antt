@@ -1,0 +1,2 @@
+pub mod TextAsked
+pub mod TextMeans
