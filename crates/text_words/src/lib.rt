@@ -2,24 +2,17 @@
 //! and what may be there; or what any other file is, and what to do. Stands on `text_lines`. The command `explain` stands on it.
 //!
 //! Promises: `words_about` ends for all bytes. No contract promises what its words are; `tests/explain` shows them. The exact readers give
-//! it the first fault. It finds what is wrong after that by a reading of its own, which goes on after a fault.
+//! it the first fault. It finds what is wrong after that by a reading of its own, which goes on after a fault: `forms` is the table of all
+//! lines, and `reading` takes lines by it.
 #![tactic(auto)]
 
-mod answer_words;
-mod answers;
-mod drafts;
-mod entries;
+mod checking;
 mod explaining;
 mod files;
-mod flaw_words;
-mod flaws;
-mod hints;
-mod letters;
-mod numbers;
-mod pool_words;
+mod forms;
 mod reading;
+mod rows;
 mod showing;
 mod summaries;
-mod words;
 
 pub use explaining::words_about;

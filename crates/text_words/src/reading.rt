@@ -1,510 +1,279 @@
-//! Reads a text line by line and goes on after a fault. The exact readers find where a text first goes wrong; this reading finds what is
-//! wrong with that line and the later ones.
+//! Reads a text line by line by the table of `forms`, and goes on after a fault. The exact readers find where a text first goes wrong; this
+//! reading finds what is wrong with that line and the later ones. A faulty line is taken too, as far as it can be understood, so that later
+//! lines that depend on it aren't called faulty as well. Of one line, the first flaw alone is told: the tests come in the order of the
+//! kinds of fault.
 
-use crate::answers::{bound_cause, panel_cause, split_cause, stage_cause, weight_of};
-use crate::drafts::Draft;
-use crate::entries::take_entry;
-use crate::flaws::{Cause, Flaw};
-use crate::numbers::number_up_to;
-use crate::words::{Word, word_like, word_of};
+use crate::forms::{FORMS, LineForm, POOL, Place, SECOND, Word, before, form_like};
+use crate::rows::{Checked, Done, answer};
+use crate::showing::Shown;
 use std::alloc::{AllocError, Global};
-use std::str;
+use text_lines::{fields, number_up_to, signed_number};
 
-/// The greatest size of a panel.
-const MAX_SIZE: usize = 200;
+/// How many places a line may come too early, so that only what should come before it is called missing.
+const MOST_SKIPPED: usize = 3;
 
-/// The most trees of a proof.
-const MOST_TREES: usize = 400;
+/// The fields of a line.
+pub(crate) type Fields<'a> = Vec<&'a [u8]>;
 
-const FIRST_POOL: &[u8] = b"pool\t1";
-
-const SECOND_POOL: &[u8] = b"pool\t2";
-
-const FIRST_BUNDLE: &[u8] = b"bundle\t1";
-
-const SECOND_BUNDLE: &[u8] = b"bundle\t2";
-
-const PROOF: &[u8] = b"proof\t1";
-
-const SIZE: &[u8] = b"size";
-
-const NONE: &[u8] = b"none";
-
-const FIRST_TREE: &[u8] = b"tree\t1";
-
-const NO_PANEL_TREE: &[u8] = b"tree\t0";
-
-/// What a text is.
-#[derive(Clone, Copy, Debug, PartialEq, Eq)]
-pub(crate) enum Form {
-    Pool,
-    Bundle,
-    Proof,
-}
-
-/// Which line comes next.
-#[derive(Clone, Copy, Debug, PartialEq, Eq)]
-pub(crate) enum Place {
-    /// The first line of the text.
-    First,
-    /// The second line of a proof.
-    ProofSecond,
-    /// The first line of a bundle's pool.
-    PoolFirst,
-    /// The size.
-    Size,
-    /// A line between the size and the pool's end, or that end.
-    Entries,
-    /// The line after the pool's end.
-    PoolEnded,
-    /// The line after the total or a panel.
-    Rows,
-    /// The line after a stage.
-    Stages,
-    /// The line after `done`.
-    Done,
-    /// The line after `none`.
-    NoneSaid,
-    /// A line in a tree.
-    Trees,
-    /// The line after `close`.
-    Closed,
-    /// No further line is read: the text has gone on after its last line, or a first line didn't show which part of a text follows.
-    Lost,
+/// A category, a value or a volunteer. The first field is its name or id.
+#[derive(Drop)]
+pub(crate) struct Entry<'a> {
+    /// The number of its line.
+    pub(crate) line: usize,
+    pub(crate) fields: Fields<'a>,
+    /// The household of a volunteer.
+    pub(crate) household: Option<&'a [u8]>,
+    /// `Seated` or `Gone` if there is such a line about the volunteer, else the word of the line.
+    pub(crate) standing: Word,
 }
 
 /// How far a text has been read, and what its lines gave.
 #[derive(Drop)]
-pub(crate) struct Reading {
-    pub(crate) form: Form,
+pub(crate) struct Reading<'a> {
+    pub(crate) alloc: Global,
+    /// The form of the text's first line: that of a pool, a bundle or a proof.
+    pub(crate) form: &'static LineForm,
     pub(crate) place: Place,
+    /// True if nothing shows how the text goes on, so that no further line is read.
+    pub(crate) is_lost: bool,
+    /// How many lines ended with a carriage return, and how many with a TAB too many.
+    pub(crate) returns: usize,
+    pub(crate) tabs: usize,
     /// True if the text is a bundle or has one.
     pub(crate) has_bundle: bool,
-    pub(crate) draft: Draft,
-    pub(crate) total: Option<u128>,
+    /// True if the text is read as one of version 2.
+    pub(crate) is_second: bool,
+    pub(crate) size: usize,
+    pub(crate) categories: Vec<Entry<'a>>,
+    /// The values of each category.
+    pub(crate) values: Vec<Vec<Entry<'a>>>,
+    pub(crate) volunteers: Vec<Entry<'a>>,
+    /// The number of the volunteer of the last household line, plus 1, or 0 if there is none yet; then the same for `seated` and `gone`.
+    pub(crate) passed_households: usize,
+    pub(crate) passed_standings: usize,
+    pub(crate) total: i128,
     /// The sum of the weights of the panels.
-    pub(crate) sum: u128,
+    pub(crate) sum: i128,
     pub(crate) panels: usize,
     pub(crate) stages: usize,
-    /// The number of the tree that is being read.
-    pub(crate) tree: usize,
-    pub(crate) splits: usize,
-    pub(crate) leaves: usize,
+    /// The number of the first faulty line, as the exact readers found it, and how many faulty lines from there on are told.
+    pub(crate) first: usize,
+    pub(crate) told: usize,
 }
 
-impl Reading {
-    pub(crate) fn new(alloc: Global, form: Form) -> Reading {
+impl<'a> Reading<'a> {
+    pub(crate) fn new(alloc: Global, first: usize) -> Reading<'a> {
         Reading {
-            form,
-            place: Place::First,
-            has_bundle: form == Form::Bundle,
-            draft: Draft::new(alloc),
-            total: None,
+            alloc,
+            form: &FORMS[POOL],
+            place: Place::FirstLine,
+            is_lost: false,
+            returns: 0,
+            tabs: 0,
+            has_bundle: false,
+            is_second: false,
+            size: 0,
+            categories: Vec::new(alloc),
+            values: Vec::new(alloc),
+            volunteers: Vec::new(alloc),
+            passed_households: 0,
+            passed_standings: 0,
+            total: 0,
             sum: 0,
             panels: 0,
             stages: 0,
-            tree: 0,
-            splits: 0,
-            leaves: 0,
+            first,
+            told: 0,
         }
     }
 
-    /// Takes the next line, of this number and with these fields, and returns what is wrong with it.
-    pub(crate) fn take(
-        &mut self,
-        alloc: Global,
-        number: usize,
-        line: &[u8],
-        fields: &[&[u8]],
-    ) -> Result<Option<Flaw>, AllocError> {
-        match self.place {
-            Place::First => Ok(self.take_first(line, fields)),
-            Place::ProofSecond => Ok(self.take_second(line, fields)),
-            Place::PoolFirst => Ok(self.take_pool_first(line)),
-            Place::Size => self.take_size(alloc, number, fields),
-            Place::Entries => self.take_entry(alloc, number, line, fields),
-            Place::PoolEnded => Ok(self.take_after_pool(line, fields)),
-            Place::Rows | Place::Stages => Ok(self.take_row(fields)),
-            Place::Done => Ok(self.take_after_done(line)),
-            Place::NoneSaid => Ok(self.take_none_tree(line)),
-            Place::Trees => Ok(self.take_in_tree(fields)),
-            Place::Closed => {
-                self.place = Place::Lost;
-                Ok(Some(Flaw::Follows(23)))
-            }
-            Place::Lost => Ok(None),
-        }
+    /// True if the text is a proof.
+    pub(crate) fn is_proof(&self) -> bool {
+        matches!(self.form.word, Word::Proof)
     }
 
-    /// Takes the first line. If it isn't right, reads on by what it seems meant to be.
-    fn take_first(&mut self, line: &[u8], fields: &[&[u8]]) -> Option<Flaw> {
-        let kind = match self.form {
-            Form::Pool => 1,
-            Form::Bundle => 13,
-            Form::Proof => 21,
+    /// Takes the next line, of this number and without its LF. Returns words on what is wrong with it. If it isn't expected here, but soon,
+    /// takes it as if the lines before it were only missing.
+    pub(crate) fn take(&mut self, number: usize, raw: &'a [u8]) -> Checked {
+        let line = raw.strip_suffix(b"\r").unwrap_or(raw);
+        let field = before(line, b'\t');
+        let mut word = field;
+        if form_like(field).is_none() {
+            word = before(field, b' ');
+        }
+        let Some(form) = form_like(word) else {
+            return self.refuse(field, false);
         };
-        let first = fields.first().map_or(line, |field| *field);
-        let word = word_like(first).or(word_like(first_part(first)));
-        self.draft.second = line.ends_with(b"2");
-        match word {
-            Some(Word::Pool) => {
-                self.form = Form::Pool;
-                self.place = Place::Size;
+        let here = self.place as usize;
+        let first = form.first as usize;
+        let is_here = first <= here && here <= form.last as usize;
+        let may_come = first <= Place::Entries as usize
+            || self.has_bundle && first <= Place::Stages as usize
+            || self.is_proof() && Place::None as usize <= first;
+        let is_soon = may_come && here < first && first <= here.saturating_add(MOST_SKIPPED);
+        if !is_here && !is_soon {
+            return self.refuse(field, false);
+        }
+        let unexpected = if is_soon {
+            self.refuse(field, true)?
+        } else {
+            self.check_spelling(form, field, word)?
+        };
+        let mut rest = Vec::new(self.alloc);
+        if word.len() < line.len() {
+            rest = fields(self.alloc, &line[word.len() + 1..])?;
+        }
+        let ends = self.check_ends(form, &mut rest, line.len() < raw.len())?;
+        let checked = self.check_fields(form, &rest)?;
+        self.note(number, form, rest)?;
+        match ends.or(unexpected).or(checked) {
+            None => self.check_text(line),
+            words => Ok(words),
+        }
+    }
+
+    /// Returns words on a line that begins with this field and isn't expected here, but soon if `is_soon`.
+    fn refuse(&mut self, field: &[u8], is_soon: bool) -> Checked {
+        let (comes, _) = self.place.words();
+        let shown = Shown(field);
+        let is_entry = matches!(self.place, Place::Entries);
+        let is_ended = matches!(self.place, Place::Nothing);
+        let is_edge = is_ended || matches!(self.place, Place::FirstLine | Place::SecondOfProof);
+        self.is_lost = is_edge && !is_soon;
+        answer! { self.alloc;
+            is_ended => "{comes}";
+            is_entry && is_soon => "the line \"end\" of the pool is missing before this one";
+            field.is_empty() => "the line is empty: {comes}";
+            is_entry => "{shown} begins no line of a pool here: {comes}";
+            true => "{shown} isn't expected here: {comes}";
+        }
+        Ok(None)
+    }
+
+    /// Removes empty fields at the end of a line that are more than it needs. Returns words on the first line with such fields, and on the
+    /// first that ends with a carriage return.
+    fn check_ends(&mut self, form: &LineForm, rest: &mut Fields<'a>, has_return: bool) -> Checked {
+        let more = match form.word {
+            Word::Volunteer => self.categories.len(),
+            Word::Stage => self.volunteers.len(),
+            _ => 0,
+        };
+        let mut kept = form.fields.len().saturating_add(more);
+        for (i, field) in rest.iter().enumerate() {
+            if !field.is_empty() {
+                kept = kept.max(i.saturating_add(1));
             }
-            Some(Word::Bundle) => {
-                self.form = Form::Bundle;
+        }
+        let has_tab = kept < rest.len();
+        rest.truncate(kept);
+        self.returns = self.returns.saturating_add(usize::from(has_return));
+        self.tabs = self.tabs.saturating_add(usize::from(has_tab));
+        answer! { self.alloc;
+            has_return && self.returns == 1 => "the line ends with a carriage return (CR LF, as Windows ends lines): save the file with line ends of Unix, LF alone";
+            has_tab && self.tabs == 1 => "the line ends with a TAB, which begins one more field, an empty one: remove the TABs at the ends of lines";
+        }
+        Ok(None)
+    }
+
+    /// Goes on to the place after a line of this form, and notes what the line gives.
+    fn note(&mut self, number: usize, form: &'static LineForm, rest: Fields<'a>) -> Done {
+        let name = first_of(&rest);
+        let weight = signed_number(name).unwrap_or(0);
+        match form.word {
+            Word::Proof => self.form = form,
+            Word::Bundle => {
+                self.form = if self.is_proof() { self.form } else { form };
                 self.has_bundle = true;
-                self.place = Place::PoolFirst;
+                self.is_second = name == SECOND;
             }
-            Some(Word::Proof) => {
-                self.form = Form::Proof;
-                self.place = Place::ProofSecond;
+            Word::Pool if !self.has_bundle => self.is_second = name == SECOND,
+            Word::Size => self.size = number_at(&rest, 0),
+            Word::Total => self.total = weight,
+            Word::Panel => {
+                self.panels = self.panels.saturating_add(1);
+                self.sum = self.sum.saturating_add(weight);
             }
-            Some(Word::Size) if self.form == Form::Pool => self.place = Place::Entries,
-            _ => self.place = Place::Lost,
+            Word::Stage => self.stages = self.stages.saturating_add(1),
+            _ => self.note_entry(number, form, rest)?,
         }
-        let right = match self.form {
-            Form::Pool => line == FIRST_POOL || line == SECOND_POOL,
-            Form::Bundle => line == FIRST_BUNDLE || line == SECOND_BUNDLE,
-            Form::Proof => line == PROOF,
+        self.place = match form.next {
+            Place::Total if self.has_bundle => Place::Total,
+            Place::Total if self.is_proof() => Place::None,
+            Place::Total => Place::Nothing,
+            Place::FirstTree if !self.is_proof() => Place::Nothing,
+            next => next,
         };
-        if right {
-            None
-        } else {
-            Some(Flaw::FirstLine(kind))
-        }
+        Ok(())
     }
 
-    /// Takes the second line of a proof, which begins a bundle or a pool.
-    fn take_second(&mut self, line: &[u8], fields: &[&[u8]]) -> Option<Flaw> {
-        let first = fields.first().map_or(line, |field| *field);
-        self.draft.second = line.ends_with(b"2");
-        match word_like(first).or(word_like(first_part(first))) {
-            Some(Word::Bundle) => {
-                self.has_bundle = true;
-                self.place = Place::PoolFirst;
-            }
-            Some(Word::Pool) => self.place = Place::Size,
-            _ => self.place = Place::Lost,
-        }
-        let right = line == FIRST_BUNDLE
-            || line == SECOND_BUNDLE
-            || line == FIRST_POOL
-            || line == SECOND_POOL;
-        if right { None } else { Some(Flaw::ProofSecond) }
-    }
-
-    /// Takes the first line of a bundle's pool, which has the version of the bundle.
-    fn take_pool_first(&mut self, line: &[u8]) -> Option<Flaw> {
-        self.place = Place::Size;
-        let right = if self.draft.second {
-            line == SECOND_POOL
-        } else {
-            line == FIRST_POOL
+    /// Notes what a line between the size and the end of a pool gives.
+    fn note_entry(&mut self, line: usize, form: &LineForm, fields: Fields<'a>) -> Done {
+        let name = first_of(&fields);
+        let last = fields.last().copied();
+        let standing = form.word;
+        let entry = Entry {
+            line,
+            fields,
+            household: None,
+            standing,
         };
-        if right {
-            None
-        } else {
-            Some(Flaw::PoolOfBundle)
-        }
-    }
-
-    /// Takes the line of the size. Another line of a pool is taken too, as if the size were only missing.
-    fn take_size(
-        &mut self,
-        alloc: Global,
-        number: usize,
-        fields: &[&[u8]],
-    ) -> Result<Option<Flaw>, AllocError> {
-        self.place = Place::Entries;
-        let Some((first, rest)) = fields.split_first() else {
-            return Ok(Some(Flaw::Size));
-        };
-        if *first == SIZE {
-            if let [field] = rest {
-                self.draft.size = number_up_to(MAX_SIZE, field).filter(|size| 1 <= *size);
+        let is_early = self.volunteers.is_empty();
+        let known = place_of(&self.volunteers, name);
+        match (standing, known) {
+            (Word::Category, _) if is_early && place_of(&self.categories, name).is_none() => {
+                self.categories.push(entry)?;
+                self.values.push(Vec::new(self.alloc))?;
             }
-            return Ok(match self.draft.size {
-                Some(_) => None,
-                None => Some(Flaw::Size),
-            });
-        }
-        if let Some(word) = word_of(first) {
-            self.take_word(alloc, number, word, rest)?;
-        }
-        Ok(Some(Flaw::Size))
-    }
-
-    /// Takes a line between the size and the pool's end.
-    fn take_entry(
-        &mut self,
-        alloc: Global,
-        number: usize,
-        line: &[u8],
-        fields: &[&[u8]],
-    ) -> Result<Option<Flaw>, AllocError> {
-        let Some((first, rest)) = fields.split_first() else {
-            return Ok(Some(Flaw::Word));
-        };
-        if let Some(word) = word_of(first) {
-            let flaw = self.take_word(alloc, number, word, rest)?;
-            return Ok(flaw.or(text_flaw(line)));
-        }
-        if let Some(word) = word_like(first) {
-            let _ = self.take_word(alloc, number, word, rest)?;
-            return Ok(Some(Flaw::WordSpelling));
-        }
-        self.take_blank_for_tab(alloc, number, first, rest)
-    }
-
-    /// Takes a line whose first field is no word. If the field is a word with a blank after it where a TAB should be, takes the line as if
-    /// it had this TAB.
-    fn take_blank_for_tab<'a>(
-        &mut self,
-        alloc: Global,
-        number: usize,
-        first: &'a [u8],
-        rest: &[&'a [u8]],
-    ) -> Result<Option<Flaw>, AllocError> {
-        let part = first_part(first);
-        match word_like(part) {
-            Some(word) if part.len() < first.len() => {
-                let mut fields = Vec::new(alloc);
-                fields.push(&first[part.len() + 1..])?;
-                fields.extend_from_slice(rest)?;
-                let _ = self.take_word(alloc, number, word, &fields)?;
-                Ok(Some(Flaw::BlankForTab))
+            (Word::Value, _) if is_early => {
+                if let Some(values) = self.values.last_mut()
+                    && place_of(values, name).is_none()
+                {
+                    values.push(entry)?;
+                }
             }
-            _ => Ok(Some(Flaw::Word)),
-        }
-    }
-
-    /// Takes a line of a pool by its word.
-    fn take_word(
-        &mut self,
-        alloc: Global,
-        number: usize,
-        word: Word,
-        rest: &[&[u8]],
-    ) -> Result<Option<Flaw>, AllocError> {
-        if word.is_of_answer() && self.has_bundle {
-            self.place = Place::PoolEnded;
-            let _ = self.take_total(Some(word), rest);
-            return Ok(Some(Flaw::EndBefore));
-        }
-        if !word.is_of_entry() {
-            return Ok(Some(Flaw::Word));
-        }
-        let flaw = take_entry(alloc, &mut self.draft, number, word, rest)?;
-        if word == Word::End {
-            self.place = Place::PoolEnded;
-        }
-        Ok(flaw)
-    }
-
-    /// Takes the line after the pool's end: a pool has none, a bundle has the total there, and a proof about a pool alone has `none`.
-    fn take_after_pool(&mut self, line: &[u8], fields: &[&[u8]]) -> Option<Flaw> {
-        if self.has_bundle {
-            return match fields.split_first() {
-                Some((first, rest)) => self.take_total(word_of(first), rest),
-                None => self.take_total(None, fields),
-            };
-        }
-        if self.form == Form::Pool {
-            self.place = Place::Lost;
-            return Some(Flaw::Follows(1));
-        }
-        self.place = Place::NoneSaid;
-        if line == NONE {
-            None
-        } else {
-            Some(Flaw::NoneAwaited)
-        }
-    }
-
-    /// Takes the line of the total. Another line of a bundle is taken too, as if the total were only missing.
-    fn take_total(&mut self, word: Option<Word>, rest: &[&[u8]]) -> Option<Flaw> {
-        self.place = Place::Rows;
-        match (word, rest) {
-            (Some(Word::Total), [field]) => self.total = weight_of(field),
-            (Some(word), _) => {
-                let _ = self.take_answer(word, rest);
+            (Word::Volunteer, None) => self.volunteers.push(entry)?,
+            (Word::Household, Some(number)) => {
+                self.is_second = true;
+                self.passed_households = number.saturating_add(1);
+                if let Some(volunteer) = self.volunteers.get_mut(number) {
+                    volunteer.household = last;
+                }
+            }
+            (Word::Seated | Word::Gone, Some(number)) => {
+                self.is_second = self.is_second && 0 < self.passed_households;
+                self.passed_standings = number.saturating_add(1);
+                if let Some(volunteer) = self.volunteers.get_mut(number) {
+                    volunteer.standing = standing;
+                }
             }
             _ => {}
         }
-        match self.total {
-            Some(_) => None,
-            None => Some(Flaw::Total),
-        }
-    }
-
-    /// Takes a line after the total.
-    fn take_row(&mut self, fields: &[&[u8]]) -> Option<Flaw> {
-        let Some((first, rest)) = fields.split_first() else {
-            return Some(self.row_flaw(Cause::Word));
-        };
-        match word_of(first) {
-            Some(word) => self.take_answer(word, rest),
-            None => Some(self.row_flaw(Cause::Word)),
-        }
-    }
-
-    /// Takes a line of a panel, a stage or the end of a bundle, and returns what is wrong with it.
-    fn take_answer(&mut self, word: Word, rest: &[&[u8]]) -> Option<Flaw> {
-        match word {
-            Word::Panel if self.place == Place::Rows => {
-                self.count_panel(rest);
-                panel_cause(self.draft.all_volunteers, rest).map(Flaw::Row)
-            }
-            Word::Stage => self.take_stage(rest),
-            Word::Done if rest.is_empty() => {
-                let flaw = self.row_flaw(Cause::Word);
-                let is_right = self.place == Place::Stages;
-                self.place = Place::Done;
-                if is_right { None } else { Some(flaw) }
-            }
-            _ => Some(self.row_flaw(Cause::Word)),
-        }
-    }
-
-    /// Takes the line of a stage.
-    fn take_stage(&mut self, rest: &[&[u8]]) -> Option<Flaw> {
-        let is_early = self.place == Place::Rows && self.panels == 0;
-        self.place = Place::Stages;
-        self.stages = self.stages.saturating_add(1);
-        if is_early {
-            return Some(Flaw::Row(Cause::Word));
-        }
-        stage_cause(self.draft.all_volunteers, rest).map(Flaw::Stage)
-    }
-
-    /// Counts the panel of a line, and adds its weight.
-    fn count_panel(&mut self, rest: &[&[u8]]) {
-        self.panels = self.panels.saturating_add(1);
-        if let Some(weight) = rest.first().and_then(|field| weight_of(field)) {
-            self.sum = self.sum.saturating_add(weight);
-        }
-    }
-
-    /// Returns the flaw of a line after the total: `Stage` after a stage, else `Row`.
-    fn row_flaw(&self, cause: Cause) -> Flaw {
-        if self.place == Place::Stages {
-            Flaw::Stage(cause)
-        } else {
-            Flaw::Row(cause)
-        }
-    }
-
-    /// Takes the line after `done`: a bundle has none, and a proof has the line of the first tree there.
-    fn take_after_done(&mut self, line: &[u8]) -> Option<Flaw> {
-        if self.form == Form::Bundle {
-            self.place = Place::Lost;
-            return Some(Flaw::Follows(17));
-        }
-        self.place = Place::Trees;
-        self.tree = 1;
-        if line == FIRST_TREE {
-            None
-        } else {
-            Some(Flaw::FirstTree)
-        }
-    }
-
-    /// Takes the line after `none`.
-    fn take_none_tree(&mut self, line: &[u8]) -> Option<Flaw> {
-        self.place = Place::Trees;
-        if line == NO_PANEL_TREE {
-            None
-        } else {
-            Some(Flaw::NoPanelTree)
-        }
-    }
-
-    /// Takes a line in a tree.
-    fn take_in_tree(&mut self, fields: &[&[u8]]) -> Option<Flaw> {
-        let Some((first, rest)) = fields.split_first() else {
-            return Some(Flaw::Tree(Cause::Word));
-        };
-        let cause = match word_of(first) {
-            Some(Word::Split) => {
-                self.splits = self.splits.saturating_add(1);
-                split_cause(self.draft.all_volunteers, rest)
-            }
-            Some(Word::Bound) => {
-                self.leaves = self.leaves.saturating_add(1);
-                bound_cause(rest)
-            }
-            Some(Word::Tree) => self.take_tree(rest),
-            Some(Word::Close) => self.take_close(rest),
-            _ => Some(Cause::Word),
-        };
-        cause.map(Flaw::Tree)
-    }
-
-    /// Takes the line that begins the next tree.
-    fn take_tree(&mut self, rest: &[&[u8]]) -> Option<Cause> {
-        let next = self.tree.saturating_add(1);
-        let is_next = match rest {
-            [field] => number_up_to(MOST_TREES, field) == Some(next),
-            _ => false,
-        };
-        let may_come = is_next && self.has_bundle && next <= self.stages;
-        self.tree = if is_next { next } else { self.tree };
-        if may_come { None } else { Some(Cause::Count) }
-    }
-
-    /// Takes the last line of a proof.
-    fn take_close(&mut self, rest: &[&[u8]]) -> Option<Cause> {
-        self.place = Place::Closed;
-        let is_last = !self.has_bundle || self.tree == self.stages;
-        if rest.is_empty() && is_last {
-            None
-        } else {
-            Some(Cause::Count)
-        }
-    }
-
-    /// Returns the flaw of a text that ends here, or None if the text is complete, or if no further line is read.
-    pub(crate) fn end_flaw(&self) -> Option<Flaw> {
-        match (self.form, self.place) {
-            (_, Place::Lost) => None,
-            (Form::Pool, Place::PoolEnded) => None,
-            (Form::Bundle, Place::Done) => None,
-            (Form::Proof, Place::Closed) => None,
-            _ => Some(Flaw::Ends(self.end_kind())),
-        }
-    }
-
-    /// Returns the kind of fault if the text ends here.
-    pub(crate) fn end_kind(&self) -> u8 {
-        match self.place {
-            Place::Lost => 0,
-            Place::First if self.form == Form::Pool => 12,
-            Place::First if self.form == Form::Bundle => 17,
-            Place::First | Place::ProofSecond => 23,
-            Place::PoolFirst | Place::Size | Place::Entries => 12,
-            Place::PoolEnded if self.has_bundle => 17,
-            Place::PoolEnded if self.form == Form::Pool => 1,
-            Place::Rows | Place::Stages => 17,
-            Place::Done if self.form == Form::Bundle => 17,
-            _ => 23,
-        }
+        Ok(())
     }
 }
 
-/// Returns the bytes up to the first blank.
-fn first_part(field: &[u8]) -> &[u8] {
-    match field.iter().position(|byte| *byte == b' ') {
-        Some(end) => &field[..end],
-        None => field,
+/// Returns the first field, or no bytes if there is none.
+pub(crate) fn first_of<'a>(fields: &[&'a [u8]]) -> &'a [u8] {
+    match fields.first() {
+        Some(field) => field,
+        None => b"",
     }
 }
 
-/// Returns a flaw if the line isn't UTF-8.
-fn text_flaw(line: &[u8]) -> Option<Flaw> {
-    if str::from_utf8(line).is_ok() {
-        None
-    } else {
-        Some(Flaw::NotUtf8)
+/// Returns the place of the entry of this name or id, if there is one.
+pub(crate) fn place_of(entries: &[Entry], name: &[u8]) -> Option<usize> {
+    for (place, entry) in entries.iter().enumerate() {
+        if first_of(&entry.fields) == name {
+            return Some(place);
+        }
+    }
+    None
+}
+
+/// Returns the number that the field at this place spells, or 0 if there is none.
+pub(crate) fn number_at(fields: &[&[u8]], place: usize) -> usize {
+    match fields.get(place) {
+        Some(field) => number_up_to(usize::MAX, field).unwrap_or(0),
+        None => 0,
     }
 }

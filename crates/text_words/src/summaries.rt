@@ -1,149 +1,114 @@
-//! Says in words what a right text holds.
+//! Says in words what a right text holds, with hints on what is allowed but often a mistake.
 
-use crate::drafts::{Category, Draft, Standing};
-use crate::flaw_words::form_name;
-use crate::hints::push_hints;
-use crate::reading::{Form, Reading};
-use crate::showing::{by_number, shown};
+use crate::forms::Word;
+use crate::reading::{Entry, Reading, first_of, number_at};
+use crate::rows::{Done, say};
+use crate::showing::{Counted, Shown};
 use std::alloc::{AllocError, Global};
-use text_lines::fields;
 
-/// Says what the bytes hold, which are a right text of this form.
-pub(crate) fn summary(alloc: Global, bytes: &[u8], form: Form) -> Result<String, AllocError> {
-    let mut reading = Reading::new(alloc, form);
-    let mut number: usize = 0;
+/// Says what the bytes hold, which are a right text.
+pub(crate) fn summary(alloc: Global, bytes: &[u8]) -> Result<String, AllocError> {
+    let mut reading = Reading::new(alloc, 0);
     for line in bytes.split(|byte| *byte == b'\n') {
-        number = number.saturating_add(1);
-        let fields = fields(alloc, line)?;
         if !line.is_empty() {
-            let _ = reading.take(alloc, number, line, &fields)?;
+            let _ = reading.take(0, line)?;
         }
     }
     let mut text = String::new(alloc);
-    let name = form_name(form);
-    let version = if reading.draft.second { 2 } else { 1 };
-    if form == Form::Proof {
-        writeln!(text, "This is a proof, and each of its lines is right.")?;
-    } else {
-        writeln!(
-            text,
-            "This is a {name} of version {version}, and each of its lines is right."
-        )?;
+    let form = reading.form.spelling;
+    let version = if reading.is_second { 2 } else { 1 };
+    let is_proof = reading.is_proof();
+    say! { text;
+        is_proof => "This is a proof, and each of its lines is right.";
+        !is_proof => "This is a {form} of version {version}, and each of its lines is right.";
     }
-    push_pool(alloc, &mut text, &reading.draft)?;
-    push_answer(&mut text, &reading)?;
-    push_hints(alloc, &mut text, &reading)?;
+    push_pool(&mut text, &reading)?;
+    for (i, values) in reading.values.iter().enumerate() {
+        push_category(&mut text, &reading, i, values)?;
+    }
+    let panels = Counted(reading.panels, "panel", "panels");
+    let stages = Counted(reading.stages, "stage", "stages");
+    let total = reading.total;
+    let sum = reading.sum;
+    let has_bundle = reading.has_bundle;
+    say! { text;
+        has_bundle => "Its lottery has {panels} and the total {total}; its certificate has {stages}.";
+        total != sum => "Hint: the weights of the panels sum to {sum}, and the total is {total}: draw, dice, tickets and chances refuse this.";
+        is_proof && !has_bundle => "It is to show that no panel meets the quotas.";
+        is_proof => "Whether it is valid, `verify` says: ./sortition verify < FILE";
+        has_bundle && !is_proof => "Whether its lottery is the right one, `check` says, or `prove` and then `verify`.";
+    }
     Ok(text)
 }
 
-/// Says what the pool holds.
-fn push_pool(alloc: Global, text: &mut String, draft: &Draft) -> Result<(), AllocError> {
-    let volunteers = draft.volunteers.len();
-    let size = draft.size.unwrap_or(0);
-    let seated = number_with(draft, Standing::Seated);
-    let gone = number_with(draft, Standing::Gone);
-    let people = by_number(volunteers, "volunteer", "volunteers");
-    writeln!(
-        text,
-        "The pool has {volunteers} {people} for a panel of {size}."
-    )?;
-    if 0 < seated || 0 < gone {
-        writeln!(text, "Seated: {seated}; gone: {gone}.")?;
+/// Says how many volunteers the pool has, and what is odd about their number and their households.
+fn push_pool(text: &mut String, reading: &Reading) -> Done {
+    let mut seated: usize = 0;
+    let mut gone: usize = 0;
+    let mut housed: usize = 0;
+    for volunteer in reading.volunteers.iter() {
+        seated = seated.saturating_add(usize::from(matches!(volunteer.standing, Word::Seated)));
+        gone = gone.saturating_add(usize::from(matches!(volunteer.standing, Word::Gone)));
+        housed = housed.saturating_add(usize::from(volunteer.household.is_some()));
     }
-    if draft.second {
-        let housed = draft
-            .volunteers
-            .iter()
-            .filter(|volunteer| volunteer.household.is_some())
-            .count();
-        writeln!(
-            text,
-            "With a household: {housed}; no two of one household are on a panel."
-        )?;
+    let size = reading.size;
+    let all = reading.volunteers.len();
+    let left = all.saturating_sub(gone);
+    let volunteers = Counted(all, "volunteer", "volunteers");
+    say! { text;
+        true => "The pool has {volunteers} for a panel of {size}.";
+        0 < seated || 0 < gone => "Seated: {seated}; gone: {gone}.";
+        left < size => "Hint: a panel of {size} is wanted, and only {left} of the volunteers aren't gone.";
+        size < seated => "Hint: {seated} are seated, and the panel is of {size} only.";
+        reading.is_second => "With a household: {housed}; no two of one household are on a panel.";
     }
-    for (place, category) in draft.categories.iter().enumerate() {
-        push_category(alloc, text, draft, place, category)?;
-    }
-    Ok(())
-}
-
-/// Returns how many volunteers have this standing.
-pub(crate) fn number_with(draft: &Draft, standing: Standing) -> usize {
-    draft
-        .volunteers
-        .iter()
-        .filter(|volunteer| volunteer.standing == standing)
-        .count()
-}
-
-/// Says what the bounds of a category's values are, and how many volunteers who aren't gone have each value.
-fn push_category(
-    alloc: Global,
-    text: &mut String,
-    draft: &Draft,
-    place: usize,
-    category: &Category,
-) -> Result<(), AllocError> {
-    let name = shown(alloc, &category.name)?;
-    let values = category.values.len();
-    let of = by_number(values, "value", "values");
-    writeln!(text, "Category {name} has {values} {of}:")?;
-    for (i, value) in category.values.iter().enumerate() {
-        let name = shown(alloc, &value.name)?;
-        let lower = value.lower.unwrap_or(0);
-        let upper = value.upper.unwrap_or(0);
-        let having = number_having(draft, place, i);
-        writeln!(
-            text,
-            "  {name}: {lower} to {upper} members; {having} who aren't gone have it."
-        )?;
+    for (i, volunteer) in reading.volunteers.iter().enumerate() {
+        let name = volunteer.household;
+        let mut others: usize = 0;
+        for earlier in reading.volunteers.iter().take(i) {
+            others = others.saturating_add(usize::from(earlier.household == name));
+        }
+        let household = Shown(name.unwrap_or(b""));
+        say! { text; name.is_some() && others == 9 => "Hint: household {household} has 10 members or more, of whom at most one can be chosen. Is it a household?"; }
     }
     Ok(())
 }
 
-/// Returns how many volunteers who aren't gone have the value at `value_place` of the category at `place`.
-pub(crate) fn number_having(draft: &Draft, place: usize, value_place: usize) -> usize {
-    draft
-        .volunteers
-        .iter()
-        .filter(|volunteer| {
-            volunteer.standing != Standing::Gone
-                && volunteer.values.get(place).copied() == Some(Some(value_place))
-        })
-        .count()
-}
-
-/// Says what a bundle or a proof holds apart from its pool.
-fn push_answer(text: &mut String, reading: &Reading) -> Result<(), AllocError> {
-    let panels = reading.panels;
-    let total = reading.total.unwrap_or(0);
-    let stages = reading.stages;
-    let splits = reading.splits;
-    let leaves = reading.leaves;
-    if reading.has_bundle {
-        let many = by_number(panels, "panel", "panels");
-        let parts = by_number(stages, "stage", "stages");
-        writeln!(
-            text,
-            "Its lottery has {panels} {many} and the total {total}; its certificate has {stages} {parts}."
-        )?;
-    } else if reading.form == Form::Proof {
-        writeln!(text, "It is to show that no panel meets the quotas.")?;
+/// Says what the bounds of a category's values are, and how many volunteers who aren't gone have each value; and what is odd about these.
+fn push_category(text: &mut String, reading: &Reading, place: usize, values: &[Entry]) -> Done {
+    let name = match reading.categories.get(place) {
+        Some(category) => Shown(first_of(&category.fields)),
+        None => Shown(b""),
+    };
+    let number = Counted(values.len(), "value", "values");
+    let mut least: usize = 0;
+    let mut most: usize = 0;
+    say! { text; true => "Category {name} has {number}:"; }
+    for value in values {
+        let value_name = first_of(&value.fields);
+        let lower = number_at(&value.fields, 1);
+        let upper = number_at(&value.fields, 2);
+        least = least.saturating_add(lower);
+        most = most.saturating_add(upper);
+        let mut having: usize = 0;
+        for volunteer in reading.volunteers.iter() {
+            let given = volunteer.fields.get(place.saturating_add(1));
+            let is_gone = matches!(volunteer.standing, Word::Gone);
+            let has = !is_gone && given == Some(&value_name);
+            having = having.saturating_add(usize::from(has));
+        }
+        let shown = Shown(value_name);
+        say! { text;
+            true => "  {shown}: {lower} to {upper} members; {having} who aren't gone have it.";
+            having < lower => "Hint: {shown} of {name} is asked of at least {lower} on the panel, and only {having} who aren't gone have it.";
+            value_name.trim_ascii().len() < value_name.len() => "Hint: the name {shown} has a blank at an end.";
+        }
     }
-    if reading.form == Form::Proof {
-        writeln!(
-            text,
-            "Lines of its trees: {splits} \"split\", {leaves} \"bound\"."
-        )?;
-        writeln!(
-            text,
-            "Whether it is valid, `verify` says: ./sortition verify < FILE"
-        )?;
-    } else if reading.form == Form::Bundle {
-        writeln!(
-            text,
-            "Whether its lottery is the right one, `check` says, or `prove` and then `verify`."
-        )?;
+    let size = reading.size;
+    let has_values = !values.is_empty();
+    say! { text;
+        size < least => "Hint: the lower bounds of {name} sum to {least}, above the size {size}, so no panel meets them.";
+        has_values && most < size => "Hint: the upper bounds of {name} sum to {most}, below the size {size}, so no panel meets them.";
     }
     Ok(())
 }
