@@ -9,3 +9,4 @@ pub mod SolvedRounds
 pub mod StorePromises
 pub mod KeptRounds
 pub mod ProofPromises
+pub mod Records

@@ -7,6 +7,7 @@ ghost use Rattle.std.specs.Prelude.{ℕ, List};
 ghost use Rattle.command_desk.specs.DeskTold.{DeskTold};
 ghost use Rattle.command_asked.specs.Office.{OfficeIsRight};
 ghost use Rattle.command_headline.specs.Headline.{Headline, TellsNothingOfOthers, WorkersChangeNothing};
+ghost use Rattle.command_headline.specs.Records.{CallsAreRecorded};
 
 use office_desk::desk_is_isolated;
 
@@ -27,3 +28,9 @@ pub fn volunteers_are_isolated()
 {
     desk_is_isolated();
 }
+
+/// Over any list of calls of `office`, each of which finds the tables of the store as the one before left them, from the first tables on,
+/// the tables are the fold of the commands that the calls did. So the lottery of each bundle that they keep is leximin greatest.
+pub fn calls_are_recorded()
+    ensures { CallsAreRecorded }
+{}
