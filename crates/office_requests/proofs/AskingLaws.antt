@@ -29,7 +29,8 @@ ended (Some told) (Some rest) front asking read none h = (front, sym (read ∙ a
 
 -- ---- without a head
 
-full : (bytes more : List ℕ) → length bytes ≡ most_of_head → head_size bytes ≡ None → desk.AreAsking (bytes ++ more) desk.TooLarge
+-- `most_of_head` bytes without a head are too large, whatever follows
+pub full : (bytes more : List ℕ) → length bytes ≡ most_of_head → head_size bytes ≡ None → desk.AreAsking (bytes ++ more) desk.TooLarge
 full bytes more all none =
     let test : nat_le most_of_head (length (bytes ++ more)) ≡ true = grind (arith, nat_tests, length-append bytes more) in
     desk.Headless (whole_head-full bytes more all none) (ap (λ t. cond t desk.TooLarge desk.NoRequest) (sym test))
@@ -37,7 +38,8 @@ full bytes more all none =
 pub asked_too_much : (old new : Option (List ℕ)) (bytes : List ℕ) → Consumes old new bytes → length bytes ≡ most_of_head → head_size bytes ≡ None → IsAskedOver old desk.TooLarge
 asked_too_much old new bytes read all none = decided old new bytes desk.TooLarge read (λ more. full bytes more all none)
 
-short : (bytes : List ℕ) → length bytes < most_of_head → head_size bytes ≡ None → desk.AreAsking bytes desk.NoRequest
+-- fewer bytes without a head ask for nothing, if they are all
+pub short : (bytes : List ℕ) → length bytes < most_of_head → head_size bytes ≡ None → desk.AreAsking bytes desk.NoRequest
 short bytes few none =
     let test : nat_le most_of_head (length bytes) ≡ false = grind (arith, nat_tests) in
     desk.Headless (whole_head-none bytes (omega arith) none) (ap (λ t. cond t desk.TooLarge desk.NoRequest) (sym test))
@@ -68,18 +70,22 @@ asked_by_head old new bytes size asking read few found asks =
     decided old new bytes asking read (λ more. headed bytes more size asking few found (asks (drop size bytes ++ more)))
 
 -- the same as `headed`, if `body` was read after `bytes`, and `more` follow
-after_body : (bytes body more : List ℕ) (size : ℕ) (asking : desk.Asking) → length bytes ≤ most_of_head → head_size bytes ≡ Some size
+pub after_body : (bytes body more : List ℕ) (size : ℕ) (asking : desk.Asking) → length bytes ≤ most_of_head → head_size bytes ≡ Some size
     → AskTogether (take size bytes) (drop size bytes ++ (body ++ more)) asking → desk.AreAsking ((bytes ++ body) ++ more) asking
 after_body bytes body more size asking few found asks =
     let P : List ℕ → Type 0 = λ all. desk.AreAsking all asking in
     subst P (sym (append_assoc bytes body more)) (headed bytes (body ++ more) size asking few found asks)
 
+-- how many bytes follow the head
+pub size_after : (bytes body more : List ℕ) (size : ℕ) → length (drop size bytes ++ (body ++ more)) ≡ length bytes - size + (length body + length more)
+size_after bytes body more size =
+    length-append (drop size bytes) (body ++ more) ∙ ap (λ n. n + length (body ++ more)) (length-drop size bytes) ∙ ap (λ n. length bytes - size + n) (length-append body more)
+
 enough_asks : (bytes body more : List ℕ) (size count : ℕ) (request : desk.Request)
     → AskTogether (take size bytes) (drop size bytes ++ (body ++ more)) (cond (nat_lt (length (drop size bytes ++ (body ++ more))) count) desk.NoRequest (desk.Asks request))
     → count ≤ length bytes - size + length body → AskTogether (take size bytes) (drop size bytes ++ (body ++ more)) (desk.Asks request)
 enough_asks bytes body more size count request asks enough =
-    let sizes : length (drop size bytes ++ (body ++ more)) ≡ length bytes - size + (length body + length more) =
-    length-append (drop size bytes) (body ++ more) ∙ ap (λ n. n + length (body ++ more)) (length-drop size bytes) ∙ ap (λ n. length bytes - size + n) (length-append body more) in
+    let sizes = size_after bytes body more size in
     let test : nat_lt (length (drop size bytes ++ (body ++ more))) count ≡ false = grind (arith, nat_tests) in
     let P : desk.Asking → Type 0 = λ asking. AskTogether (take size bytes) (drop size bytes ++ (body ++ more)) asking in
     subst P (ap (λ t. cond t desk.NoRequest (desk.Asks request)) test) asks
@@ -122,7 +128,7 @@ asked_headless old new bytes slice head front none same =
     let P : desk.Asking → Type 0 = λ asking. IsAskedOver old asking in
     subst P (ap desk.asking_without (sym same)) (headless_by old new bytes head (nat_le most_of_head (length bytes)) refl front none)
 
-wanted_here : (bytes slice : List ℕ) (size : ℕ) (wanted is : Wanted) → slice ≡ bytes → wanted ≡ is → IsWanted (take size slice) wanted → IsWanted (take size bytes) is
+pub wanted_here : (bytes slice : List ℕ) (size : ℕ) (wanted is : Wanted) → slice ≡ bytes → wanted ≡ is → IsWanted (take size slice) wanted → IsWanted (take size bytes) is
 wanted_here bytes slice size wanted is same as_is asks =
     let P : List ℕ → Type 0 = λ xs. IsWanted xs wanted in
     let Q : Wanted → Type 0 = λ w. IsWanted (take size bytes) w in

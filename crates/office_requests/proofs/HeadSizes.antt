@@ -49,7 +49,7 @@ head_size-found bytes at within is h e =
 
 -- ---- the search with one more byte in front
 
-none_further : (test : Bool) (n : ℕ) (size : Option ℕ) → cond test (Some n) (option_map (λ m. m + 1) size) ≡ None → (test ≡ false) × (size ≡ None)
+pub none_further : (test : Bool) (n : ℕ) (size : Option ℕ) → cond test (Some n) (option_map (λ m. m + 1) size) ≡ None → (test ≡ false) × (size ≡ None)
 none_further true n size e = absurd (let clash : ⊥ = cc in clash)
 none_further false n None e = (refl, refl)
 none_further false n (Some m) e = absurd (let clash : ⊥ = cc in clash)

@@ -5,3 +5,6 @@ pub mod FieldLaws
 pub mod Wants
 pub mod AskingLaws
 pub mod Skips
+pub mod Chains
+pub mod Undecided
+pub mod NeedLaws

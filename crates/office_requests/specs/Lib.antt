@@ -1,3 +1,4 @@
 pub mod Askings
 pub mod Heads
 pub mod Reads
+pub mod Needs

@@ -3,6 +3,7 @@
 ghost use Rattle.std.specs.Prelude.{◌≡◌, ◌≢◌, ◌≤◌, ◌+◌, IfOk, OnErr, OnOk};
 ghost use Rattle.outside.specs.Faults.{Rose};
 ghost use Rattle.define_desk.specs.Requests.{most_of_head};
+ghost use Rattle.office_requests.specs.Needs.{ComeWhile, LacksBytes, LacksHead, ReadsWhile, StopsWhile};
 ghost use Rattle.office_requests.specs.Reads.{LosesAtMost, ReadsFront, Skips};
 
 use crate::askings::RequestStop;
@@ -34,6 +35,11 @@ pub(crate) fn read_front<L: Link>(alloc: Global, link: &mut L) -> Result<Front, 
     ensures none { result ≢ Err RequestStop.LinkFault → L.faults link.new ≡ L.faults link.old }
     ensures never_falls { L.faults link.old ≤ L.faults link.new }
     ensures reads { L.reads link.new ≤ L.reads link.old + most_of_head }
+    ensures came { IfOk result
+        (λ front. ComeWhile L.left L.reads LacksHead link.old link.new front.bytes.items) }
+    ensures stopped { OnErr result (ReadsWhile L.left L.reads LacksHead link.old link.new) }
+    ensures lacking { result ≡ Err RequestStop.LinkFault
+        → StopsWhile LacksHead (L.left link.old) (L.left link.new) }
 {
     let mut bytes = Vec::new(alloc);
     let mut room = [0u8; ROOM];
@@ -68,6 +74,8 @@ pub(crate) fn skip<L: Link>(link: &mut L, count: usize) -> Result<bool, Failed>
     ensures cause { OnErr result (Rose (L.faults link.old) (L.faults link.new)) }
     ensures none { OnOk result (L.faults link.new ≡ L.faults link.old) }
     ensures reads { L.reads link.new ≤ L.reads link.old + count }
+    ensures came { ReadsWhile L.left L.reads (LacksBytes count) link.old link.new }
+    ensures lacking { OnErr result (StopsWhile (LacksBytes count) (L.left link.old) (L.left link.new)) }
 {
     let mut left = count;
     let mut room = [0u8; ROOM];

@@ -4,6 +4,7 @@ ghost use Rattle.std.specs.Prelude.{◌≡◌, ◌≢◌, ◌≤◌, ◌+◌, If
 ghost use Rattle.outside.specs.Faults.{Rose};
 ghost use Rattle.define_desk.specs.Requests.{asking_without};
 ghost use Rattle.office_requests.specs.Askings.{IsAskedOver, seen_asking};
+ghost use Rattle.office_requests.specs.Needs.{IsUndecided, ReadsAsNeeded, StopsWhile};
 ghost use Rattle.office_requests.specs.Reads.{LosesAtMost, most_read};
 
 use crate::askings::{Asking, RequestStop};
@@ -28,6 +29,11 @@ pub fn read_asking<L: Link>(alloc: Global, link: &mut L) -> Result<Asking, Reque
     ensures none { result ≢ Err RequestStop.LinkFault → L.faults link.new ≡ L.faults link.old }
     ensures never_falls { L.faults link.old ≤ L.faults link.new }
     ensures reads { L.reads link.new ≤ L.reads link.old + most_read }
+
+    // It reads only while the bytes so far can still ask for different things. Any read may fail, so `undecided` holds before each read.
+    ensures needed { ReadsAsNeeded L.left L.reads link.old link.new }
+    ensures undecided { result ≡ Err RequestStop.LinkFault
+        → StopsWhile IsUndecided (L.left link.old) (L.left link.new) }
 {
     let front = read_front(alloc, link)?;
     let Some(size) = front.head else {
