@@ -187,15 +187,37 @@ fn made_pools_are_answered_alike(rt: HostRuntime) -> Result<(), AllocError> {
     Ok(())
 }
 
+/// The imports that give the first round of a store the pool `APART`.
+const APART_FILES: &[(&str, &[u8])] = &[
+    ("import-charter", b"title = \"Apart\"\nsize = 2\n"),
+    (
+        "import-rules",
+        b"category,name,min,max\nvalue,p,0,1\nvalue,q,0,1\nvalue,r,0,1\nvalue,s,0,1\n",
+    ),
+    (
+        "import-register",
+        b"id,key,value\na,k1,p\nb,k2,q\nc,k3,r\nd,k4,s\n",
+    ),
+];
+
+/// Three workers are at work at once, for `lottery`, `make` and `solve`: a watch holds the pieces of two until the third has started.
 #[test]
 fn the_third_worker_starts_while_two_are_held(rt: HostRuntime) -> Result<(), AllocError> {
     let alloc = rt.alloc();
+    let mut keeper = MapKeeper::new(alloc, &[])?;
+    for (import, file) in APART_FILES {
+        let words = [*import, "--store=s"];
+        let call = asking(&words, file);
+        let none = Holding::none();
+        let told = called(&rt, alloc, &call, &mut keeper, Vec::new(alloc), &none)?;
+        assert_eq!(rt; told.status, 0, "{import}");
+    }
     for words in [
         ["lottery", "--workers=3"].as_slice(),
         &["make", "--seed=7", "--volunteers=20", "--workers=3"],
+        &["solve", "--store=s", "--workers=3"],
     ] {
         let watch = Holding::pieces();
-        let mut keeper = MapKeeper::new(alloc, &[])?;
         let call = asking(words, APART);
         let told = called(&rt, alloc, &call, &mut keeper, Vec::new(alloc), &watch)?;
         assert_eq!(rt; told.status, 0, "{words:?}");

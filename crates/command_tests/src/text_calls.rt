@@ -438,7 +438,7 @@ struct Told {
 }
 
 /// Returns what the command tells about `text`.
-fn told(alloc: Global, words: &[&str], text: &[u8]) -> Result<Told, AllocError> {
+fn answered(alloc: Global, words: &[&str], text: &[u8]) -> Result<Told, AllocError> {
     let mut given = Vec::new(alloc);
     for word in words {
         given.push(String::from_str(alloc, word)?)?;
@@ -485,7 +485,7 @@ fn texts_are_answered(rt: HostRuntime) -> Result<(), AllocError> {
         PROVE_ROWS,
     ] {
         for (words, text, status, out, errs) in rows {
-            let told = told(alloc, words, text)?;
+            let told = answered(alloc, words, text)?;
             assert_eq!(rt; told.status, *status, "{words:?}");
             assert_eq!(rt; told.out.as_slice(), *out, "{words:?}");
             assert_eq!(rt; told.errs.as_slice(), *errs, "{words:?}");
@@ -525,7 +525,7 @@ fn each_cut_is_told(rt: HostRuntime) -> Result<(), AllocError> {
     for (words, text, kinds) in CUT {
         let mut lines = 0;
         for (length, byte) in text.iter().enumerate() {
-            let told = told(alloc, words, &text[..length])?;
+            let told = answered(alloc, words, &text[..length])?;
             let line = usize::saturating_add(lines, 1);
             let kind = kind_after(kinds, lines);
             let errs = format!(in alloc; "input\t{line}\t{kind}\n")?;
