@@ -5,7 +5,7 @@ use Rattle.std.specs.Prelude.{◌≡◌, ◌≤◌, ℕ, List, length, map, Opti
 use Rattle.command_shell.specs.Told.{IsUntouched, Object, object}
 use Rattle.command_stores.specs.StoreTold.{StoreTold}
 use Rattle.office_http.specs.Visits.{LinkTold}
-use Rattle.outside.specs.Links.{DoorLinks}
+use Rattle.outside.specs.Links.{DoorCall, DoorLinks}
 
 -- the links of a door as contracts see them: each link by what it tells
 abbrev pub seen_links : {L : Type 0} → (L → LinkTold) → DoorLinks L → DoorLinks LinkTold
@@ -19,13 +19,16 @@ abbrev pub door_told : {L : Type 0} → (L → LinkTold) → Option (DoorLinks L
 door_told sees before after faults_before faults_after =
     object (option_map (seen_links sees) before) (option_map (seen_links sees) after) faults_before faults_after
 
--- the port at which a door listens, before and after the call; None if it doesn't listen
+-- the port at which a door listens, None if it doesn't listen, and the calls that were made of the door, if it tells them; before and after
+-- the call
 pub record Ports : Type 0 where
   pub before : Option ℕ
   pub after : Option ℕ
+  pub calls_before : Option (List DoorCall)
+  pub calls_after : Option (List DoorCall)
 
-abbrev pub ports : Option ℕ → Option ℕ → Ports
-ports before after = record { before = before; after = after }
+abbrev pub ports : Option ℕ → Option ℕ → Option (List DoorCall) → Option (List DoorCall) → Ports
+ports before after calls_before calls_after = record { before = before; after = after; calls_before = calls_before; calls_after = calls_after }
 
 pub record DeskTold : Type 0 where
   pub store : StoreTold
@@ -35,10 +38,12 @@ pub record DeskTold : Type 0 where
 abbrev pub desk_told : StoreTold → Door → Ports → DeskTold
 desk_told store door ports = record { store = store; door = door; ports = ports }
 
--- the door is as before: it gave no link, took none back and counted no fault, and it listens at the same port, if at any
+-- the door is as before, and wasn't called: it gave no link, took none back and counted no fault, and it listens at the same port, if at
+-- any
 pub record IsUnopened (told : DeskTold) : Type 0 where
   pub links : IsUntouched told.door
   pub port : told.ports.after ≡ told.ports.before
+  pub uncalled : told.ports.calls_after ≡ told.ports.calls_before
 
 -- no more links came back than were given, if the door tells its links
 abbrev pub NoMoreBack : {L : Type 0} → Option (DoorLinks L) → Type 0

@@ -1,11 +1,12 @@
 -- Visits, one after the other: what they make of a door and a keeper, and how many ended with a status. Builds on the visits of
 -- `office_http`. ServeOutcomes, Turns, the law of src/laws.rt and the headline cite it.
-use Rattle.std.specs.Prelude.{◌≡◌, ℕ, ◌+◌, ◌++◌, List, [], ◌∷◌, length, map, take, drop, codes, Option, IfSome, option_map, is_ok, is_err}
+use Rattle.std.specs.Prelude.{◌≡◌, ℕ, zero, suc, false, ◌+◌, ◌++◌, List, [], ◌∷◌, length, map, take, drop, codes, Option, IfSome, option_map, is_ok, is_err}
 use Rattle.std.specs.Fmt.{decimal}
 use Rattle.std.specs.List.{count_by}
 use Rattle.command_shell.specs.Lines.{line}
 use Rattle.office_http.specs.Visits.{IsAttended, Kept, LinkTold, Visit}
-use Rattle.outside.specs.Links.{DoorLinks}
+use Rattle.outside.specs.Faults.{called}
+use Rattle.outside.specs.Links.{Back, DoorCall, DoorLinks, Next}
 
 -- `IsAttended` holds of each visit, and each visit found the keeper as the one before left it
 abbrev pub AreVisits : Kept → List Visit → Kept → Type 0
@@ -26,6 +27,11 @@ pub record AreAttended (links : Option (DoorLinks LinkTold)) (before : Kept) (vi
   -- the links of the visits are the first of those that were to come
   pub given : IfSome links (λ told. map (λ visit. visit.link) visits ≡ take (length visits) told.coming)
   pub door : links_after ≡ option_map (after_visits visits) links
+
+-- the calls of a door, after so many links were given, attended and given back, one after the other
+abbrev pub after_turns : ℕ → Option (List DoorCall) → Option (List DoorCall)
+after_turns zero calls = calls
+after_turns (suc turns) calls = called (called (after_turns turns calls) (Next false)) Back
 
 -- how many visits ended with a status; `broken_of` is how many ended with a fault of the link
 abbrev pub served_of : List Visit → ℕ

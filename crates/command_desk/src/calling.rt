@@ -1,10 +1,10 @@
 //! One call of `serve`.
 
-ghost use Rattle.std.specs.Prelude.{◌≡◌, IfOk, OnOk};
+ghost use Rattle.std.specs.Prelude.{◌≡◌, Err, IfOk, None, OnOk, Some};
 ghost use Rattle.command_shell.specs.Told.{Bytes, IsUntouched, object, told};
 ghost use Rattle.command_shell.specs.Answers.{status_number};
 ghost use Rattle.command_stores.specs.StoreTold.{MayBeAttached, keeper_told, store_told};
-ghost use Rattle.office_core.specs.Keeping.{HasCause, at};
+ghost use Rattle.office_core.specs.Keeping.{Attach, HasCause, with_call};
 ghost use Rattle.office_http.specs.Visits.{link_told};
 ghost use Rattle.command_desk.specs.DeskTold.{NoMoreBack, desk_told, door_told, ports};
 ghost use Rattle.command_desk.specs.ServeOutcomes.{SilentServeOutcome};
@@ -42,10 +42,10 @@ pub fn call_serve<R: Threads + Sync, W: Watch + Sync, K: Keeper, D: Door, O: Sin
         (told (status_number result) source
         (object (O.written out.old) (O.written out.new) (O.faults out.old) (O.faults out.new))
         (object (E.written errs.old) (E.written errs.new) (E.faults errs.old) (E.faults errs.new)))
-        (keeper_told (object (K.tables keeper.old) (K.tables keeper.new) (K.faults keeper.old) (K.faults keeper.new)) (K.place keeper.old) (K.place keeper.new)))
+        (keeper_told (object (K.tables keeper.old) (K.tables keeper.new) (K.faults keeper.old) (K.faults keeper.new)) (K.course keeper.old) (K.course keeper.new)))
         (door_told (λ link. link_told (D.Link.left link) (D.Link.written link) (D.Link.faults link))
         (D.links door.old) (D.links door.new) (D.faults door.old) (D.faults door.new))
-        (ports (D.opened_at door.old) (D.opened_at door.new))) }
+        (ports (D.opened_at door.old) (D.opened_at door.new) (D.calls door.old) (D.calls door.new))) }
 {
     match open_store(resources.alloc, path, keeper) {
         Ok(room) => match serve_door(resources, serve, keeper, door) {
@@ -64,8 +64,9 @@ pub fn call_serve<R: Threads + Sync, W: Watch + Sync, K: Keeper, D: Door, O: Sin
 /// Attaches the keeper, and returns the room for the line that is told at the end.
 fn open_store<K: Keeper>(alloc: Global, path: &str, keeper: &mut K) -> Result<Vec<u8>, KeeperStop>
     ensures room { IfOk result IsRoom }
-    ensures attached { OnOk result (K.place keeper.new ≡ at (K.place keeper.old) path.now) }
-    ensures place { MayBeAttached path.now (keeper_told (object (K.tables keeper.old) (K.tables keeper.new) (K.faults keeper.old) (K.faults keeper.new)) (K.place keeper.old) (K.place keeper.new)) }
+    ensures attached { OnOk result (K.course keeper.new ≡ with_call (K.course keeper.old) (Attach path.now None)) }
+    ensures failed { result ≡ Err KeeperStop.Failed → K.course keeper.new ≡ with_call (K.course keeper.old) (Attach path.now (Some KeeperStop.Failed)) }
+    ensures place { MayBeAttached path.now (keeper_told (object (K.tables keeper.old) (K.tables keeper.new) (K.faults keeper.old) (K.faults keeper.new)) (K.course keeper.old) (K.course keeper.new)) }
     ensures same { K.tables keeper.new ≡ K.tables keeper.old }
     ensures cause { HasCause (K.faults keeper.old) (K.faults keeper.new) result }
 {

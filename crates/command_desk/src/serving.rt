@@ -31,9 +31,9 @@ pub(crate) fn serve_door<R: Threads + Sync, W: Watch + Sync, K: Keeper, D: Door>
     ensures served { ServesAt serve.port serve.connections
         (door_told (λ link. link_told (D.Link.left link) (D.Link.written link) (D.Link.faults link))
         (D.links door.old) (D.links door.new) (D.faults door.old) (D.faults door.new))
-        (ports (D.opened_at door.old) (D.opened_at door.new))
-        (kept (K.tables keeper.old) (K.faults keeper.old)) (kept (K.tables keeper.new) (K.faults keeper.new)) result }
-    ensures place { K.place keeper.new ≡ K.place keeper.old }
+        (ports (D.opened_at door.old) (D.opened_at door.new) (D.calls door.old) (D.calls door.new))
+        (kept (K.tables keeper.old) (K.faults keeper.old) (K.course keeper.old)) (kept (K.tables keeper.new) (K.faults keeper.new) (K.course keeper.new)) result }
+    ensures place { (K.course keeper.new).place ≡ (K.course keeper.old).place }
 {
     match door.listen(serve.port) {
         Ok(()) => serve_links(resources, serve.connections, keeper, door),
@@ -51,10 +51,10 @@ fn serve_links<R: Threads + Sync, W: Watch + Sync, K: Keeper, D: Door>(
     requires { NoMoreBack (D.links door.old) }
     ensures served { ServesDoor connections
         (door_told (λ link. link_told (D.Link.left link) (D.Link.written link) (D.Link.faults link))
-        (D.links door.old) (D.links door.new) (D.faults door.old) (D.faults door.new))
-        (kept (K.tables keeper.old) (K.faults keeper.old)) (kept (K.tables keeper.new) (K.faults keeper.new)) result }
+        (D.links door.old) (D.links door.new) (D.faults door.old) (D.faults door.new)) (D.calls door.old) (D.calls door.new)
+        (kept (K.tables keeper.old) (K.faults keeper.old) (K.course keeper.old)) (kept (K.tables keeper.new) (K.faults keeper.new) (K.course keeper.new)) result }
     ensures port { D.opened_at door.new ≡ D.opened_at door.old }
-    ensures place { K.place keeper.new ≡ K.place keeper.old }
+    ensures place { (K.course keeper.new).place ≡ (K.course keeper.old).place }
 {
     let mut counts = Counts {
         served: 0,

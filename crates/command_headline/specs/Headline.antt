@@ -39,7 +39,7 @@ use Rattle.command_stores.specs.Imports.{ReadsFile}
 use Rattle.command_stores.specs.Steps.{stored_text}
 use Rattle.command_stores.specs.StoreTold.{KeepsTables, StoreTold}
 use Rattle.command_desk.specs.DeskTold.{DeskTold, IsUnopened}
-use Rattle.command_desk.specs.ServeOutcomes.{HasServed, IsAtEnd, IsShutOrOpened}
+use Rattle.command_desk.specs.ServeOutcomes.{DoorFails, HasServed, IsAtEnd}
 use Rattle.command_desk.specs.Serving.{served_line}
 use Rattle.command_stores.specs.declared.imports.Import.{Import}
 use Rattle.command_stores.specs.declared.imports.Import.TheVariants as import
@@ -638,9 +638,10 @@ pub record KeepsDesk (path : List ℕ) (port connections : ℕ) (told : DeskTold
   pub write_fault : told.store.call.status ≡ 8 → HasFaulted told.store.call.out × Serves path connections told × (told.ports.after ≡ Some port)
   -- status 9 comes only if the keeper of the store counted a fault when it was attached; no link was given
   pub keeper_fault : told.store.call.status ≡ 9 → HasFaulted told.store.keeper.object × ServesNothing told
-  -- status 10 comes only if the door counted a fault: as it was opened, and then no link was attended and it listens where it did before;
-  -- or later, and it listens at the port. What the visits changed is kept
-  pub door_fault : told.store.call.status ≡ 10 → HasFaulted told.door × ((visits : List Visit) × HasServed path connections told visits × IsShutOrOpened port visits told.ports)
+  -- status 10 comes only if the door counted a fault at a call that was in its order: as it was to be opened, its first call, and then no
+  -- link was attended and it listens where it did before; or as it was to give the next link, and it listens at the port. What the visits
+  -- changed is kept
+  pub door_fault : told.store.call.status ≡ 10 → HasFaulted told.door × ((visits : List Visit) × HasServed path connections told visits × DoorFails port visits told.ports)
   -- status 12, want of memory, comes only if no link was given
   pub memory : told.store.call.status ≡ 12 → ServesNothing told
   -- there is no other status

@@ -3,7 +3,7 @@ use Rattle.std.proofs.Common.{◌≡◌, ℕ, List, Option, Some, refl, subst, s
 use Rattle.command_desk.specs.DeskTold.{DeskTold, desk_told, ports}
 use Rattle.command_desk.specs.ServeOutcomes.{SilentServeOutcome}
 use Rattle.office_http.specs.Visits.{LinkTold}
-use Rattle.outside.specs.Links.{DoorLinks}
+use Rattle.outside.specs.Links.{DoorCall, DoorLinks}
 use Rattle.command_shell.specs.Told.{Told, object}
 use Rattle.command_stores.specs.Imports.{ImportMeans}
 use Rattle.command_stores.specs.Steps.{StepMeans, TextMeans}
@@ -15,18 +15,18 @@ use Rattle.command_stores.specs.declared.texts.StoreText.{StoreText}
 use Rattle.define_offices.specs.Commands.{Command}
 use Rattle.command_stores.specs.StoreTold.{StoreTold, keeper_told, store_told}
 use Rattle.define_offices.specs.Tables.{Tables}
-use Rattle.office_core.specs.Keeping.{Place}
+use Rattle.office_core.specs.Keeping.{Course}
 use Rattle.command_asked.specs.Office.{EndsRightly, LeavesDoor, LeavesStore}
 use Rattle.command_asked.specs.declared.asked.Asked.{Asked}
 
--- if a call is right, and the keeper's tables, faults and place are as before, the call leaves the store alone
-pub leaves : (Right : Told → Type 0) (call : Told) (kept : Option Tables) (faults : ℕ) (place : Place) → Right call → LeavesStore Right (store_told call (keeper_told (object kept kept faults faults) place place))
-leaves Right call kept faults place right = record { keeper = record { object = record { same = refl; no_fault = refl }; place = refl }; call = right }
+-- if a call is right, and the keeper's tables, faults and course are as before, the call leaves the store alone
+pub leaves : (Right : Told → Type 0) (call : Told) (kept : Option Tables) (faults : ℕ) (course : Course) → Right call → LeavesStore Right (store_told call (keeper_told (object kept kept faults faults) course course))
+leaves Right call kept faults course right = record { keeper = record { object = record { same = refl; no_fault = refl }; course = refl }; call = right }
 
--- if a call is right, and the door's links, faults and port are as before, the call leaves the door alone
-pub shut : (Right : StoreTold → Type 0) (call : StoreTold) (links : Option (DoorLinks LinkTold)) (faults : ℕ) (port : Option ℕ) → Right call →
-    LeavesDoor Right (desk_told call (object links links faults faults) (ports port port))
-shut Right call links faults port right = record { door = record { links = record { same = refl; no_fault = refl }; port = refl }; call = right }
+-- if a call is right, and the door's links, faults, port and calls are as before, the call leaves the door alone
+pub shut : (Right : StoreTold → Type 0) (call : StoreTold) (links : Option (DoorLinks LinkTold)) (faults : ℕ) (port : Option ℕ) (calls : Option (List DoorCall)) → Right call →
+    LeavesDoor Right (desk_told call (object links links faults faults) (ports port port calls calls))
+shut Right call links faults port calls right = record { door = record { links = record { same = refl; no_fault = refl }; port = refl; uncalled = refl }; call = right }
 
 pub as_asked : (asked it : Asked) (told : DeskTold) → asked ≡ it → EndsRightly (Some it) told → EndsRightly (Some asked) told
 as_asked asked it told is right = subst (λ one. EndsRightly (Some one) told) (sym is) right

@@ -13,7 +13,9 @@ use Rattle.proof_limits.specs.Budgets.{Left, SpendsOn, unspent}
 use Rattle.proof_run.specs.Made.{IsOfPool}
 use Rattle.command_proofs.specs.Proved.{IsValidOf, NoProofMeans}
 use Rattle.command_shell.specs.Answers.{IsRight, Saying, saying}
-use Rattle.command_shell.specs.Told.{Object, object}
+use Rattle.command_shell.specs.Told.{object}
+use Rattle.command_stores.specs.StoreTold.{Keeper, keeper_told}
+use Rattle.office_core.specs.Keeping.{Course}
 use Rattle.command_shell.specs.declared.answer.Answer.{Answer}
 use Rattle.command_stores.specs.ProvedRounds.{AsSolve, IsIfAny, IsOpenWith, Keeps, NeedsNoRun, NoProof, ProvesRound, TellsOpen, is_open}
 use Rattle.command_stores.specs.Steps.{StepMeans}
@@ -61,10 +63,10 @@ module _ (it : ProveRound) (tables : Tables) where
   Means = ProvesRound it tables
 
   -- If a call settles by the meaning `Own`, and `Means` follows from `Own`, the call settles by `Means`.
-  weaker : (Own : Saying → Option Change → Type 0) (kept : Object Tables) (settled : Result Answer KeeperStop) → ((answer : Saying) (change : Option Change) → Own answer change → Means answer change) →
+  weaker : (Own : Saying → Option Change → Type 0) (kept : Keeper) (settled : Result Answer KeeperStop) → ((answer : Saying) (change : Option Change) → Own answer change → Means answer change) →
       SettlesLoaded Own kept settled → SettlesLoaded Means kept settled
   weaker Own kept (Ok answer) follows is = record { change = is.change; means = follows (saying answer) is.change is.means; stored = is.stored; no_fault = is.no_fault }
-  weaker Own kept (Err Failed) follows is = is
+  weaker Own kept (Err Failed) follows (faulted, left, (answer, change, means, call)) = (faulted, left, (answer, change, follows answer (Some change) means, call))
   weaker Own kept (Err OutOfMemory) follows is = is
 
   its_pool : (pool : Pool) (proof : Proof) → IsOfPool pool proof → proof_pool proof ≡ pool
@@ -72,17 +74,17 @@ module _ (it : ProveRound) (tables : Tables) where
   its_pool pool (OfNoPanel own lines) is = is
 
   -- If a call settles by keeping a valid proof of the pool of an open round, it settles by `Means`.
-  pub keeps_proof : (pool : Pool) (proof : Proof) (kept : Object Tables) (settled : Result Answer KeeperStop) → IsOpenWith tables it.round pool → IsValidOf pool proof →
+  pub keeps_proof : (pool : Pool) (proof : Proof) (kept : Keeper) (settled : Result Answer KeeperStop) → IsOpenWith tables it.round pool → IsValidOf pool proof →
       SettlesLoaded (StepMeans (Keep it.round proof) tables) kept settled → SettlesLoaded Means kept settled
   keeps_proof pool proof kept settled is valid =
       weaker (StepMeans (Keep it.round proof) tables) kept settled (λ answer change means. Keeps pool proof is (its_pool pool proof valid.of_pool) valid.valid means)
 
   -- If no proof is made, the answer that says why is right, and nothing is stored.
-  pub no_proof : (pool : Pool) (left : Left) (answer : Answer) (kept : Option Tables) (faults : ℕ) → IsOpenWith tables it.round pool → SpendsOn (unspent it.prove.pivots it.prove.nodes) left →
-      IsRight (NoProofMeans left) (saying answer) → SettlesLoaded Means (object kept kept faults faults) (Ok answer)
-  no_proof pool left answer kept faults is spends right = record { change = None; means = NoProof pool left is spends right refl; stored = unchanged kept; no_fault = refl }
+  pub no_proof : (pool : Pool) (left : Left) (answer : Answer) (kept : Option Tables) (faults : ℕ) (course : Course) → IsOpenWith tables it.round pool → SpendsOn (unspent it.prove.pivots it.prove.nodes) left →
+      IsRight (NoProofMeans left) (saying answer) → SettlesLoaded Means (keeper_told (object kept kept faults faults) course course) (Ok answer)
+  no_proof pool left answer kept faults course is spends right = record { change = None; means = NoProof pool left is spends right refl; stored = unchanged kept; no_fault = refl }
 
   -- If no run is needed, the answer of a solve is right.
-  pub as_solve : (limits : Limits) (kept : Object Tables) (settled : Result Answer KeeperStop) → NeedsNoRun tables it.round → SettlesLoaded (StepMeans (Solve it.round limits) tables) kept settled →
+  pub as_solve : (limits : Limits) (kept : Keeper) (settled : Result Answer KeeperStop) → NeedsNoRun tables it.round → SettlesLoaded (StepMeans (Solve it.round limits) tables) kept settled →
       SettlesLoaded Means kept settled
   as_solve limits kept settled no_run = weaker (StepMeans (Solve it.round limits) tables) kept settled (λ answer change means. AsSolve limits no_run means)

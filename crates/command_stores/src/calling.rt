@@ -1,12 +1,12 @@
 //! What every call over a store does at its beginning and at its end: it loads the tables, and it tells the answer or why there is none.
 
-ghost use Rattle.std.specs.Prelude.{◌≡◌, IfOk, OnOk};
+ghost use Rattle.std.specs.Prelude.{◌≡◌, IfOk, None, OnOk};
 ghost use Rattle.command_shell.specs.Told.{Bytes, object, told};
 ghost use Rattle.command_shell.specs.Answers.{status_number};
-ghost use Rattle.command_stores.specs.StoreOutcomes.{TellsSettled, settled_by};
+ghost use Rattle.command_stores.specs.StoreOutcomes.{FailsEarly, TellsSettled, settled_by};
 ghost use Rattle.command_stores.specs.StoreTold.{MayBeAttached, keeper_told};
 ghost use Rattle.office_core.specs.Acting.{IsLoaded};
-ghost use Rattle.office_core.specs.Keeping.{HasCause, at};
+ghost use Rattle.office_core.specs.Keeping.{Attach, HasCause, Load, stop_of, with_call};
 
 use command_shell::{Answer, Status, keeper_fault, tell, want_memory};
 use office_core::{Keeper, KeeperStop, Tables};
@@ -20,8 +20,9 @@ pub(crate) fn load_at<K: Keeper>(
     keeper: &mut K,
 ) -> Result<Tables, KeeperStop>
     ensures loaded { IfOk result (λ tables. IsLoaded (K.tables keeper.old) tables) }
-    ensures attached { OnOk result (K.place keeper.new ≡ at (K.place keeper.old) path.now) }
-    ensures place { MayBeAttached path.now (keeper_told (object (K.tables keeper.old) (K.tables keeper.new) (K.faults keeper.old) (K.faults keeper.new)) (K.place keeper.old) (K.place keeper.new)) }
+    ensures course { OnOk result (K.course keeper.new ≡ with_call (with_call (K.course keeper.old) (Attach path.now None)) (Load None)) }
+    ensures early { FailsEarly path.now result (K.course keeper.old) (K.course keeper.new) }
+    ensures place { MayBeAttached path.now (keeper_told (object (K.tables keeper.old) (K.tables keeper.new) (K.faults keeper.old) (K.faults keeper.new)) (K.course keeper.old) (K.course keeper.new)) }
     ensures same { K.tables keeper.new ≡ K.tables keeper.old }
     ensures cause { HasCause (K.faults keeper.old) (K.faults keeper.new) result }
 {
@@ -32,7 +33,7 @@ pub(crate) fn load_at<K: Keeper>(
 /// Returns the tables of a keeper that is attached.
 pub(crate) fn load<K: Keeper>(alloc: Global, keeper: &mut K) -> Result<Tables, KeeperStop>
     ensures loaded { IfOk result (λ tables. IsLoaded (K.tables keeper.old) tables) }
-    ensures place { K.place keeper.new ≡ K.place keeper.old }
+    ensures course { K.course keeper.new ≡ with_call (K.course keeper.old) (Load (stop_of result)) }
     ensures same { K.tables keeper.new ≡ K.tables keeper.old }
     ensures cause { HasCause (K.faults keeper.old) (K.faults keeper.new) result }
 {

@@ -66,7 +66,7 @@ pub fn call_import<R: Threads + Sync, W: Watch + Sync, K: Keeper, S: Source, O: 
         (object (S.left source.old) (S.left source.new) (S.faults source.old) (S.faults source.new))
         (object (O.written out.old) (O.written out.new) (O.faults out.old) (O.faults out.new))
         (object (E.written errs.old) (E.written errs.new) (E.faults errs.old) (E.faults errs.new)))
-        (keeper_told (object (K.tables keeper.old) (K.tables keeper.new) (K.faults keeper.old) (K.faults keeper.new)) (K.place keeper.old) (K.place keeper.new))) }
+        (keeper_told (object (K.tables keeper.old) (K.tables keeper.new) (K.faults keeper.old) (K.faults keeper.new)) (K.course keeper.old) (K.course keeper.new))) }
 {
     let alloc = resources.alloc;
     if let Err(stop) = keeper.attach(alloc, path) {
@@ -89,8 +89,8 @@ fn settle_import<R: Threads + Sync, W: Watch + Sync, K: Keeper>(
     keeper: &mut K,
 ) -> Result<Answer, KeeperStop>
     ensures settles { SettlesAttached (ImportMeans import bytes.now)
-        (object (K.tables keeper.old) (K.tables keeper.new) (K.faults keeper.old) (K.faults keeper.new)) result }
-    ensures place { K.place keeper.new ≡ K.place keeper.old }
+        (keeper_told (object (K.tables keeper.old) (K.tables keeper.new) (K.faults keeper.old) (K.faults keeper.new)) (K.course keeper.old) (K.course keeper.new)) result }
+    ensures place { (K.course keeper.new).place ≡ (K.course keeper.old).place }
 {
     let alloc = resources.alloc;
     let tables = load(alloc, keeper)?;

@@ -54,7 +54,7 @@ pub fn call_prove_round<R: Threads + Sync, W: Watch + Sync, K: Keeper, O: Sink, 
         (told (status_number result) source
         (object (O.written out.old) (O.written out.new) (O.faults out.old) (O.faults out.new))
         (object (E.written errs.old) (E.written errs.new) (E.faults errs.old) (E.faults errs.new)))
-        (keeper_told (object (K.tables keeper.old) (K.tables keeper.new) (K.faults keeper.old) (K.faults keeper.new)) (K.place keeper.old) (K.place keeper.new))) }
+        (keeper_told (object (K.tables keeper.old) (K.tables keeper.new) (K.faults keeper.old) (K.faults keeper.new)) (K.course keeper.old) (K.course keeper.new))) }
 {
     let settled = settle_proof(resources, proving, path, keeper);
     tell_settled(&settled, out, errs)
@@ -68,7 +68,7 @@ fn settle_proof<R: Threads + Sync, W: Watch + Sync, K: Keeper>(
     keeper: &mut K,
 ) -> Result<Answer, KeeperStop>
     ensures { Settles path.now (ProvesRound proving)
-        (keeper_told (object (K.tables keeper.old) (K.tables keeper.new) (K.faults keeper.old) (K.faults keeper.new)) (K.place keeper.old) (K.place keeper.new)) result }
+        (keeper_told (object (K.tables keeper.old) (K.tables keeper.new) (K.faults keeper.old) (K.faults keeper.new)) (K.course keeper.old) (K.course keeper.new)) result }
 {
     let tables = load_at(resources.alloc, path, keeper)?;
     prove_over(resources, proving, &tables, keeper)
@@ -83,8 +83,8 @@ fn prove_over<R: Threads + Sync, W: Watch + Sync, K: Keeper>(
 ) -> Result<Answer, KeeperStop>
     requires loaded { IfSome (K.tables keeper.old) (λ kept. tables.now ≡ kept) }
     ensures settles { SettlesLoaded (ProvesRound proving tables.now)
-        (object (K.tables keeper.old) (K.tables keeper.new) (K.faults keeper.old) (K.faults keeper.new)) result }
-    ensures place { K.place keeper.new ≡ K.place keeper.old }
+        (keeper_told (object (K.tables keeper.old) (K.tables keeper.new) (K.faults keeper.old) (K.faults keeper.new)) (K.course keeper.old) (K.course keeper.new)) result }
+    ensures place { (K.course keeper.new).place ≡ (K.course keeper.old).place }
 {
     match open_pool(resources.alloc, tables, proving.round) {
         Ok(Some(pool)) => prove_open(resources, proving, tables, &pool, keeper),
@@ -104,8 +104,8 @@ fn prove_open<R: Threads + Sync, W: Watch + Sync, K: Keeper>(
     requires loaded { IfSome (K.tables keeper.old) (λ kept. tables.now ≡ kept) }
     requires open_now { IsOpenWith tables.now proving.round pool.now }
     ensures settles { SettlesLoaded (ProvesRound proving tables.now)
-        (object (K.tables keeper.old) (K.tables keeper.new) (K.faults keeper.old) (K.faults keeper.new)) result }
-    ensures place { K.place keeper.new ≡ K.place keeper.old }
+        (keeper_told (object (K.tables keeper.old) (K.tables keeper.new) (K.faults keeper.old) (K.faults keeper.new)) (K.course keeper.old) (K.course keeper.new)) result }
+    ensures place { (K.course keeper.new).place ≡ (K.course keeper.old).place }
 {
     let mut budget = Budget::new(proving.prove.pivots, proving.prove.nodes);
     match proof_within(resources.alloc, &mut budget, pool) {
@@ -128,8 +128,8 @@ fn answer_as_solve<R: Threads + Sync, W: Watch + Sync, K: Keeper>(
     requires loaded { IfSome (K.tables keeper.old) (λ kept. tables.now ≡ kept) }
     requires no_run { NeedsNoRun tables.now proving.round }
     ensures settles { SettlesLoaded (ProvesRound proving tables.now)
-        (object (K.tables keeper.old) (K.tables keeper.new) (K.faults keeper.old) (K.faults keeper.new)) result }
-    ensures place { K.place keeper.new ≡ K.place keeper.old }
+        (keeper_told (object (K.tables keeper.old) (K.tables keeper.new) (K.faults keeper.old) (K.faults keeper.new)) (K.course keeper.old) (K.course keeper.new)) result }
+    ensures place { (K.course keeper.new).place ≡ (K.course keeper.old).place }
 {
     let Some(limits) = Limits::new(MOST_BITS, 0, 0) else {
         unreachable!()

@@ -40,7 +40,7 @@ pub fn call_step<R: Threads + Sync, W: Watch + Sync, K: Keeper, O: Sink, E: Sink
         (told (status_number result) source
         (object (O.written out.old) (O.written out.new) (O.faults out.old) (O.faults out.new))
         (object (E.written errs.old) (E.written errs.new) (E.faults errs.old) (E.faults errs.new)))
-        (keeper_told (object (K.tables keeper.old) (K.tables keeper.new) (K.faults keeper.old) (K.faults keeper.new)) (K.place keeper.old) (K.place keeper.new))) }
+        (keeper_told (object (K.tables keeper.old) (K.tables keeper.new) (K.faults keeper.old) (K.faults keeper.new)) (K.course keeper.old) (K.course keeper.new))) }
 {
     let settled = settle(resources, command, path, keeper);
     tell_settled(&settled, out, errs)
@@ -55,7 +55,7 @@ fn settle<R: Threads + Sync, W: Watch + Sync, K: Keeper>(
 ) -> Result<Answer, KeeperStop>
     requires { HasWorkers command.now }
     ensures { Settles path.now (StepMeans (seen_command command.now))
-        (keeper_told (object (K.tables keeper.old) (K.tables keeper.new) (K.faults keeper.old) (K.faults keeper.new)) (K.place keeper.old) (K.place keeper.new)) result }
+        (keeper_told (object (K.tables keeper.old) (K.tables keeper.new) (K.faults keeper.old) (K.faults keeper.new)) (K.course keeper.old) (K.course keeper.new)) result }
 {
     let tables = load_at(resources.alloc, path, keeper)?;
     settle_over(resources, &tables, command, keeper)
@@ -71,8 +71,8 @@ pub(crate) fn settle_over<R: Threads + Sync, W: Watch + Sync, K: Keeper>(
     requires workers { HasWorkers command.now }
     requires loaded { IfSome (K.tables keeper.old) (λ kept. tables.now ≡ kept) }
     ensures settles { SettlesLoaded (StepMeans (seen_command command.now) tables.now)
-        (object (K.tables keeper.old) (K.tables keeper.new) (K.faults keeper.old) (K.faults keeper.new)) result }
-    ensures place { K.place keeper.new ≡ K.place keeper.old }
+        (keeper_told (object (K.tables keeper.old) (K.tables keeper.new) (K.faults keeper.old) (K.faults keeper.new)) (K.course keeper.old) (K.course keeper.new)) result }
+    ensures place { (K.course keeper.new).place ≡ (K.course keeper.old).place }
 {
     command.facts();
     let Resources { rt, alloc, watch } = *resources;

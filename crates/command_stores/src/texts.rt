@@ -54,7 +54,7 @@ pub fn call_text<K: Keeper, O: Sink, E: Sink>(
         (told (status_number result) source
         (object (O.written out.old) (O.written out.new) (O.faults out.old) (O.faults out.new))
         (object (E.written errs.old) (E.written errs.new) (E.faults errs.old) (E.faults errs.new)))
-        (keeper_told (object (K.tables keeper.old) (K.tables keeper.new) (K.faults keeper.old) (K.faults keeper.new)) (K.place keeper.old) (K.place keeper.new))) }
+        (keeper_told (object (K.tables keeper.old) (K.tables keeper.new) (K.faults keeper.old) (K.faults keeper.new)) (K.course keeper.old) (K.course keeper.new))) }
 {
     let settled = settle_text(alloc, text, path, keeper);
     tell_settled(&settled, out, errs)
@@ -68,7 +68,7 @@ fn settle_text<K: Keeper>(
     keeper: &mut K,
 ) -> Result<Answer, KeeperStop>
     ensures { Settles path.now (TextMeans text)
-        (keeper_told (object (K.tables keeper.old) (K.tables keeper.new) (K.faults keeper.old) (K.faults keeper.new)) (K.place keeper.old) (K.place keeper.new)) result }
+        (keeper_told (object (K.tables keeper.old) (K.tables keeper.new) (K.faults keeper.old) (K.faults keeper.new)) (K.course keeper.old) (K.course keeper.new)) result }
 {
     let tables = load_at(alloc, path, keeper)?;
     answer_or_want(answer_text(alloc, &tables, text))

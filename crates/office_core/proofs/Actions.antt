@@ -1,6 +1,6 @@
 -- What a command over a keeper does to the tables that the keeper tells, and to the keeper's count of faults.
-use Rattle.std.proofs.Common.{◌≡◌, ℕ, List, [], ◌∷◌, ◌++◌, Option, Some, None, Result, Ok, Err, refl, subst, sym, ap, ◌∙◌}
-use Rattle.std.specs.Prelude.{IfSome, option_map}
+use Rattle.std.proofs.Common.{◌≡◌, ℕ, List, [], ◌∷◌, ◌++◌, Option, Some, None, Result, Ok, Err, refl, subst, sym, ap, ◌∙◌, inl, inr}
+use Rattle.std.specs.Prelude.{IfSome, IsErrAnd, option_map}
 use Rattle.define_offices.specs.Commands as office
 use Rattle.define_offices.specs.Commands.{Command, Outcome, Refuses, Replies, Stops}
 use Rattle.define_offices.specs.Facts.{IsCommand, IsTables}
@@ -9,9 +9,9 @@ use Rattle.define_offices.specs.Tables.{Tables}
 use Rattle.laws_of_offices.proofs.Steps.{comes_keeps, folds_grow}
 use Rattle.office_steps.specs.Replies.{seen_refusal, seen_reply}
 use Rattle.office_steps.specs.declared.replies.Reply.{Reply}
-use Rattle.office_core.specs.Acting.{ActsOn, ActsOver, GoesOn, HasFault, HasOutcome, HasOutcomeOver, IsDone, IsLoaded, stop_of_decision, stop_of_keeper}
+use Rattle.office_core.specs.Acting.{ActsOn, ActsOver, FailsAtStore, FailsInOrder, FailsInOrderOver, GoesOn, HasFault, HasOutcome, HasOutcomeOver, IsDone, IsLoaded, stop_of_decision, stop_of_keeper}
 use Rattle.office_core.specs.Deciding.{Decides}
-use Rattle.office_core.specs.Keeping.{HasCause, changed}
+use Rattle.office_core.specs.Keeping.{Course, HasCause, Load, StoresIt, changed, with_call}
 use Rattle.office_core.specs.declared.keeper.KeeperStop.{KeeperStop}
 use Rattle.office_core.specs.declared.keeper.KeeperStop.TheVariants as keeper
 use Rattle.office_core.specs.declared.stops.ActStop.{ActStop}
@@ -101,3 +101,45 @@ goes kept command (Err act.OutOfMemory) after acts commands folds done = absurd 
 pub goes_on : (before : Option Tables) (command : Command) (result : Result Reply ActStop) (after : Option Tables) → ActsOn before command result after → GoesOn before command result after
 goes_on before command result after acts commands kept is folds done =
     goes kept command result after (subst (λ b. ActsOn b command result after) is acts) commands folds done
+
+-- ---- the keeper's course
+
+-- if the keeper failed to store the change of a decision, it failed at the one call that the command is to make of it
+failed_at_store : (tables : Tables) (command : Command) (change : Option office.Change) (reply : office.Reply) (stop : KeeperStop) (before after : Course) →
+    Comes tables command (Replies change reply) → StoresIt change (Err stop) before after → FailsInOrderOver tables command (Err (stop_of_keeper stop)) before after
+failed_at_store tables command None reply stop before after comes stores = absurd (cc (stores.1))
+failed_at_store tables command (Some change) reply keeper.Failed before after comes stores = (change, reply, comes, stores)
+failed_at_store tables command (Some change) reply keeper.OutOfMemory before after comes stores = tt
+
+pub failed_so : (tables : Tables) (command : Command) (change : Option office.Change) (reply : office.Reply) (stop : KeeperStop) (result : Result Reply ActStop) (before after : Course) →
+    IsErrAnd result (λ e. e ≡ stop_of_keeper stop) → Comes tables command (Replies change reply) → StoresIt change (Err stop) before after → FailsInOrderOver tables command result before after
+failed_so tables command change reply stop (Ok done) before after is comes stores = tt
+failed_so tables command change reply stop (Err e) before after is comes stores =
+    subst (λ (s : ActStop). FailsInOrderOver tables command (Err s) before after) (sym is) (failed_at_store tables command change reply stop before after comes stores)
+
+pub no_store : (tables : Tables) (command : Command) (stop : DecideStop) (course : Course) → FailsInOrderOver tables command (Err (stop_of_decision stop)) course course
+no_store tables command (decide.Refused refusal) course = tt
+no_store tables command (decide.Solve stopped) course = tt
+no_store tables command (decide.Unproved verdict) course = tt
+no_store tables command decide.OutOfMemory course = tt
+
+-- a call that loads the tables first fails in its order, if it did so over the tables that were loaded
+pub loaded_first : (told : Option Tables) (tables : Tables) (command : Command) (result : Result Reply ActStop) (before loaded after : Course) → IsLoaded told tables →
+    loaded ≡ with_call before (Load None) → FailsInOrderOver tables command result loaded after → FailsInOrder told command result before after
+loaded_first told tables command (Ok reply) before loaded after is now fails = tt
+loaded_first told tables command (Err (act.Refused refusal)) before loaded after is now fails = tt
+loaded_first told tables command (Err (act.Solve stopped)) before loaded after is now fails = tt
+loaded_first told tables command (Err (act.Unproved verdict)) before loaded after is now fails = tt
+loaded_first told tables command (Err act.KeeperFault) before loaded after is now fails = inr (tables, is, subst (λ (c : Course). FailsAtStore tables command c after) now fails)
+loaded_first told tables command (Err act.OutOfMemory) before loaded after is now fails = tt
+
+not_loaded : (told : Option Tables) (command : Command) (stop : KeeperStop) (before after : Course) → after ≡ with_call before (Load (Some stop)) →
+    FailsInOrder told command (Err (stop_of_keeper stop)) before after
+not_loaded told command keeper.Failed before after now = inl now
+not_loaded told command keeper.OutOfMemory before after now = tt
+
+pub not_loaded_so : (told : Option Tables) (command : Command) (stop : KeeperStop) (result : Result Reply ActStop) (before after : Course) → IsErrAnd result (λ e. e ≡ stop_of_keeper stop) →
+    after ≡ with_call before (Load (Some stop)) → FailsInOrder told command result before after
+not_loaded_so told command stop (Ok done) before after is now = tt
+not_loaded_so told command stop (Err e) before after is now =
+    subst (λ (s : ActStop). FailsInOrder told command (Err s) before after) (sym is) (not_loaded told command stop before after now)

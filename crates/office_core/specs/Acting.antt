@@ -1,6 +1,6 @@
 -- What a call of `act` returns, and what it does to the tables that the keeper tells. The promises of `act` and `act_over` use it, and so
 -- do those of the commands over a store, of `office_desk` and of `office_http`.
-use Rattle.std.specs.Prelude.{◌≡◌, ◌≤◌, ℕ, List, [], ◌∷◌, ◌++◌, IfSome, Option, Some, None, Result, Ok, Err, option_map, ⊤}
+use Rattle.std.specs.Prelude.{◌≡◌, ◌⊎◌, ◌≤◌, ℕ, List, [], ◌∷◌, ◌++◌, IfSome, Option, Some, None, Result, Ok, Err, option_map, ⊤}
 use Rattle.define_checks.specs.Reasons as reasons
 use Rattle.define_runs.specs.Run.{Ending}
 use Rattle.define_offices.specs.Commands as office
@@ -10,6 +10,7 @@ use Rattle.define_offices.specs.Steps.{Comes, Folds, tables_after}
 use Rattle.define_offices.specs.Tables.{Tables}
 use Rattle.office_steps.specs.Replies.{seen_refusal, seen_reply}
 use Rattle.office_core.specs.Deciding.{IsEnding}
+use Rattle.office_core.specs.Keeping.{Course, Load, Store, with_call}
 use Rattle.office_core.specs.declared.keeper.KeeperStop.{KeeperStop}
 use Rattle.office_core.specs.declared.keeper.KeeperStop.TheVariants as keeper
 use Rattle.office_steps.specs.declared.replies.Reply.{Reply}
@@ -39,6 +40,11 @@ pub record HasOutcome (before : Option Tables) (command : office.Command) (outco
 pub record HasOutcomeOver (tables : Tables) (before : Option Tables) (command : office.Command) (outcome : Outcome) (after : Option Tables) : Type 0 where
   pub comes : Comes tables command outcome
   pub leaves : after ≡ option_map (λ told. tables_after told outcome) before
+
+-- the command's outcome over the tables has a change, and the keeper failed when it was to store this change
+abbrev pub FailsAtStore : Tables → office.Command → Course → Course → Type 0
+FailsAtStore tables command before after =
+    (change : office.Change) × (reply : office.Reply) × Comes tables command (Replies (Some change) reply) × (after ≡ with_call before (Store change (Some keeper.Failed)))
 
 -- a reply, a refusal, a stop of the run or a refused proof is that of the command's outcome over these tables. After a fault of the keeper,
 -- and if memory runs out, the tables that the keeper tells are as before
@@ -76,6 +82,25 @@ IsDone (Err OutOfMemory) = ⊥
 abbrev pub GoesOn : Option Tables → office.Command → Result Reply ActStop → Option Tables → Type 0
 GoesOn before command result after = (commands : List office.Command) (kept : Tables) → before ≡ Some kept → Folds commands kept → IsDone result →
     (left : Tables) × (after ≡ Some left) × Folds (commands ++ command ∷ []) left
+
+-- if the call stopped because the keeper failed, the keeper failed at its one call: to store the change of the command's outcome
+abbrev pub FailsInOrderOver : Tables → office.Command → Result Reply ActStop → Course → Course → Type 0
+FailsInOrderOver tables command (Ok reply) before after = ⊤
+FailsInOrderOver tables command (Err (Refused refusal)) before after = ⊤
+FailsInOrderOver tables command (Err (Solve stopped)) before after = ⊤
+FailsInOrderOver tables command (Err (Unproved verdict)) before after = ⊤
+FailsInOrderOver tables command (Err KeeperFault) before after = FailsAtStore tables command before after
+FailsInOrderOver tables command (Err OutOfMemory) before after = ⊤
+
+-- the same for a call that loads the tables first: the keeper failed to load them, or, after they were loaded, to store the change
+abbrev pub FailsInOrder : Option Tables → office.Command → Result Reply ActStop → Course → Course → Type 0
+FailsInOrder told command (Ok reply) before after = ⊤
+FailsInOrder told command (Err (Refused refusal)) before after = ⊤
+FailsInOrder told command (Err (Solve stopped)) before after = ⊤
+FailsInOrder told command (Err (Unproved verdict)) before after = ⊤
+FailsInOrder told command (Err KeeperFault) before after =
+    (after ≡ with_call before (Load (Some keeper.Failed))) ⊎ ((tables : Tables) × IsLoaded told tables × FailsAtStore tables command (with_call before (Load None)) after)
+FailsInOrder told command (Err OutOfMemory) before after = ⊤
 
 -- the keeper counted a fault exactly if the call stopped because of one
 abbrev pub HasFault : ℕ → ℕ → Result Reply ActStop → Type 0

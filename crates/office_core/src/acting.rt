@@ -4,9 +4,9 @@ ghost use Rattle.std.specs.Prelude.{◌≡◌, IfSome, OnErr, OnOk, option_map};
 ghost use Rattle.define_offices.specs.Facts.{IsTables};
 ghost use Rattle.define_offices.specs.Steps.{applied};
 ghost use Rattle.office_tables.specs.Changes.{seen_change};
-ghost use Rattle.office_core.specs.Acting.{ActsOn, ActsOver, GoesOn, HasFault, stop_of_decision};
+ghost use Rattle.office_core.specs.Acting.{ActsOn, ActsOver, FailsInOrder, FailsInOrderOver, GoesOn, HasFault, stop_of_decision};
 ghost use Rattle.office_core.specs.Commands.{HasWorkers, seen_command};
-ghost use Rattle.office_core.specs.Keeping.{HasCause, changed};
+ghost use Rattle.office_core.specs.Keeping.{HasCause, StoresIt, changed};
 
 use crate::commands::Command;
 use crate::deciding::decide;
@@ -31,24 +31,9 @@ pub fn act<K: Keeper, R: Threads + Sync, W: Watch + Sync>(
     ensures step { ActsOn (K.tables keeper.old) (seen_command command.now) result (K.tables keeper.new) }
     // So after any number of calls the tables are the fold of the commands that ended with an outcome.
     ensures fold { GoesOn (K.tables keeper.old) (seen_command command.now) result (K.tables keeper.new) }
-    ensures place { K.place keeper.new ≡ K.place keeper.old }
+    ensures place { (K.course keeper.new).place ≡ (K.course keeper.old).place }
     ensures fault { HasFault (K.faults keeper.old) (K.faults keeper.new) result }
-{
-    acted(rt, alloc, keeper, command, watch)
-}
-
-/// The body of `act`. Its contract has each clause of that of `act` except `fold`, which follows from `step`.
-fn acted<K: Keeper, R: Threads + Sync, W: Watch + Sync>(
-    rt: &R,
-    alloc: Global,
-    keeper: &mut K,
-    command: &Command,
-    watch: &W,
-) -> Result<Reply, ActStop>
-    requires { HasWorkers command.now }
-    ensures step { ActsOn (K.tables keeper.old) (seen_command command.now) result (K.tables keeper.new) }
-    ensures place { K.place keeper.new ≡ K.place keeper.old }
-    ensures fault { HasFault (K.faults keeper.old) (K.faults keeper.new) result }
+    ensures order { FailsInOrder (K.tables keeper.old) (seen_command command.now) result (K.course keeper.old) (K.course keeper.new) }
 {
     let tables = keeper.load(alloc)?;
     tables.facts();
@@ -67,8 +52,30 @@ pub fn act_over<K: Keeper, R: Threads + Sync, W: Watch + Sync>(
     requires workers { HasWorkers command.now }
     requires loaded { IfSome (K.tables keeper.old) (λ kept. tables.now ≡ kept) }
     ensures step { ActsOver tables.now (K.tables keeper.old) (seen_command command.now) result (K.tables keeper.new) }
-    ensures place { K.place keeper.new ≡ K.place keeper.old }
+    ensures fold { GoesOn (K.tables keeper.old) (seen_command command.now) result (K.tables keeper.new) }
+    ensures place { (K.course keeper.new).place ≡ (K.course keeper.old).place }
     ensures fault { HasFault (K.faults keeper.old) (K.faults keeper.new) result }
+    ensures order { FailsInOrderOver tables.now (seen_command command.now) result (K.course keeper.old) (K.course keeper.new) }
+{
+    tables.facts();
+    acted_over(rt, alloc, keeper, tables, command, watch)
+}
+
+/// The body of `act_over`. Its contract has each clause of that of `act_over` except `fold`, which follows from `step`.
+fn acted_over<K: Keeper, R: Threads + Sync, W: Watch + Sync>(
+    rt: &R,
+    alloc: Global,
+    keeper: &mut K,
+    tables: &Tables,
+    command: &Command,
+    watch: &W,
+) -> Result<Reply, ActStop>
+    requires workers { HasWorkers command.now }
+    requires loaded { IfSome (K.tables keeper.old) (λ kept. tables.now ≡ kept) }
+    ensures step { ActsOver tables.now (K.tables keeper.old) (seen_command command.now) result (K.tables keeper.new) }
+    ensures place { (K.course keeper.new).place ≡ (K.course keeper.old).place }
+    ensures fault { HasFault (K.faults keeper.old) (K.faults keeper.new) result }
+    ensures order { FailsInOrderOver tables.now (seen_command command.now) result (K.course keeper.old) (K.course keeper.new) }
 {
     command.facts();
     tables.facts();
@@ -91,7 +98,8 @@ fn store<K: Keeper>(
     requires { IfSome (K.tables keeper.old) (λ kept. IsTables (applied kept (option_map seen_change change.now))) }
     ensures ok { OnOk result (K.tables keeper.new ≡ changed (K.tables keeper.old) (option_map seen_change change.now)) }
     ensures err { OnErr result (K.tables keeper.new ≡ K.tables keeper.old) }
-    ensures place { K.place keeper.new ≡ K.place keeper.old }
+    ensures place { (K.course keeper.new).place ≡ (K.course keeper.old).place }
+    ensures order { StoresIt (option_map seen_change change.now) result (K.course keeper.old) (K.course keeper.new) }
     ensures cause { HasCause (K.faults keeper.old) (K.faults keeper.new) result }
 {
     match change {

@@ -5,7 +5,7 @@ ghost use Rattle.define_offices.specs.Facts.{IsTables};
 ghost use Rattle.define_offices.specs.Steps.{apply};
 ghost use Rattle.define_offices.specs.Tables.{Tables as Seen};
 ghost use Rattle.office_tables.specs.Changes.{seen_change};
-ghost use Rattle.office_core.specs.Keeping.{HasCause, Place, at, stored};
+ghost use Rattle.office_core.specs.Keeping.{Attach, Course, HasCause, Load, Store, stop_of, stored, with_call};
 
 use office_tables::{Change, Tables};
 use std::alloc::Global;
@@ -28,8 +28,8 @@ pub trait Keeper {
     /// The tables that are kept, if the keeper can tell.
     ghost tables: { Self → Option Seen };
 
-    /// Where the keeper is attached, if it can tell.
-    ghost place: { Self → Place };
+    /// Where the keeper is attached, and the calls that were made of it, as far as it can tell.
+    ghost course: { Self → Course };
 
     /// How many faults the keeper has counted.
     ghost faults: { Self → ℕ };
@@ -37,14 +37,13 @@ pub trait Keeper {
     /// Attaches the keeper to the tables at `path`. No tables change.
     fn attach(&mut self, alloc: Global, path: &str) -> Result<(), KeeperStop>
         ensures same { tables self.new ≡ tables self.old }
-        ensures place { OnOk result (place self.new ≡ at (place self.old) path.now) }
-        ensures stays { OnErr result (place self.new ≡ place self.old) }
+        ensures course { course self.new ≡ with_call (course self.old) (Attach path.now (stop_of result)) }
         ensures cause { HasCause (faults self.old) (faults self.new) result };
 
     /// Returns the tables that are kept.
     fn load(&mut self, alloc: Global) -> Result<Tables, KeeperStop>
         ensures same { tables self.new ≡ tables self.old }
-        ensures place { place self.new ≡ place self.old }
+        ensures course { course self.new ≡ with_call (course self.old) (Load (stop_of result)) }
         ensures loaded { IfOk result (λ loaded. IfSome (tables self.old) (λ kept. loaded ≡ kept)) }
         ensures cause { HasCause (faults self.old) (faults self.new) result };
 
@@ -52,7 +51,7 @@ pub trait Keeper {
     /// `IsTables` holds of them after the change.
     fn store(&mut self, alloc: Global, change: &Change) -> Result<(), KeeperStop>
         requires { IfSome (tables self.old) (λ kept. IsTables (apply kept (seen_change change.now))) }
-        ensures place { place self.new ≡ place self.old }
+        ensures course { course self.new ≡ with_call (course self.old) (Store (seen_change change.now) (stop_of result)) }
         ensures ok { OnOk result (tables self.new ≡ stored (tables self.old) (seen_change change.now)) }
         ensures err { OnErr result (tables self.new ≡ tables self.old) }
         ensures cause { HasCause (faults self.old) (faults self.new) result };

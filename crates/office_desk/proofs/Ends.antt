@@ -1,6 +1,6 @@
 -- How a request ends: withdrawals, and requests that don't change the tables.
 use Rattle.std.proofs.Common.{◌≡◌, ℕ, List, [], ◌∷◌, Option, Some, None, Result, Ok, Err, inl, inr, option_map, refl, sym, ap, ◌∙◌, subst}
-use Rattle.std.specs.Prelude.{IfSome, codes, map}
+use Rattle.std.specs.Prelude.{◌==◌, IfSome, codes, map}
 use Rattle.define_draws.specs.Seal.{seal_of}
 use Rattle.define_offices.specs.Commands as office
 use Rattle.define_offices.specs.Commands.{Outcome, Refuses, Replies, Stops, Withdraw}
@@ -8,15 +8,18 @@ use Rattle.define_offices.specs.Deciding.{IsDecided, place_of_hash, with_hash, w
 use Rattle.define_offices.specs.Steps.{AtOnce, ByRun, Comes, tables_after}
 use Rattle.define_offices.specs.Tables.{Entry, Tables}
 use Rattle.define_desk.specs.Requests.{Request}
-use Rattle.define_desk.specs.Replies.{Reply, not_found, told, unknown_key}
+use Rattle.define_desk.specs.Replies.{Reply, not_found, told, unavailable, unknown_key}
 use Rattle.define_desk.specs.Views.{published, published_of}
 use Rattle.define_desk.specs.Desk.{BundlePage, DrawPage, OwnPage, Page as SeenPage, Served, WithdrawalPage, bundle_reply, draw_reply, if_by, leaving, own_reply, round_named, served, served_page, withdrawal, withdrawal_by, withdrawal_reply, withdrawn_body}
 use Rattle.office_steps.specs.Replies.{seen_refusal, seen_reply}
 use Rattle.office_steps.specs.declared.replies.Reply.{Reply as OfficeReply}
-use Rattle.office_core.specs.Acting.{ActsOver, HasFault as ActFault, HasOutcomeOver, IsLoaded}
+use Rattle.office_core.specs.Acting.{ActsOver, FailsAtStore, FailsInOrderOver, HasFault as ActFault, HasOutcomeOver, IsLoaded}
+use Rattle.office_core.specs.Keeping.{Course, HasCause, Load, with_call}
+use Rattle.office_core.specs.declared.keeper.KeeperStop.TheVariants as keeper
 use Rattle.office_core.specs.declared.stops.ActStop.{ActStop}
 use Rattle.office_core.specs.declared.stops.ActStop.TheVariants as act
-use Rattle.office_desk.specs.Answers.{HasFault, IsReplyTo, NoMemory, Replied, Unavailable}
+use Rattle.office_desk.specs.Answers.{FailsInTurn, FailsToStore, HasFault, IsReplyTo, NoMemory, Replied, ToLoad, ToStore, Unavailable}
+use Rattle.office_desk.proofs.Causes.{because}
 use Rattle.office_desk.specs.Endings.{Done, EndsAs, Failed, IsSentFor, WantsMemory}
 use Rattle.office_desk.specs.Pages.{seen_page}
 use Rattle.office_desk.specs.Refusals.{refusal_reply}
@@ -141,15 +144,29 @@ module _ (tables : Tables) (request : Request) where
 
 -- ---- counts of faults
 
-pub stopped_faults : (before now : ℕ) (stop : ActStop) → ActFault before now (Err stop) → HasFault before now (refusal_reply (stop_refusal stop)).status
-stopped_faults before now (act.Refused refusal) h = h
-stopped_faults before now (act.Solve stopped) h = h
-stopped_faults before now (act.Unproved verdict) h = h
-stopped_faults before now act.KeeperFault h = h
-stopped_faults before now act.OutOfMemory h = h
+pub stopped_faults : (tables : Tables) (key : List ℕ) (old new : Course) (before now : ℕ) (stop : ActStop) → ActFault before now (Err stop) →
+    FailsInOrderOver tables (Withdraw key) (Err stop) old new → HasFault (FailsAtStore tables (Withdraw key) old new) before now (refusal_reply (stop_refusal stop)).status
+stopped_faults tables key old new before now (act.Refused refusal) h order = h
+stopped_faults tables key old new before now (act.Solve stopped) h order = h
+stopped_faults tables key old new before now (act.Unproved verdict) h order = h
+stopped_faults tables key old new before now act.KeeperFault (up, rose) order = (up, rose, order)
+stopped_faults tables key old new before now act.OutOfMemory h order = h
 
-pub told_faults : (before now : ℕ) (found : Option Entry) (sent : Sent) → TellsWithdrawn found (Some sent) → now ≡ before → HasFault before now sent.status
-told_faults before now None sent tells h = absurd (cc)
-told_faults before now (Some entry) sent tells h =
+pub told_faults : (Why : Type 0) (before now : ℕ) (found : Option Entry) (sent : Sent) → TellsWithdrawn found (Some sent) → now ≡ before → HasFault Why before now sent.status
+told_faults Why before now None sent tells h = absurd (cc)
+told_faults Why before now (Some entry) sent tells h =
     let is : sent ≡ sent_of (told (withdrawn_body entry.id)) = cc in
-    subst (λ (s : Sent). HasFault before now s.status) (sym is) h
+    subst (λ (s : Sent). HasFault Why before now s.status) (sym is) h
+
+-- if the tables were loaded, and the keeper failed over them in its order, it failed in its order
+pub loaded_faults : (told : Option Tables) (tables : Tables) (keys : List (List ℕ)) (old loaded new : Course) (before now_loaded now status : ℕ) → IsLoaded told tables →
+    loaded ≡ with_call old (Load None) → now_loaded ≡ before → HasFault (FailsToStore tables keys loaded new) now_loaded now status → HasFault (FailsInTurn told keys old new) before now status
+loaded_faults told tables keys old loaded new before now_loaded now status is course none fault =
+    because _ _ (status == 503) before now (λ fails. ToStore tables is (subst (λ (c : Course). FailsToStore tables keys c new) course fails))
+    (subst (λ (count : ℕ). HasFault (FailsToStore tables keys loaded new) count now status) none fault)
+
+-- if the tables could not be loaded, the keeper failed in its order
+pub load_faults : (told : Option Tables) (keys : List (List ℕ)) (old new : Course) (before now : ℕ) (sent : Sent) → HasCause {T = Tables} before now (Err keeper.Failed) →
+    new ≡ with_call old (Load (Some keeper.Failed)) → sent ≡ sent_of unavailable → HasFault (FailsInTurn told keys old new) before now sent.status
+load_faults told keys old new before now sent (up, rose) course is =
+    subst (λ (s : Sent). HasFault (FailsInTurn told keys old new) before now s.status) (sym is) (up, rose, ToLoad course)

@@ -1,5 +1,6 @@
 mod BodyTexts
 mod ByMethod
+pub mod Causes
 mod Digits
 mod DrawnBodies
 mod Ends

@@ -13,10 +13,10 @@ use Rattle.office_desk.specs.Answers.{HasFault}
 use Rattle.office_desk.specs.Endings.{IsSentFor}
 use Rattle.office_desk.specs.Sent.{Sent}
 
-pub no_fault : (count : ℕ) (reply : Reply) (sent : Sent) → (reply.status == 503) ≡ false → IsSentFor reply sent → HasFault count count sent.status
-no_fault count reply sent h (inl is) =
-    subst (λ (s : Sent). HasFault count count s.status) (sym is) (subst (λ (b : Bool). MatchBool b ((count ≤ count) × Rose count count) (count ≡ count)) (sym h) refl)
-no_fault count reply sent h (inr is) = subst (λ (s : Sent). HasFault count count s.status) (sym is) refl
+pub no_fault : (Why : Type 0) (count : ℕ) (reply : Reply) (sent : Sent) → (reply.status == 503) ≡ false → IsSentFor reply sent → HasFault Why count count sent.status
+no_fault Why count reply sent h (inl is) =
+    subst (λ (s : Sent). HasFault Why count count s.status) (sym is) (subst (λ (b : Bool). MatchBool b ((count ≤ count) × Rose count count × Why) (count ≡ count)) (sym h) refl)
+no_fault Why count reply sent h (inr is) = subst (λ (s : Sent). HasFault Why count count s.status) (sym is) refl
 
 if_status : (method : List ℕ) (request : Request) (reply : Reply) → (reply.status == 503) ≡ false → ((if_by method request reply).status == 503) ≡ false
 if_status method request reply h = by (bytes_eq request.method method)

@@ -4,7 +4,7 @@ ghost use Rattle.std.specs.Prelude.{◌≡◌, IfOk};
 ghost use Rattle.define_desk.specs.Replies.{Reply, out_of_memory};
 ghost use Rattle.office_core.specs.Acting.{IsLoaded};
 ghost use Rattle.office_requests.specs.Askings.{seen_asking};
-ghost use Rattle.office_desk.specs.Answers.{HasFault, IsDeskAnswer, IsReplyTo};
+ghost use Rattle.office_desk.specs.Answers.{FailsFor, FailsInTurn, FailsToStore, HasFault, IsDeskAnswer, IsReplyTo};
 ghost use Rattle.office_desk.specs.Endings.{IsSentFor};
 ghost use Rattle.office_desk.specs.Sent.{sent_of};
 
@@ -31,8 +31,8 @@ pub fn answer<R: Threads + Sync, K: Keeper, W: Watch + Sync>(
     watch: &W,
 ) -> Answer
     ensures desk { IsDeskAnswer (K.tables keeper.old) (seen_asking asking.now) (K.tables keeper.new) result }
-    ensures place { K.place keeper.new ≡ K.place keeper.old }
-    ensures fault { HasFault (K.faults keeper.old) (K.faults keeper.new) result.status }
+    ensures place { (K.course keeper.new).place ≡ (K.course keeper.old).place }
+    ensures fault { HasFault (FailsFor (K.tables keeper.old) (seen_asking asking.now) (K.course keeper.old) (K.course keeper.new)) (K.faults keeper.old) (K.faults keeper.new) result.status }
 {
     match asking {
         Asking::TooLarge => Answer::refused(Refusal::TooLarge),
@@ -50,8 +50,8 @@ fn reply_to<R: Threads + Sync, K: Keeper, W: Watch + Sync>(
     watch: &W,
 ) -> Answer
     ensures desk { IsReplyTo (K.tables keeper.old) request.now (K.tables keeper.new) result }
-    ensures place { K.place keeper.new ≡ K.place keeper.old }
-    ensures fault { HasFault (K.faults keeper.old) (K.faults keeper.new) result.status }
+    ensures place { (K.course keeper.new).place ≡ (K.course keeper.old).place }
+    ensures fault { HasFault (FailsInTurn (K.tables keeper.old) request.now.keys (K.course keeper.old) (K.course keeper.new)) (K.faults keeper.old) (K.faults keeper.new) result.status }
 {
     match keeper.load(alloc) {
         Ok(tables) => {
@@ -74,8 +74,8 @@ fn reply_over<R: Threads + Sync, K: Keeper, W: Watch + Sync>(
 ) -> Answer
     requires { IsLoaded (K.tables keeper.old) tables.now }
     ensures desk { IsReplyTo (K.tables keeper.old) request.now (K.tables keeper.new) result }
-    ensures place { K.place keeper.new ≡ K.place keeper.old }
-    ensures fault { HasFault (K.faults keeper.old) (K.faults keeper.new) result.status }
+    ensures place { (K.course keeper.new).place ≡ (K.course keeper.old).place }
+    ensures fault { HasFault (FailsToStore tables.now request.now.keys (K.course keeper.old) (K.course keeper.new)) (K.faults keeper.old) (K.faults keeper.new) result.status }
 {
     match page_of(request.path().as_bytes()) {
         Some(Page::Withdrawal) => withdrawal_answer(rt, alloc, keeper, tables, request, watch),

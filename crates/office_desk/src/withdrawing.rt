@@ -5,8 +5,8 @@ ghost use Rattle.define_offices.specs.Deciding.{with_hash};
 ghost use Rattle.define_offices.specs.Commands.{Withdraw};
 ghost use Rattle.define_draws.specs.Seal.{seal_of};
 ghost use Rattle.define_desk.specs.Desk.{WithdrawalPage, served_page, withdrawal as withdrawal_of};
-ghost use Rattle.office_core.specs.Acting.{ActsOver, HasFault as ActFault, IsLoaded};
-ghost use Rattle.office_desk.specs.Answers.{HasFault};
+ghost use Rattle.office_core.specs.Acting.{ActsOver, FailsAtStore, FailsInOrderOver, HasFault as ActFault, IsLoaded};
+ghost use Rattle.office_desk.specs.Answers.{FailsToStore, HasFault};
 ghost use Rattle.office_desk.specs.Endings.{EndsAs};
 ghost use Rattle.office_desk.specs.Withdrawals.{TellsWithdrawn, stop_refusal};
 
@@ -32,8 +32,8 @@ pub(crate) fn withdrawal_answer<R: Threads + Sync, K: Keeper, W: Watch + Sync>(
 ) -> Answer
     requires { IsLoaded (K.tables keeper.old) tables.now }
     ensures ends { EndsAs (K.tables keeper.old) (served_page tables.now request.now (Some WithdrawalPage)) (K.tables keeper.new) result }
-    ensures place { K.place keeper.new ≡ K.place keeper.old }
-    ensures fault { HasFault (K.faults keeper.old) (K.faults keeper.new) result.status }
+    ensures place { (K.course keeper.new).place ≡ (K.course keeper.old).place }
+    ensures fault { HasFault (FailsToStore tables.now request.now.keys (K.course keeper.old) (K.course keeper.new)) (K.faults keeper.old) (K.faults keeper.new) result.status }
 {
     if request.method() == b"POST".as_slice() {
         withdrawal_by(rt, alloc, keeper, tables, request.keys(), watch)
@@ -53,8 +53,8 @@ fn withdrawal_by<R: Threads + Sync, K: Keeper, W: Watch + Sync>(
 ) -> Answer
     requires { IsLoaded (K.tables keeper.old) tables.now }
     ensures ends { EndsAs (K.tables keeper.old) (withdrawal_of tables.now keys.now) (K.tables keeper.new) result }
-    ensures place { K.place keeper.new ≡ K.place keeper.old }
-    ensures fault { HasFault (K.faults keeper.old) (K.faults keeper.new) result.status }
+    ensures place { (K.course keeper.new).place ≡ (K.course keeper.old).place }
+    ensures fault { HasFault (FailsToStore tables.now keys.now (K.course keeper.old) (K.course keeper.new)) (K.faults keeper.old) (K.faults keeper.new) result.status }
 {
     match keys {
         [key] => withdrawal_with(rt, alloc, keeper, tables, key, watch),
@@ -73,8 +73,8 @@ fn withdrawal_with<R: Threads + Sync, K: Keeper, W: Watch + Sync>(
 ) -> Answer
     requires { IsLoaded (K.tables keeper.old) tables.now }
     ensures ends { EndsAs (K.tables keeper.old) (withdrawal_of tables.now (key.now ∷ [])) (K.tables keeper.new) result }
-    ensures place { K.place keeper.new ≡ K.place keeper.old }
-    ensures fault { HasFault (K.faults keeper.old) (K.faults keeper.new) result.status }
+    ensures place { (K.course keeper.new).place ≡ (K.course keeper.old).place }
+    ensures fault { HasFault (FailsAtStore tables.now (Withdraw key.now) (K.course keeper.old) (K.course keeper.new)) (K.faults keeper.old) (K.faults keeper.new) result.status }
 {
     match told_withdrawn(alloc, tables, key) {
         Ok(Some(told)) => stored(rt, alloc, keeper, tables, key, told, watch),
@@ -109,8 +109,8 @@ fn stored<R: Threads + Sync, K: Keeper, W: Watch + Sync>(
     requires loaded { IsLoaded (K.tables keeper.old) tables.now }
     requires told { TellsWithdrawn (with_hash tables.now.register (seal_of key.now)) (Some told) }
     ensures ends { EndsAs (K.tables keeper.old) (withdrawal_of tables.now (key.now ∷ [])) (K.tables keeper.new) result }
-    ensures place { K.place keeper.new ≡ K.place keeper.old }
-    ensures fault { HasFault (K.faults keeper.old) (K.faults keeper.new) result.status }
+    ensures place { (K.course keeper.new).place ≡ (K.course keeper.old).place }
+    ensures fault { HasFault (FailsAtStore tables.now (Withdraw key.now) (K.course keeper.old) (K.course keeper.new)) (K.faults keeper.old) (K.faults keeper.new) result.status }
 {
     match withdrawn(rt, alloc, keeper, tables, key, watch) {
         Ok(_) => told,
@@ -142,8 +142,9 @@ fn withdrawn<R: Threads + Sync, K: Keeper, W: Watch + Sync>(
 ) -> Result<Reply, ActStop>
     requires { IfSome (K.tables keeper.old) (λ kept. tables.now ≡ kept) }
     ensures step { ActsOver tables.now (K.tables keeper.old) (Withdraw key.now) result (K.tables keeper.new) }
-    ensures place { K.place keeper.new ≡ K.place keeper.old }
+    ensures place { (K.course keeper.new).place ≡ (K.course keeper.old).place }
     ensures fault { ActFault (K.faults keeper.old) (K.faults keeper.new) result }
+    ensures order { FailsInOrderOver tables.now (Withdraw key.now) result (K.course keeper.old) (K.course keeper.new) }
 {
     let Ok(key) = Vec::from_slice(alloc, key.as_bytes()) else {
         return Err(ActStop::OutOfMemory);

@@ -9,7 +9,8 @@ use Rattle.define_desk.specs.Requests.{AreAsking, Asks, Request}
 use Rattle.define_desk.specs.Desk.{Serves, leaving}
 use Rattle.define_desk.specs.Replies.{Reply, out_of_memory, reply_text, unavailable}
 use Rattle.office_core.specs.Acting.{IsLoaded}
-use Rattle.office_desk.specs.Answers.{HasFault}
+use Rattle.office_core.specs.Keeping.{Course}
+use Rattle.office_desk.specs.Answers.{FailsInTurn, HasFault}
 use Rattle.office_requests.specs.Reads.{LosesAtMost, most_read}
 use Rattle.office_http.specs.declared.attending.LinkFault.{LinkFault}
 
@@ -22,13 +23,14 @@ pub record LinkTold : Type 0 where
 abbrev pub link_told : Option (List ℕ) → Option (List ℕ) → ℕ → LinkTold
 link_told left written faults = record { left = left; written = written; faults = faults }
 
--- what a keeper tells: its tables, if it tells them, and its count of faults
+-- what a keeper tells: its tables, if it tells them, its count of faults, and its course
 pub record Kept : Type 0 where
   pub tables : Option Tables
   pub faults : ℕ
+  pub course : Course
 
-abbrev pub kept : Option Tables → ℕ → Kept
-kept tables faults = record { tables = tables; faults = faults }
+abbrev pub kept : Option Tables → ℕ → Course → Kept
+kept tables faults course = record { tables = tables; faults = faults; course = course }
 
 -- a visit: the link and the keeper before and after it, and how it ended: with the status of a reply, or with a fault of the link
 pub record Visit : Type 0 where
@@ -54,13 +56,17 @@ pub data IsReply (bytes : List ℕ) (before after : Option Tables) (reply : Repl
   -- 507: memory ran out, which may happen at any time
   NoMemory : reply ≡ out_of_memory → after ≡ before → IsReply bytes before after reply
 
+-- the bytes ask for something, and the keeper failed at a call that this gives cause for
+abbrev pub FailsOver : List ℕ → Kept → Kept → Type 0
+FailsOver bytes before after = (request : Request) × AreAsking bytes (Asks request) × FailsInTurn before.tables request.keys before.course after.course
+
 -- the reply is a reply to all bytes that come over a link. `left` are these bytes, if the link tells them
 pub record RepliesTo (left : Option (List ℕ)) (before after : Kept) (reply : Reply) : Type 0 where
   pub bytes : List ℕ
   pub all : IfSome left (λ told. bytes ≡ told)
   pub is : IsReply bytes before.tables after.tables reply
-  -- the keeper counted a fault if the status is 503, else none
-  pub fault : HasFault before.faults after.faults reply.status
+  -- the keeper counted a fault if the status is 503, at a call that was in its order; else none
+  pub fault : HasFault (FailsOver bytes before after) before.faults after.faults reply.status
 
 -- the link gained a whole reply, which has this status
 pub record EndsWith (it : Visit) (number : ℕ) : Type 0 where

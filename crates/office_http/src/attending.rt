@@ -2,6 +2,7 @@
 
 ghost use Rattle.std.specs.Prelude.{◌≡◌, ◌≤◌, ◌+◌, IfOk, OnErr, OnOk};
 ghost use Rattle.outside.specs.Faults.{Rose};
+ghost use Rattle.office_requests.specs.Needs.{ReadsAsNeeded};
 ghost use Rattle.office_requests.specs.Reads.{LosesAtMost, most_read};
 ghost use Rattle.office_http.specs.Answers.{IsAnswerTo};
 ghost use Rattle.office_http.specs.Visits.{IsAttended, kept, link_told, visit};
@@ -20,7 +21,8 @@ use thiserror::Error;
 pub struct LinkFault;
 
 /// Reads what is asked over the link, and writes the desk's reply to it, in one put. Returns the status of the reply. A read that fails is
-/// never taken for the end of the bytes. Makes at most 73,728 reads. If the put fails, what a withdrawal changed stays changed.
+/// never taken for the end of the bytes. Makes at most 73,728 reads, and none once the bytes say what is asked. If the put fails, what a
+/// withdrawal changed stays changed.
 pub fn attend<R: Threads + Sync, L: Link, K: Keeper, W: Watch + Sync>(
     rt: &R,
     alloc: Global,
@@ -29,10 +31,11 @@ pub fn attend<R: Threads + Sync, L: Link, K: Keeper, W: Watch + Sync>(
     watch: &W,
 ) -> Result<u16, LinkFault>
     ensures visit { IsAttended (visit
-        (link_told (L.left link.old) (L.written link.old) (L.faults link.old)) (kept (K.tables keeper.old) (K.faults keeper.old))
-        (link_told (L.left link.new) (L.written link.new) (L.faults link.new)) (kept (K.tables keeper.new) (K.faults keeper.new)) result) }
+        (link_told (L.left link.old) (L.written link.old) (L.faults link.old)) (kept (K.tables keeper.old) (K.faults keeper.old) (K.course keeper.old))
+        (link_told (L.left link.new) (L.written link.new) (L.faults link.new)) (kept (K.tables keeper.new) (K.faults keeper.new) (K.course keeper.new)) result) }
     ensures reads { L.reads link.new ≤ L.reads link.old + most_read }
-    ensures place { K.place keeper.new ≡ K.place keeper.old }
+    ensures needed { ReadsAsNeeded L.left L.reads link.old link.new }
+    ensures place { (K.course keeper.new).place ≡ (K.course keeper.old).place }
 {
     let answer = answer_link(rt, alloc, link, keeper, watch)?;
     match link.put(answer.bytes()) {
@@ -50,14 +53,15 @@ fn answer_link<R: Threads + Sync, L: Link, K: Keeper, W: Watch + Sync>(
     watch: &W,
 ) -> Result<Answer, LinkFault>
     ensures answer { IfOk result (IsAnswerTo (L.left link.old)
-        (kept (K.tables keeper.old) (K.faults keeper.old)) (kept (K.tables keeper.new) (K.faults keeper.new))) }
-    ensures unasked { OnErr result (kept (K.tables keeper.new) (K.faults keeper.new) ≡ kept (K.tables keeper.old) (K.faults keeper.old)) }
+        (kept (K.tables keeper.old) (K.faults keeper.old) (K.course keeper.old)) (kept (K.tables keeper.new) (K.faults keeper.new) (K.course keeper.new))) }
+    ensures unasked { OnErr result (kept (K.tables keeper.new) (K.faults keeper.new) (K.course keeper.new) ≡ kept (K.tables keeper.old) (K.faults keeper.old) (K.course keeper.old)) }
     ensures cause { OnErr result (Rose (L.faults link.old) (L.faults link.new)) }
     ensures none { OnOk result (L.faults link.new ≡ L.faults link.old) }
     ensures unwritten { L.written link.new ≡ L.written link.old }
     ensures read { LosesAtMost most_read (L.left link.old) (L.left link.new) }
     ensures reads { L.reads link.new ≤ L.reads link.old + most_read }
-    ensures place { K.place keeper.new ≡ K.place keeper.old }
+    ensures needed { ReadsAsNeeded L.left L.reads link.old link.new }
+    ensures place { (K.course keeper.new).place ≡ (K.course keeper.old).place }
 {
     match read_asking(alloc, link) {
         Ok(asking) => Ok(answer(rt, alloc, keeper, &asking, watch)),

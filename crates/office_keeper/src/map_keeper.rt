@@ -6,8 +6,8 @@ ghost use Rattle.define_offices.specs.Steps.{apply as applied};
 ghost use Rattle.define_offices.specs.Tables.{first_tables};
 ghost use Rattle.outside.specs.Memory.{after_call, next_fails, no_calls};
 ghost use Rattle.office_tables.specs.Changes.{seen_change};
-ghost use Rattle.office_core.specs.Keeping.{HasCause, Nowhere, at, stored};
-ghost use Rattle.office_keeper.specs.Places.{has_failed, place_of};
+ghost use Rattle.office_core.specs.Keeping.{Attach, HasCause, Load, Nowhere, Store, stop_of, with_call};
+ghost use Rattle.office_keeper.specs.Places.{course_of, has_failed, place_of};
 
 use office_core::{Change, Keeper, KeeperStop, Tables, apply};
 use outside::CallPlan;
@@ -67,14 +67,13 @@ impl MapKeeper {
 impl Keeper for MapKeeper {
     ghost tables = { λ k. Some k.tables };
 
-    ghost place = { λ k. place_of k.path };
+    ghost course = { λ k. course_of k.path };
 
     ghost faults = { λ k. k.calls.faults };
 
     fn attach(&mut self, alloc: Global, path: &str) -> Result<(), KeeperStop>
         ensures same { self.new.tables ≡ self.old.tables }
-        ensures place { OnOk result (place_of self.new.path ≡ at (place_of self.old.path) path.now) }
-        ensures stays { OnErr result (place_of self.new.path ≡ place_of self.old.path) }
+        ensures course { course_of self.new.path ≡ with_call (course_of self.old.path) (Attach path.now (stop_of result)) }
         ensures cause { HasCause self.old.calls.faults self.new.calls.faults result }
         ensures failed { has_failed result ≡ next_fails self.old.calls }
         ensures calls { self.new.calls ≡ after_call self.old.calls (has_failed result) }
@@ -93,7 +92,7 @@ impl Keeper for MapKeeper {
 
     fn load(&mut self, _alloc: Global) -> Result<Tables, KeeperStop>
         ensures same { self.new.tables ≡ self.old.tables }
-        ensures place { place_of self.new.path ≡ place_of self.old.path }
+        ensures course { course_of self.new.path ≡ with_call (course_of self.old.path) (Load (stop_of result)) }
         ensures loaded { IfOk result (λ loaded. loaded ≡ self.old.tables) }
         ensures cause { HasCause self.old.calls.faults self.new.calls.faults result }
         ensures failed { has_failed result ≡ next_fails self.old.calls }
@@ -110,7 +109,7 @@ impl Keeper for MapKeeper {
 
     fn store(&mut self, alloc: Global, change: &Change) -> Result<(), KeeperStop>
         requires { IsTables (applied self.old.tables (seen_change change.now)) }
-        ensures place { place_of self.new.path ≡ place_of self.old.path }
+        ensures course { course_of self.new.path ≡ with_call (course_of self.old.path) (Store (seen_change change.now) (stop_of result)) }
         ensures ok { OnOk result (self.new.tables ≡ applied self.old.tables (seen_change change.now)) }
         ensures err { OnErr result (self.new.tables ≡ self.old.tables) }
         ensures cause { HasCause self.old.calls.faults self.new.calls.faults result }

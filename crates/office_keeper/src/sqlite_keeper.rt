@@ -2,9 +2,10 @@
 
 ghost use Rattle.std.specs.Prelude.{◌≡◌, Err, IfOk, None, OnErr, OnOk, Some, option_map};
 ghost use Rattle.office_core.specs.declared.keeper.KeeperStop.TheVariants.{Failed};
-ghost use Rattle.office_core.specs.Keeping.{HasCause, Nowhere, at};
+ghost use Rattle.office_core.specs.Keeping.{Attach, HasCause, Load, Nowhere, Store, stop_of, with_call};
+ghost use Rattle.office_tables.specs.Changes.{seen_change};
 ghost use Rattle.office_keeper.specs.Counting.{faults_after};
-ghost use Rattle.office_keeper.specs.Places.{place_of};
+ghost use Rattle.office_keeper.specs.Places.{course_of};
 
 use crate::sqlite_over::SqliteOver;
 use office_core::{Change, Keeper, KeeperStop, Tables};
@@ -43,7 +44,7 @@ impl SqliteKeeper {
     /// Returns a keeper that is attached nowhere and has counted no fault.
     pub fn new(rt: &HostRuntime) -> SqliteKeeper
         ensures faults { result.faults ≡ 0 }
-        ensures place { ⟦<SqliteKeeper as Keeper>⟧.place result ≡ Nowhere }
+        ensures place { (⟦<SqliteKeeper as Keeper>⟧.course result).place ≡ Nowhere }
     {
         SqliteKeeper {
             rt: *rt,
@@ -113,13 +114,12 @@ fn count<T>(faults: &mut u64, answer: &Result<T, KeeperStop>)
 impl Keeper for SqliteKeeper {
     ghost tables = { λ _. None };
 
-    ghost place = { λ k. place_of (option_map (λ attached. attached.path) k.attached) };
+    ghost course = { λ k. course_of (option_map (λ attached. attached.path) k.attached) };
 
     ghost faults = { λ k. k.faults };
 
     fn attach(&mut self, alloc: Global, path: &str) -> Result<(), KeeperStop>
-        ensures place { OnOk result (⟦<SqliteKeeper as Keeper>⟧.place self.new ≡ at (⟦<SqliteKeeper as Keeper>⟧.place self.old) path.now) }
-        ensures stays { OnErr result (⟦<SqliteKeeper as Keeper>⟧.place self.new ≡ ⟦<SqliteKeeper as Keeper>⟧.place self.old) }
+        ensures course { ⟦<SqliteKeeper as Keeper>⟧.course self.new ≡ with_call (⟦<SqliteKeeper as Keeper>⟧.course self.old) (Attach path.now (stop_of result)) }
         ensures cause { HasCause self.old.faults self.new.faults result }
         ensures counted { self.new.faults ≡ faults_after self.old.faults result }
     {
@@ -129,10 +129,10 @@ impl Keeper for SqliteKeeper {
     }
 
     fn load(&mut self, alloc: Global) -> Result<Tables, KeeperStop>
-        ensures place { ⟦<SqliteKeeper as Keeper>⟧.place self.new ≡ ⟦<SqliteKeeper as Keeper>⟧.place self.old }
+        ensures course { ⟦<SqliteKeeper as Keeper>⟧.course self.new ≡ with_call (⟦<SqliteKeeper as Keeper>⟧.course self.old) (Load (stop_of result)) }
         ensures cause { HasCause self.old.faults self.new.faults result }
         ensures counted { self.new.faults ≡ faults_after self.old.faults result }
-        ensures before { ⟦<SqliteKeeper as Keeper>⟧.place self.old ≡ Nowhere → result ≡ Err Failed }
+        ensures before { (⟦<SqliteKeeper as Keeper>⟧.course self.old).place ≡ Nowhere → result ≡ Err Failed }
     {
         let answer = match &mut self.attached {
             Some(attached) => attached.over.load(alloc),
@@ -143,10 +143,10 @@ impl Keeper for SqliteKeeper {
     }
 
     fn store(&mut self, alloc: Global, change: &Change) -> Result<(), KeeperStop>
-        ensures place { ⟦<SqliteKeeper as Keeper>⟧.place self.new ≡ ⟦<SqliteKeeper as Keeper>⟧.place self.old }
+        ensures course { ⟦<SqliteKeeper as Keeper>⟧.course self.new ≡ with_call (⟦<SqliteKeeper as Keeper>⟧.course self.old) (Store (seen_change change.now) (stop_of result)) }
         ensures cause { HasCause self.old.faults self.new.faults result }
         ensures counted { self.new.faults ≡ faults_after self.old.faults result }
-        ensures before { ⟦<SqliteKeeper as Keeper>⟧.place self.old ≡ Nowhere → result ≡ Err Failed }
+        ensures before { (⟦<SqliteKeeper as Keeper>⟧.course self.old).place ≡ Nowhere → result ≡ Err Failed }
     {
         let answer = match &mut self.attached {
             Some(attached) => attached.over.store(alloc, change),

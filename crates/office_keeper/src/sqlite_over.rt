@@ -66,7 +66,7 @@ fn stopped<T>(faults: &mut u64, error: &Error) -> Result<T, KeeperStop>
 impl<S: Alter> Keeper for SqliteOver<S> {
     ghost tables = { λ _. None };
 
-    ghost place = { λ _. Untold };
+    ghost course = { λ _. record { place = Untold; calls = None } };
 
     ghost faults = { λ k. k.faults };
 

@@ -1,6 +1,6 @@
 -- A link is a source and a sink in one. A door gives links. This says what the calls of a door do to its links, and what a link and a door
 -- in memory are. Builds on Faults and Memory. The contracts of doors and of links in memory cite it, and so does `command_desk`.
-use Rattle.std.specs.Prelude.{ℕ, ◌+◌, ◌<◌, ◌++◌, ◌∷◌, List, [], length, min, drop, Option, Some, None, IfSome, if◌then◌else◌}
+use Rattle.std.specs.Prelude.{ℕ, ◌+◌, ◌<◌, ◌++◌, ◌∷◌, Bool, List, [], length, min, drop, Option, Some, None, IfSome, if◌then◌else◌}
 use Rattle.outside.specs.Faults.{raised}
 use Rattle.outside.specs.Memory.{Calls, SourceState, SinkState, after_call, after_put, after_read, next_fails, no_calls}
 
@@ -30,6 +30,12 @@ after_back links link = record links { back = links.back ++ link ∷ [] }
 -- if the door tells its links, at least one that was given has not come back
 abbrev pub IsOneOut : {L : Type 0} → Option (DoorLinks L) → Type 0
 IsOneOut links = IfSome links (λ told. length told.back < told.given)
+
+-- a call that was made of a door: `listen` at a port, `next` or `back`; and whether it failed
+pub data DoorCall : Type 0 where
+  Listen : (port : ℕ) (failed : Bool) → DoorCall
+  Next : (failed : Bool) → DoorCall
+  Back : DoorCall
 
 -- a link in memory: the bytes that are left, what was written, how many bytes it takes in all, how many reads were made, and its calls, of
 -- which reads and puts are counted together

@@ -1,7 +1,7 @@
 //! A door, which gives one link after the other and takes them back, as a trait. `MemDoor` is one in memory, and `TcpDoor` one over a port.
-ghost use Rattle.std.specs.Prelude.{◌≡◌, ◌≤◌, ℕ, IfOk, IfSome, OnErr, OnOk, Option, Some, option_map};
-ghost use Rattle.outside.specs.Faults.{Rose};
-ghost use Rattle.outside.specs.Links.{DoorLinks, IsOneOut, after_back, after_next, first_of};
+ghost use Rattle.std.specs.Prelude.{◌≡◌, ◌≤◌, ℕ, IfOk, IfSome, List, OnErr, OnOk, Option, Some, is_err, option_map};
+ghost use Rattle.outside.specs.Faults.{Rose, called};
+ghost use Rattle.outside.specs.Links.{Back, DoorCall, DoorLinks, IsOneOut, Listen, Next, after_back, after_next, first_of};
 
 use crate::{Failed, Link};
 
@@ -19,12 +19,16 @@ pub trait Door {
     /// The port at which the door listens, if it does.
     ghost opened_at: { Self → Option ℕ };
 
+    /// The calls that were made of the door, in their order, if it tells them.
+    ghost calls: { Self → Option (List DoorCall) };
+
     /// Opens the door at `port`. A call that fails leaves the door as it was, and counts a fault; no other call counts one. No link is
     /// given or lost.
     fn listen(&mut self, port: u16) -> Result<(), Failed>
         ensures port { OnOk result (opened_at self.new ≡ Some port) }
         ensures shut { OnErr result (opened_at self.new ≡ opened_at self.old) }
         ensures same { links self.new ≡ links self.old }
+        ensures call { calls self.new ≡ called (calls self.old) (Listen port (is_err result)) }
         ensures never_falls { faults self.old ≤ faults self.new }
         ensures cause { OnErr result (Rose (faults self.old) (faults self.new)) }
         ensures none { OnOk result (faults self.new ≡ faults self.old) };
@@ -36,6 +40,7 @@ pub trait Door {
         ensures given { OnOk result (links self.new ≡ option_map after_next (links self.old)) }
         ensures same { OnErr result (links self.new ≡ links self.old) }
         ensures stays { opened_at self.new ≡ opened_at self.old }
+        ensures call { calls self.new ≡ called (calls self.old) (Next (is_err result)) }
         ensures never_falls { faults self.old ≤ faults self.new }
         ensures cause { OnErr result (Rose (faults self.old) (faults self.new)) }
         ensures none { OnOk result (faults self.new ≡ faults self.old) };
@@ -45,5 +50,6 @@ pub trait Door {
         requires { IsOneOut (links self.old) }
         ensures last { links self.new ≡ option_map (λ told. after_back told link) (links self.old) }
         ensures stays { opened_at self.new ≡ opened_at self.old }
+        ensures call { calls self.new ≡ called (calls self.old) Back }
         ensures none { faults self.new ≡ faults self.old };
 }

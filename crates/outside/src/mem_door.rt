@@ -96,6 +96,8 @@ impl Door for MemDoor {
 
     ghost opened_at = { λ d. d.port };
 
+    ghost calls = { λ _. None };
+
     ghost faults = { λ d. d.calls.faults };
 
     fn listen(&mut self, port: u16) -> Result<(), Failed>

@@ -36,7 +36,8 @@ pub struct TcpDoor<R: Net + Drop> {
 impl<R: Net + Drop> TcpDoor<R> {
     /// Returns a door that doesn't listen yet and has counted no fault.
     pub fn new(rt: R) -> TcpDoor<R>
-        ensures { ⟦<TcpDoor<R> as Door>⟧.faults result ≡ 0 }
+        ensures faults { ⟦<TcpDoor<R> as Door>⟧.faults result ≡ 0 }
+        ensures shut { ⟦<TcpDoor<R> as Door>⟧.opened_at result ≡ None }
     {
         TcpDoor {
             rt,
@@ -60,6 +61,8 @@ impl<R: Net + Drop> Door for TcpDoor<R> {
     ghost links = { λ _. None };
 
     ghost opened_at = { λ d. d.port };
+
+    ghost calls = { λ _. None };
 
     ghost faults = { λ d. d.faults };
 

@@ -4,11 +4,11 @@ use Rattle.command_desk.specs.DeskTold.{door_told, seen_links}
 use Rattle.office_http.specs.Visits.{kept, link_told}
 use Rattle.outside.specs.Faults.{Rose}
 use Rattle.command_desk.proofs.Counting.{counted}
-use Rattle.command_desk.proofs.Turned.{all_turns, failed_turn, last_turn, no_turn, one_turn}
+use Rattle.command_desk.proofs.Turned.{all_turns, failed_turn, last_turn, no_turn, one_turn, turn_calls}
 use Rattle.command_desk.proofs.serving.serve_links.Goals as goal
 
 pub loop-turn-init : goal.loop-turn-init
-loop-turn-init g c = record { way = no_turn _ _; back = c.requires; none = refl; port = refl; place = refl }
+loop-turn-init g c = record { way = no_turn _ _; back = c.requires; none = refl; port = refl; calls = refl; place = refl }
 
 pub add-requires : goal.add-requires
 add-requires g c =
@@ -20,7 +20,7 @@ pub loop-turn-preserved : goal.loop-turn-preserved
 loop-turn-preserved g c =
     let sees = λ (link : g.row.D-Link.Denot). link_told (g.D.Link.Link.left link) (g.D.Link.Link.written link) (g.D.Link.Link.faults link) in
     let links = λ (door : g.row.D.Denot). option_map (seen_links sees) (g.D.Door.links door) in
-    let keeps = λ (keeper : g.row.K.Denot). kept (g.K.Keeper.tables keeper) (g.K.Keeper.faults keeper) in
+    let keeps = λ (keeper : g.row.K.Denot). kept (g.K.Keeper.tables keeper) (g.K.Keeper.faults keeper) (g.K.Keeper.course keeper) in
     let here = c.loop-turn.invariant in
     record {
       way = one_turn (links c.args.door.now) (links c.loop-turn.door) (links c.visit_next.new.door) (keeps c.args.keeper.now) (keeps c.loop-turn.keeper) (keeps c.visit_next.new.keeper)
@@ -28,6 +28,7 @@ loop-turn-preserved g c =
       back = c.in-Ok-Some.ensures.back;
       none = c.in-Ok-Some.ensures.none ∙ here.none;
       port = c.visit_next.ensures.port ∙ here.port;
+      calls = turn_calls c.loop-turn._turn (g.D.Door.calls c.args.door.now) (g.D.Door.calls c.loop-turn.door) (g.D.Door.calls c.visit_next.new.door) here.calls (rw c.in-Ok-Some.field-0-is at c.in-Ok-Some.ensures.calls);
       place = c.in-Ok-Some.ensures.place ∙ here.place;
     }
 
@@ -35,33 +36,34 @@ pub returns-in-Ok-None-clause-served : goal.returns-in-Ok-None-clause-served
 returns-in-Ok-None-clause-served g c =
     let sees = λ (link : g.row.D-Link.Denot). link_told (g.D.Link.Link.left link) (g.D.Link.Link.written link) (g.D.Link.Link.faults link) in
     let links = λ (door : g.row.D.Denot). option_map (seen_links sees) (g.D.Door.links door) in
-    let keeps = λ (keeper : g.row.K.Denot). kept (g.K.Keeper.tables keeper) (g.K.Keeper.faults keeper) in
+    let keeps = λ (keeper : g.row.K.Denot). kept (g.K.Keeper.tables keeper) (g.K.Keeper.faults keeper) (g.K.Keeper.course keeper) in
     let here = c.loop-turn.invariant in
     let fewer : c.loop-turn._turn < c.args.connections = omega arith in
     last_turn c.args.connections c.loop-turn._turn
     (door_told sees (g.D.Door.links c.args.door.now) (g.D.Door.links c.visit_next.new.door) (g.D.Door.faults c.args.door.now) (g.D.Door.faults c.visit_next.new.door))
-    (links c.loop-turn.door) (keeps c.args.keeper.now) (keeps c.loop-turn.keeper) (keeps c.visit_next.new.keeper) c.loop-turn.counts here.way fewer
+    (g.D.Door.calls c.args.door.now) (g.D.Door.calls c.visit_next.new.door) (links c.loop-turn.door) (keeps c.args.keeper.now) (keeps c.loop-turn.keeper) (keeps c.visit_next.new.keeper) c.loop-turn.counts here.way fewer
     (rw c.in-Ok-None.field-0-is at c.in-Ok-None.ensures.turn) (c.in-Ok-None.ensures.none ∙ here.none)
 
 pub returns-in-Err-clause-served : goal.returns-in-Err-clause-served
 returns-in-Err-clause-served g c =
     let sees = λ (link : g.row.D-Link.Denot). link_told (g.D.Link.Link.left link) (g.D.Link.Link.written link) (g.D.Link.Link.faults link) in
     let links = λ (door : g.row.D.Denot). option_map (seen_links sees) (g.D.Door.links door) in
-    let keeps = λ (keeper : g.row.K.Denot). kept (g.K.Keeper.tables keeper) (g.K.Keeper.faults keeper) in
+    let keeps = λ (keeper : g.row.K.Denot). kept (g.K.Keeper.tables keeper) (g.K.Keeper.faults keeper) (g.K.Keeper.course keeper) in
     let here = c.loop-turn.invariant in
     let fewer : c.loop-turn._turn ≤ c.args.connections = omega arith in
     failed_turn c.args.connections c.loop-turn._turn
     (door_told sees (g.D.Door.links c.args.door.now) (g.D.Door.links c.visit_next.new.door) (g.D.Door.faults c.args.door.now) (g.D.Door.faults c.visit_next.new.door))
-    (links c.loop-turn.door) (keeps c.args.keeper.now) (keeps c.loop-turn.keeper) (keeps c.visit_next.new.keeper) c.loop-turn.counts c.in-Err.failed here.way fewer
-    c.in-Err.ensures.turn (subst (λ (count : ℕ). Rose count (g.D.Door.faults c.visit_next.new.door)) here.none c.in-Err.ensures.cause)
+    (g.D.Door.calls c.args.door.now) (g.D.Door.calls c.loop-turn.door) (g.D.Door.calls c.visit_next.new.door) (links c.loop-turn.door) (keeps c.args.keeper.now) (keeps c.loop-turn.keeper) (keeps c.visit_next.new.keeper)
+    c.loop-turn.counts c.in-Err.failed here.way fewer
+    c.in-Err.ensures.turn (subst (λ (count : ℕ). Rose count (g.D.Door.faults c.visit_next.new.door)) here.none c.in-Err.ensures.cause) here.calls c.in-Err.ensures.calls
 
 pub returns-clause-served : goal.returns-clause-served
 returns-clause-served g c =
     let sees = λ (link : g.row.D-Link.Denot). link_told (g.D.Link.Link.left link) (g.D.Link.Link.written link) (g.D.Link.Link.faults link) in
     let links = λ (door : g.row.D.Denot). option_map (seen_links sees) (g.D.Door.links door) in
-    let keeps = λ (keeper : g.row.K.Denot). kept (g.K.Keeper.tables keeper) (g.K.Keeper.faults keeper) in
+    let keeps = λ (keeper : g.row.K.Denot). kept (g.K.Keeper.tables keeper) (g.K.Keeper.faults keeper) (g.K.Keeper.course keeper) in
     let here = c.loop-turn.invariant in
     let all : c.loop-turn._turn ≡ c.args.connections = omega arith in
     all_turns c.args.connections c.loop-turn._turn
     (door_told sees (g.D.Door.links c.args.door.now) (g.D.Door.links c.loop-turn.door) (g.D.Door.faults c.args.door.now) (g.D.Door.faults c.loop-turn.door))
-    (keeps c.args.keeper.now) (keeps c.loop-turn.keeper) c.loop-turn.counts here.way all here.none
+    (g.D.Door.calls c.args.door.now) (g.D.Door.calls c.loop-turn.door) (keeps c.args.keeper.now) (keeps c.loop-turn.keeper) c.loop-turn.counts here.way all here.none

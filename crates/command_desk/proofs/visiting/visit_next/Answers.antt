@@ -9,8 +9,8 @@ pub returns-in-Some-clause-turn : goal.returns-in-Some-clause-turn
 returns-in-Some-clause-turn g c =
     let sees = λ (link : g.row.D-Link.Denot). link_told (g.D.Link.Link.left link) (g.D.Link.Link.written link) (g.D.Link.Link.faults link) in
     let links = g.D.Door.links c.args.door.now in
-    let before = kept (g.K.Keeper.tables c.args.keeper.now) (g.K.Keeper.faults c.args.keeper.now) in
-    let after = kept (g.K.Keeper.tables c.attend-ended.new.keeper) (g.K.Keeper.faults c.attend-ended.new.keeper) in
+    let before = kept (g.K.Keeper.tables c.args.keeper.now) (g.K.Keeper.faults c.args.keeper.now) (g.K.Keeper.course c.args.keeper.now) in
+    let after = kept (g.K.Keeper.tables c.attend-ended.new.keeper) (g.K.Keeper.faults c.attend-ended.new.keeper) (g.K.Keeper.course c.attend-ended.new.keeper) in
     let first = subst (λ (link : Option g.row.D-Link.Denot). IfSome links (λ told. link ≡ first_of told.coming)) c.in-Some.is c.in_ok-link.ensures.first in (
       visit (sees c.in-Some.link) before (sees c.attend-ended.new.link) after c.attend-ended.result,
       refl,

@@ -6,6 +6,6 @@ pub returns : goal.returns
 returns g c =
     settles_over c.args.path.now (ProvesRound c.args.proving) (g.K.Keeper.tables c.args.keeper.now) (g.K.Keeper.tables c.load_at.new.keeper) (g.K.Keeper.tables c.prove_over.new.keeper)
     (g.K.Keeper.faults c.args.keeper.now) (g.K.Keeper.faults c.load_at.new.keeper) (g.K.Keeper.faults c.prove_over.new.keeper)
-    (g.K.Keeper.place c.args.keeper.now) (g.K.Keeper.place c.load_at.new.keeper) (g.K.Keeper.place c.prove_over.new.keeper)
-    c.in_ok-tables.ensures.same c.in_ok-tables.ensures.cause c.in_ok-tables.ensures.attached c.prove_over.ensures.place
-    c.in_ok-tables.tables c.prove_over.result c.in_ok-tables.ensures.loaded c.prove_over.ensures.settles
+    (g.K.Keeper.course c.args.keeper.now) (g.K.Keeper.course c.load_at.new.keeper) (g.K.Keeper.course c.prove_over.new.keeper)
+    c.in_ok-tables.ensures.same c.in_ok-tables.ensures.cause c.in_ok-tables.tables c.prove_over.result c.in_ok-tables.ensures.course c.prove_over.ensures.place
+    c.in_ok-tables.ensures.loaded c.prove_over.ensures.settles

@@ -11,7 +11,7 @@ returns g c source alone = record {
   source = alone;
   ends = ends c.args.path.now (StepMeans (seen_command c.args.command.now))
       (keeper_told (object (g.K.Keeper.tables c.args.keeper.now) (g.K.Keeper.tables c.settle-settled.new.keeper) (g.K.Keeper.faults c.args.keeper.now) (g.K.Keeper.faults c.settle-settled.new.keeper))
-      (g.K.Keeper.place c.args.keeper.now) (g.K.Keeper.place c.settle-settled.new.keeper))
+      (g.K.Keeper.course c.args.keeper.now) (g.K.Keeper.course c.settle-settled.new.keeper))
       (told (status_number c.tell_settled.result) source
       (object (g.O.Sink.written c.args.out.now) (g.O.Sink.written c.tell_settled.new.out) (g.O.Sink.faults c.args.out.now) (g.O.Sink.faults c.tell_settled.new.out))
       (object (g.E.Sink.written c.args.errs.now) (g.E.Sink.written c.tell_settled.new.errs) (g.E.Sink.faults c.args.errs.now) (g.E.Sink.faults c.tell_settled.new.errs)))

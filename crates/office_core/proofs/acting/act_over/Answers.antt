@@ -1,29 +1,11 @@
-use Rattle.std.proofs.Common.{Err, refl, sym, subst}
-use Rattle.std.specs.Prelude.{option_map}
-use Rattle.define_offices.specs.Steps.{Comes}
-use Rattle.office_steps.specs.Replies.{seen_reply}
-use Rattle.office_tables.specs.Changes.{seen_change}
-use Rattle.office_core.specs.Acting.{ActsOver}
 use Rattle.office_core.specs.Commands.{seen_command}
-use Rattle.office_core.proofs.Actions.{acts_done, acts_stopped, change_keeps}
+use Rattle.office_core.proofs.Actions.{acts_on, goes_on}
 use Rattle.office_core.proofs.acting.act_over.Goals as goal
 
-pub store-requires : goal.store-requires
-store-requires g c =
-    let command = seen_command c.args.command.now in
-    let comes = subst (Comes c.args.tables.now command) c.in-Ok.ensures.says c.in-Ok.ensures.comes in
-    change_keeps (g.K.Keeper.tables c.args.keeper.now) c.args.tables.now command (option_map seen_change c.in-Ok.decided.0) (seen_reply c.in-Ok.decided.1) c.facts-2.ensures c.facts.ensures c.requires.loaded comes
-
-pub returns-in_ok-store-in-Ok-clause-step : goal.returns-in_ok-store-in-Ok-clause-step
-returns-in_ok-store-in-Ok-clause-step g c =
-    let command = seen_command c.args.command.now in
-    let comes = subst (Comes c.args.tables.now command) c.in-Ok.ensures.says c.in-Ok.ensures.comes in
-    acts_done (g.K.Keeper.tables c.args.keeper.now) c.args.tables.now command (g.K.Keeper.tables c.store.new.keeper) (option_map seen_change c.in-Ok.decided.0) c.in-Ok.decided.1 comes
-    c.in_ok-store-in-Ok.ensures.ok
-
-pub returns-in-Err-clause-step : goal.returns-in-Err-clause-step
-returns-in-Err-clause-step g c =
+pub returns-clause-fold : goal.returns-clause-fold
+returns-clause-fold g c =
     let told = g.K.Keeper.tables c.args.keeper.now in
+    let after = g.K.Keeper.tables c.acted_over.new.keeper in
     let command = seen_command c.args.command.now in
-    subst (λ s. ActsOver c.args.tables.now told command (Err s) told) (sym c.stopped.ensures)
-    (acts_stopped told c.args.tables.now command told c.in-Err.stop c.in-Err.ensures refl)
+    goes_on told command c.acted_over.result after
+    (acts_on told c.args.tables.now command after c.acted_over.result (record { is = c.facts.ensures; same = c.requires.loaded }) c.acted_over.ensures.step)

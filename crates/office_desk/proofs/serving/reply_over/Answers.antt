@@ -33,7 +33,7 @@ returns-in-Some-Own-clause-fault g c =
     let tables = c.args.tables.now in
     let request = c.args.request.now in
     let reply = if_by (codes "GET") request (own_reply tables request.keys) in
-    no_fault (g.K.Keeper.faults c.args.keeper.now) reply c.or_short.result (own_status (codes "GET") request tables request.keys) (c.or_short.ensures reply c.own_page_answer.ensures)
+    no_fault _ (g.K.Keeper.faults c.args.keeper.now) reply c.or_short.result (own_status (codes "GET") request tables request.keys) (c.or_short.ensures reply c.own_page_answer.ensures)
 
 pub returns-in-Some-Bundle-clause-desk : goal.returns-in-Some-Bundle-clause-desk
 returns-in-Some-Bundle-clause-desk g c =
@@ -50,7 +50,7 @@ pub returns-in-Some-Bundle-clause-fault : goal.returns-in-Some-Bundle-clause-fau
 returns-in-Some-Bundle-clause-fault g c =
     let request = c.args.request.now in
     let shown = published_of (map published c.args.tables.now.rounds) c.in-Some-Bundle.round in
-    no_fault (g.K.Keeper.faults c.args.keeper.now) (bundle_reply request shown) c.or_short-in-Some-Bundle.result (bundle_status request shown)
+    no_fault _ (g.K.Keeper.faults c.args.keeper.now) (bundle_reply request shown) c.or_short-in-Some-Bundle.result (bundle_status request shown)
     (c.or_short-in-Some-Bundle.ensures (bundle_reply request shown) c.bundle_answer.ensures)
 
 pub returns-in-Some-Draw-clause-desk : goal.returns-in-Some-Draw-clause-desk
@@ -68,7 +68,7 @@ pub returns-in-Some-Draw-clause-fault : goal.returns-in-Some-Draw-clause-fault
 returns-in-Some-Draw-clause-fault g c =
     let request = c.args.request.now in
     let shown = published_of (map published c.args.tables.now.rounds) c.in-Some-Draw.round in
-    no_fault (g.K.Keeper.faults c.args.keeper.now) (draw_reply request shown) c.or_short-in-Some-Draw.result (draw_status request shown)
+    no_fault _ (g.K.Keeper.faults c.args.keeper.now) (draw_reply request shown) c.or_short-in-Some-Draw.result (draw_status request shown)
     (c.or_short-in-Some-Draw.ensures (draw_reply request shown) c.draw_answer.ensures)
 
 pub returns-in-None-clause-desk : goal.returns-in-None-clause-desk
