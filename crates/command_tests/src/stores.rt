@@ -335,12 +335,12 @@ fn made<R: Threads + Sync>(
     call: &Call<'_>,
 ) -> Result<String, AllocError> {
     let told = called(rt, alloc, call, keeper, Vec::new(alloc), &Holding::none())?;
-    let lines = if told.status == 2 {
-        ""
-    } else {
-        text_of(told.errs.written())
-    };
-    format!(in alloc; "{} {}{lines}", told.status, text_of(told.out.written()))
+    let printed = text_of(told.out.written());
+    if told.status == 2 {
+        return format!(in alloc; "2 {printed}");
+    }
+    let line = text_of(told.errs.written());
+    format!(in alloc; "{} {printed}{line}", told.status)
 }
 
 pub(crate) fn text_of(bytes: &[u8]) -> &str {
