@@ -377,8 +377,8 @@ def check(text):
 # ---- the answer
 
 
-def answer(text):
-    """The status and the line for a text of bytes."""
+def answer(text, check):
+    """The status and the line for a text of bytes that `check` judges."""
     status = 3
     try:
         if len(text) > MOST_BYTES:
@@ -392,14 +392,14 @@ def answer(text):
     return status, '\t'.join(map(str, fields)).encode()
 
 
-def answer_of(file):
+def answer_of(file, check):
     """The status and the line for a file, or for standard input if it is None."""
     try:
         with open(0 if file is None else file, 'rb', closefd=file is not None) as source:
             text = source.read(MOST_BYTES + 1)
     except OSError as fault:
         return 7, b'read fault' if file is None else b'read fault\t' + os.strerror(fault.errno or 0).encode()
-    return answer(text)
+    return answer(text, check)
 
 
 def tell(stream, text):
@@ -412,8 +412,9 @@ def tell(stream, text):
         return False
 
 
-def main(words):
-    usage = __doc__.encode()
+def main(words, check, usage):
+    """Answers the files that the words name. `check` judges a text, `usage` says what the program is."""
+    usage = usage.encode()
     if any(word in ('-h', '--help') for word in words):
         return 0 if tell(1, usage) else 8
     if any(word.startswith('-') for word in words):
@@ -421,7 +422,7 @@ def main(words):
         return 2
     statuses = []
     for file in words or [None]:
-        status, line = answer_of(file)
+        status, line = answer_of(file, check)
         name = os.fsencode(file) + b'\t' if len(words) > 1 else b''
         if not tell(1 if status in (0, 11) else 2, name + line + b'\n'):
             if status in (0, 11):
@@ -433,6 +434,6 @@ def main(words):
 
 if __name__ == '__main__':
     try:
-        sys.exit(main(sys.argv[1:]))
+        sys.exit(main(sys.argv[1:], check, __doc__))
     except KeyboardInterrupt:
         sys.exit(130)

@@ -7,16 +7,17 @@ use Rattle.frac128.specs.Fractions.{fraction_text, lowest_of}
 use Rattle.define_bundles.specs.BundleText.{Bundle}
 use Rattle.define_draws.specs.Draw.{Drawn}
 use Rattle.define_lines.specs.Lines.{text_of}
+use Rattle.define_made_pools.specs.Summary.{greatest, least}
 use Rattle.define_pools.specs.Lists.{rising}
 use Rattle.define_pools.specs.Lottery.{counts}
 use Rattle.define_pools.specs.Pool.{Category, Pool, Volunteer}
-use Rattle.chance_numbers.specs.Decimals.{fixed_point, ten_thousandths}
+use Rattle.chance_numbers.specs.Decimals.{fixed_point}
 use Rattle.bundle_page.specs.declared.shares.Share.{Share}
 use Rattle.bundle_page.specs.declared.sizes.Sizes.{Sizes}
 use Rattle.bundle_page.specs.declared.templates.TheConstants.{CATEGORY, CHANCE, CLOSING, CURVE, CURVE_WORDS, END_OF_CATEGORY, HEAD, LEAD, NUMBERS, PLAIN_HEADING, PLAIN_TITLE, POINT, QUOTAS, ROUND_HEADING, SHAPES, TABLE, WORDS}
 use Rattle.bundle_page.specs.Drawn.{drawn_text}
-use Rattle.bundle_page.specs.Markup.{escaped, filled, percent}
-use Rattle.bundle_page.specs.Numbers.{equal_chance, rounded, seats_left, share_of, sizes_of}
+use Rattle.bundle_page.specs.Markup.{chance_words, escaped, filled, percent}
+use Rattle.bundle_page.specs.Numbers.{equal_chance, present, rounded, seats_left, share_of, sizes_of}
 
 -- ---- the head
 
@@ -49,15 +50,16 @@ numbers_part name expected share =
 abbrev pub words_part : List ℕ → List ℕ → Share → Sizes → List ℕ
 words_part name expected share sizes =
     filled WORDS.now
-    (decimal (sizes.volunteers * sizes.seats) ∷ name ∷ decimal share.volunteers ∷ decimal sizes.volunteers ∷ decimal share.lower
+    (decimal (present sizes * sizes.seats) ∷ name ∷ decimal share.volunteers ∷ decimal (present sizes) ∷ decimal share.lower
     ∷ decimal share.upper ∷ decimal sizes.seats ∷ expected ∷ [])
 
--- the bars of a value. The picture is `seats * volunteers` wide, so that a volunteer is `seats` wide and a seat is `volunteers` wide
+-- the bars of a value. The picture is as wide as the seats times the volunteers who aren't gone, so that such a volunteer is as wide as
+-- there are seats, and a seat as wide as there are such volunteers
 abbrev pub shapes_part : Share → Sizes → List ℕ
 shapes_part share sizes =
     filled SHAPES.now
-    (decimal (share.volunteers * sizes.seats) ∷ decimal (share.lower * sizes.volunteers)
-    ∷ decimal ((share.upper - share.lower) * sizes.volunteers) ∷ decimal (share.expected * sizes.volunteers / 10000) ∷ [])
+    (decimal (share.volunteers * sizes.seats) ∷ decimal (share.lower * present sizes)
+    ∷ decimal ((share.upper - share.lower) * present sizes) ∷ decimal (share.expected * present sizes / 10000) ∷ [])
 
 abbrev pub value_parts : List ℕ → Share → Sizes → List (List ℕ)
 value_parts name share sizes =
@@ -79,12 +81,12 @@ abbrev pub category_lines : Pool → List ℕ → ℕ → List (List ℕ)
 category_lines pool counts total =
     flat_map (λ (category_place, category). category_parts pool counts total category_place category) (enumerate_from 0 pool.categories)
 
--- ---- the curve. `chances` are in ten-thousandths and in rising order
+-- ---- the curve
 
-abbrev pub curve_words : List ℕ → Sizes → List ℕ
-curve_words chances sizes =
+abbrev pub curve_words : List ℕ → ℕ → Sizes → List ℕ
+curve_words counts total sizes =
     filled CURVE_WORDS.now
-    (percent (slice_index chances 0) ∷ percent (slice_index chances (length chances - 1)) ∷ percent (equal_chance sizes) ∷ decimal sizes.open_count
+    (chance_words (least counts) total ∷ chance_words (greatest counts) total ∷ percent (equal_chance sizes) ∷ decimal sizes.open_count
     ∷ decimal (seats_left sizes) ∷ decimal sizes.seated_count ∷ decimal sizes.gone_count ∷ [])
 
 -- the chances of the equal lottery, in rising order, as three level lines: first of the volunteers who are gone, then of the open ones,
@@ -100,18 +102,19 @@ abbrev pub point_line : ℕ → ℕ → List ℕ
 point_line place chance =
     filled POINT.now (decimal place ∷ decimal (10000 - chance) ∷ decimal (place + 1) ∷ decimal (10000 - chance) ∷ [])
 
+-- the points of the curve; `chances` are in ten-thousandths and in rising order
 abbrev pub point_lines : List ℕ → List (List ℕ)
 point_lines chances = map (λ (place, chance). point_line place chance) (enumerate_from 0 chances)
 
 abbrev pub curve_parts : List ℕ → ℕ → Sizes → List (List ℕ)
 curve_parts counts total sizes =
-    curve_words (rising (rounded counts total)) sizes ∷ curve_start sizes ∷ point_lines (rising (rounded counts total))
+    curve_words counts total sizes ∷ curve_start sizes ∷ point_lines (rising (rounded counts total))
 
 -- ---- the table of the volunteers' chances
 
 abbrev pub chance_line : List ℕ → ℕ → ℕ → List ℕ
 chance_line id count total =
-    filled CHANCE.now (escaped id ∷ percent (ten_thousandths count total) ∷ fraction_text (lowest_of count total) ∷ [])
+    filled CHANCE.now (escaped id ∷ chance_words count total ∷ fraction_text (lowest_of count total) ∷ [])
 
 abbrev pub chance_lines : List Volunteer → List ℕ → ℕ → List (List ℕ)
 chance_lines volunteers counts total =

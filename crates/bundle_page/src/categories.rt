@@ -140,11 +140,11 @@ fn push_words(
         WORDS,
         &[
             width
-                .format(sizes.volunteers as u128 * sizes.seats as u128)
+                .format(sizes.present() as u128 * sizes.seats as u128)
                 .as_bytes(),
             name,
             volunteers.format(share.volunteers).as_bytes(),
-            all.format(sizes.volunteers).as_bytes(),
+            all.format(sizes.present()).as_bytes(),
             lower.format(share.lower).as_bytes(),
             upper.format(share.upper).as_bytes(),
             seats.format(sizes.seats).as_bytes(),
@@ -153,13 +153,13 @@ fn push_words(
     )
 }
 
-/// Appends the bars of the picture of a value. A volunteer is `sizes.seats` wide and a seat `sizes.volunteers` wide, so that all volunteers
-/// are as wide as all seats.
+/// Appends the bars of the picture of a value. A volunteer is as wide as there are seats, and a seat as wide as there are volunteers who
+/// aren't gone, so that all of these are as wide as all seats.
 fn push_shapes(text: &mut Vec<u8>, share: Share, sizes: Sizes) -> Result<(), AllocError>
     requires { share.expected ≤ 4010000 }
     ensures { OnOk result (text.new.items ≡ text.old.items ++ text_of (shapes_part share sizes ∷ [])) }
 {
-    let (volunteer, seat) = (sizes.seats as u128, sizes.volunteers as u128);
+    let (volunteer, seat) = (sizes.seats as u128, sizes.present() as u128);
     let (mut pool, mut from) = (Buffer::new(), Buffer::new());
     let (mut width, mut expected) = (Buffer::new(), Buffer::new());
     fill(

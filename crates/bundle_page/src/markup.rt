@@ -1,10 +1,10 @@
 //! Fills templates with values, and writes names, and numbers in per cent, as HTML.
 
-ghost use Rattle.std.specs.Prelude.{◌≡◌, ◌++◌, ◌∷◌, [], map, IfOk, OnOk};
+ghost use Rattle.std.specs.Prelude.{◌≡◌, ◌≤◌, ◌^◌, ◌++◌, ◌∷◌, [], map, IfOk, OnOk};
 ghost use Rattle.define_lines.specs.Lines.{text_of};
-ghost use Rattle.bundle_page.specs.Markup.{escaped as words_of_escaped, escaped_byte, filled as words_of_filled, percent as words_of_percent};
+ghost use Rattle.bundle_page.specs.Markup.{chance_words as words_of_chance, escaped as words_of_escaped, escaped_byte, filled as words_of_filled, percent as words_of_percent};
 
-use chance_numbers::fixed_point;
+use chance_numbers::{fixed_point, ten_thousandths};
 use std::alloc::{AllocError, Global};
 use text_lines::end_line;
 
@@ -79,4 +79,22 @@ pub(crate) fn percent(alloc: Global, part: u128) -> Result<Vec<u8>, AllocError>
     let mut text = fixed_point(alloc, 2, part)?;
     text.extend_from_slice(b" %")?;
     Ok(text)
+}
+
+/// Returns the text of a chance in per cent: that of who is on panels with `count` of `total` tickets. Only a chance of 0 is shown as 0, and
+/// only one of 1 as 100.
+pub(crate) fn chance(alloc: Global, count: u128, total: u128) -> Result<Vec<u8>, AllocError>
+    requires within { count ≤ total }
+    requires some { 1 ≤ total }
+    requires most { total ≤ 10 ^ 38 }
+    ensures { IfOk result (λ text. text.items ≡ words_of_chance count total) }
+{
+    let part = ten_thousandths(count, total);
+    if 0 < count && part == 0 {
+        return Vec::from_slice(alloc, b"below 0.01 %");
+    }
+    if count < total && part == 10_000 {
+        return Vec::from_slice(alloc, b"above 99.99 %");
+    }
+    percent(alloc, part)
 }

@@ -1,15 +1,16 @@
 //! The numbers of a value: how many volunteers have it, its bounds, and the seats that are expected.
 
-ghost use Rattle.std.specs.Prelude.{◌≡◌, ◌≤◌, ◌^◌, length, slice_index, EachIndex};
-ghost use Rattle.bundle_page.specs.Numbers.{share_of as words_of_share, volunteers_with as words_of_volunteers};
+ghost use Rattle.std.specs.Prelude.{◌≡◌, ◌≤◌, ◌^◌, ◌==◌, not, ◌&&◌, length, slice_index, EachIndex};
+ghost use Rattle.bundle_page.specs.Numbers.{is_gone as is_gone_one, share_of as words_of_share, present_with as words_of_present};
 
+use crate::sizes::is_gone;
 use chance_numbers::{rounded_sum, sum_with};
 use pool_model::{BoundedValue, Volunteer};
 
 /// The numbers of a value.
 #[derive(Clone, Copy, Debug)]
 pub(crate) struct Share {
-    /// How many volunteers have the value.
+    /// How many volunteers who aren't gone have the value.
     pub(crate) volunteers: usize,
     /// The least number of seats for those who have the value.
     pub(crate) lower: usize,
@@ -38,21 +39,28 @@ pub(crate) fn share_of(
 {
     let sum = sum_with(volunteers, counts, total, place, value_place);
     Share {
-        volunteers: volunteers_with(volunteers, place, value_place),
+        volunteers: present_with(volunteers, place, value_place),
         lower: value.lower(),
         upper: value.upper(),
         expected: rounded_sum(sum, total),
     }
 }
 
-/// Returns how many volunteers have the value at `value_place` of the category at `place`.
-fn volunteers_with(volunteers: &[Volunteer], place: usize, value_place: usize) -> usize
-    ensures { result ≡ words_of_volunteers volunteers.now place value_place }
+/// Returns how many volunteers who aren't gone have the value at `value_place` of the category at `place`.
+fn present_with(volunteers: &[Volunteer], place: usize, value_place: usize) -> usize
+    ensures { result ≡ words_of_present volunteers.now place value_place }
 {
     volunteers
         .iter()
-        .filter(|volunteer| value_at(volunteer, place) == value_place)
+        .filter(|volunteer| is_present_with(volunteer, place, value_place))
         .count()
+}
+
+/// True if the volunteer isn't gone and has the value at `value_place` of the category at `place`.
+fn is_present_with(volunteer: &Volunteer, place: usize, value_place: usize) -> bool
+    ensures { result ≡ (not (is_gone_one volunteer.now.standing) && slice_index volunteer.now.values place == value_place) }
+{
+    !is_gone(volunteer.standing()) && value_at(volunteer, place) == value_place
 }
 
 /// Returns the place of a volunteer's value in the category at `place`, or 0 if there is no such category.

@@ -1,7 +1,7 @@
 //! How many volunteers and seats there are, and how many volunteers are of each standing.
 
 ghost use Rattle.std.specs.Prelude.{◌≡◌, count_by};
-ghost use Rattle.bundle_page.specs.Numbers.{is_gone as is_gone_one, is_open as is_open_one, is_seated as is_seated_one, sizes_of as words_of_sizes};
+ghost use Rattle.bundle_page.specs.Numbers.{is_gone as is_gone_one, is_open as is_open_one, is_seated as is_seated_one, present as words_of_present, sizes_of as words_of_sizes};
 
 use pool_model::{Pool, Standing, Volunteer};
 
@@ -26,6 +26,15 @@ pub(crate) fn sizes_of(pool: &Pool) -> Sizes
         open_count: open_in(volunteers),
         seated_count: seated_in(volunteers),
         gone_count: gone_in(volunteers),
+    }
+}
+
+impl Sizes {
+    /// Returns how many volunteers aren't gone.
+    pub(crate) fn present(&self) -> usize
+        ensures { result ≡ words_of_present self.now }
+    {
+        self.volunteers.saturating_sub(self.gone_count)
     }
 }
 
@@ -77,7 +86,8 @@ fn is_seated(standing: Standing) -> bool
     }
 }
 
-fn is_gone(standing: Standing) -> bool
+/// True if the standing is gone.
+pub(crate) fn is_gone(standing: Standing) -> bool
     ensures { result ≡ is_gone_one standing }
 {
     match standing {

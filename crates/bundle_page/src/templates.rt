@@ -73,7 +73,7 @@ pub(crate) const CHECK: &[u8] =
 
 /// How to check a draw in another number of tickets. Its value: how many tickets the lottery has.
 pub(crate) const CHECK_SHORT: &[u8] =
-    b"<p>The lottery itself has ~ tickets. This draw is in another number of them, in which the chances differ a little from those below. To check it, give this number, this seal and these digits to <code>sortition short-draw</code>. It reads the bundle, and prints the same ticket and the same members.</p>";
+    b"<p>The lottery itself has ~ tickets. This draw is in another number of them. Each panel has its share of these, rounded up or down to whole tickets. So the chances differ from those below, and may differ much if the tickets are few. To check it, give this number, this seal and these digits to <code>sortition short-draw</code>. It reads the bundle, and prints the same ticket and the same members.</p>";
 
 /// The words above the members, and the start of their list.
 pub(crate) const MEMBERS: &[u8] = b"<p>It is a ticket of the panel of these members:</p>
@@ -98,25 +98,25 @@ pub(crate) const END_OF_DRAWN: &[u8] = b"</tbody>
 
 /// The words above the bars.
 pub(crate) const QUOTAS: &[u8] = b"<h2>Volunteers and seats</h2>
-<p>For each value of a category there is a least and a greatest number of seats. The seats expected are those that a panel has on average over all tickets.</p>
+<p>For each value of a category there is a least and a greatest number of seats. Volunteers who are gone aren't counted here. The seats expected are those that a panel has on average over all tickets.</p>
 <ul class=\"key\">
 <li>the part of the volunteers who have the value</li>
 <li class=\"s\">the part of the seats that may be theirs, from the least to the greatest number</li>
 <li class=\"m\">the part of the seats that is expected</li>
 </ul>
-<p>The width of a picture stands for all volunteers, and for all seats.</p>";
+<p>The width of a picture stands for all of these volunteers, and for all seats.</p>";
 
 /// The heading of a category, and the head of its table. Its value: the category's name.
 pub(crate) const CATEGORY: &[u8] = b"<h3>~</h3>
 <table>
 <thead><tr><th scope=\"col\">value</th><th scope=\"col\">volunteers</th><th scope=\"col\">seats</th><th scope=\"col\">expected</th></tr></thead>";
 
-/// The numbers of a value: its name, the volunteers who have it, its bounds, and the seats expected.
+/// The numbers of a value: its name, the volunteers who have it and aren't gone, its bounds, and the seats expected.
 pub(crate) const NUMBERS: &[u8] =
     b"<tbody class=\"value\"><tr><th scope=\"row\">~</th><td>~</td><td>~ to ~</td><td>~</td></tr>";
 
-/// The start of a value's picture, and its title. Its values: the picture's width; the value's name; the volunteers who have it, all
-/// volunteers, its bounds, all seats, and the seats expected.
+/// The start of a value's picture, and its title. Its values: the picture's width; the value's name; the volunteers who have it and aren't
+/// gone, all who aren't gone, its bounds, all seats, and the seats expected.
 pub(crate) const WORDS: &[u8] =
     b"<tr><td colspan=\"4\"><svg role=\"img\" viewBox=\"0 0 ~ 30\" preserveAspectRatio=\"none\"><title>~: ~ of ~ volunteers, ~ to ~ of ~ seats, ~ seats expected</title>";
 

@@ -4,6 +4,7 @@ ghost use Rattle.std.specs.Prelude.{◌≡◌, ◌∷◌, IfOk, IsTrue, length, 
 ghost use Rattle.std.specs.List.{list_all};
 ghost use Rattle.define_bundles.specs.Ranges.{is_stage};
 ghost use Rattle.check_search.specs.Answers.{AnswersAt};
+ghost use Rattle.check_search.specs.Terms.{AreOfStage, AreTerms};
 
 use crate::composing::first_panel;
 use crate::searching::{CapStop, first_above};
@@ -29,12 +30,28 @@ pub fn panel_above_cap(
     requires stage { IsTrue (is_stage (length pool.now.volunteers) stage.now) }
     ensures answers { AnswersAt pool.now (reverse earlier.now) stage.now nodes result }
 {
-    let latest_first = reversed(alloc, earlier)?;
-    let terms = Terms::new(alloc, pool, &latest_first, stage)?;
+    let terms = terms_of(alloc, pool, earlier, stage)?;
     match first_above(alloc, &terms, nodes)? {
         Some(composition) => Ok(Some(first_panel(alloc, &terms.classes, &composition)?)),
         None => Ok(None),
     }
+}
+
+/// Returns the classes and rows of a stage after the earlier stages, which are in their order. Each stage is in the ranges of a bundle for
+/// the pool.
+pub fn terms_of(
+    alloc: Global,
+    pool: &Pool,
+    earlier: &[Stage],
+    stage: &Stage,
+) -> Result<Terms, AllocError>
+    requires earlier { IsTrue (list_all (is_stage (length pool.now.volunteers)) earlier.now) }
+    requires stage { IsTrue (is_stage (length pool.now.volunteers) stage.now) }
+    ensures terms { IfOk result (λ terms. AreTerms terms) }
+    ensures stage { IfOk result (λ terms. AreOfStage pool.now (reverse earlier.now) stage.now terms) }
+{
+    let latest_first = reversed(alloc, earlier)?;
+    Ok(Terms::new(alloc, pool, &latest_first, stage)?)
 }
 
 // Returns copies of the stages, the last one first.

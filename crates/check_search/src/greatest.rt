@@ -10,10 +10,10 @@ use crate::groups::Classes;
 use crate::rows::StageRow;
 use std::alloc::{AllocError, Global};
 
-// A table that holds, for each place, the greatest sums of 0, 1, 2 and more units, up to the size, of the classes from that place on. It
-// has (classes + 1) times (size + 1) numbers of 16 bytes, from the last class to the first.
+/// A table that holds, for each place, the greatest sums of 0, 1, 2 and more units, up to the size, of the classes from that place on. It
+/// has (classes + 1) times (size + 1) numbers of 16 bytes, from the last class to the first.
 #[derive(Debug, Drop)]
-pub(crate) struct Sums {
+pub struct Sums {
     cells: Vec<i128>,
 }
 

@@ -11,7 +11,7 @@ use std::marker::Model;
 /// Volunteers with the same values and standing; a panel takes some number of them. Someone who shares a household with another volunteer
 /// is in a class alone.
 #[derive(Debug, Drop)]
-pub(crate) struct Class {
+pub struct Class {
     members: Vec<usize>,
     values: Vec<usize>,
     standing: Standing,
@@ -94,8 +94,8 @@ impl Class {
         self.household
     }
 
-    // Returns the least number of members that a panel can have: all if the class is seated, else 0.
-    pub(crate) fn least(&self) -> usize
+    /// Returns the least number of members that a panel can have: all if the class is seated, else 0.
+    pub fn least(&self) -> usize
         ensures { result ≡ self.now.least }
     {
         match self.standing {
@@ -104,8 +104,8 @@ impl Class {
         }
     }
 
-    // Returns the greatest number of members that a panel can have: 0 if the class is gone, else all.
-    pub(crate) fn most(&self) -> usize
+    /// Returns the greatest number of members that a panel can have: 0 if the class is gone, else all.
+    pub fn most(&self) -> usize
         ensures { result ≡ self.now.most }
     {
         match self.standing {
@@ -117,7 +117,7 @@ impl Class {
 
 /// The bounds of a category's values.
 #[derive(Debug, Drop)]
-pub(crate) struct ValueBounds {
+pub struct ValueBounds {
     bounds: Vec<Bounds>,
 }
 
@@ -137,8 +137,8 @@ impl ValueBounds {
         ValueBounds { bounds }
     }
 
-    // Returns the bounds in the order of the values.
-    pub(crate) fn as_slice(&self) -> &[Bounds]
+    /// Returns the bounds in the order of the values.
+    pub fn as_slice(&self) -> &[Bounds]
         ensures { result.now ≡ self.now }
     {
         &self.bounds
@@ -150,7 +150,7 @@ impl ValueBounds {
 /// is at most its upper one, which is at most 999. There are at most 400 classes with at most 400 members in all. Each class has a member,
 /// and a value of each category.
 #[derive(Debug, Drop)]
-pub(crate) struct Classes {
+pub struct Classes {
     size: usize,
     bounds: Vec<ValueBounds>,
     classes: Vec<Class>,
@@ -178,22 +178,22 @@ impl Classes {
         }
     }
 
-    // Returns how many members a panel has.
-    pub(crate) fn size(&self) -> usize
+    /// Returns how many members a panel has.
+    pub fn size(&self) -> usize
         ensures { result ≡ self.now.size }
     {
         self.size
     }
 
-    // Returns for each category the bounds of its values.
-    pub(crate) fn bounds(&self) -> &[ValueBounds]
+    /// Returns for each category the bounds of its values.
+    pub fn bounds(&self) -> &[ValueBounds]
         ensures { result.now ≡ self.now.bounds }
     {
         &self.bounds
     }
 
-    // Returns the classes, in the order of their first members.
-    pub(crate) fn classes(&self) -> &[Class]
+    /// Returns the classes, in the order of their first members.
+    pub fn classes(&self) -> &[Class]
         ensures { result.now ≡ self.now.classes }
     {
         &self.classes
@@ -206,8 +206,8 @@ impl Classes {
         self.classes.iter().map(|class| class.size()).sum()
     }
 
-    // Returns the class at `place`. Its contract also says what holds of each class of a `Classes`.
-    pub(crate) fn class_at(&self, place: usize) -> &Class
+    /// Returns the class at `place`. Its contract also says what holds of each class of a `Classes`.
+    pub fn class_at(&self, place: usize) -> &Class
         requires { place < length self.now.classes }
         ensures limits { KeepsLimits self.now }
         ensures stands { Stands self.now place result.now }
@@ -217,8 +217,8 @@ impl Classes {
         &self.classes()[place]
     }
 
-    // Does nothing; its contract says what holds of each `Classes`.
-    pub(crate) fn facts(&self)
+    /// Does nothing; its contract says what holds of each `Classes`.
+    pub fn facts(&self)
         ensures { KeepsLimits self.now }
     {
         let _ = &self.size;

@@ -1,7 +1,8 @@
 //! A check's search for a quota panel above the cap of a stage, under a budget of visits. It makes classes of its own, which also
 //! depend on the weights of the stages, and goes through their compositions. It uses none of the crates of the
 //! solver: `alike`, `exact_table`, `panel_search`, `pricing_pool` and `leximin_run`. Stands on `define_checks`, which says what the search
-//! finds and what a visit is, `laws_of_fronts`, and `pool_model`. Used by `cert_check`.
+//! finds and what a visit is, `laws_of_fronts`, and `pool_model`. Used by `cert_check`, and by `cover_cert`, which judges single fronts by the
+//! classes, rows and tallies of this crate.
 //!
 //! Promise: `panel_above_cap`. All else is a helper.
 #![tactic(auto)]
@@ -20,5 +21,11 @@ mod tally;
 mod terms;
 mod weighing;
 
-pub use above_cap::panel_above_cap;
+pub use above_cap::{panel_above_cap, terms_of};
+pub use greatest::Sums;
+pub use groups::{Class, Classes, ValueBounds};
+pub use rows::StageRow;
 pub use searching::CapStop;
+pub use tally::Tally;
+pub use terms::Terms;
+pub use weighing::optimistic_weight;

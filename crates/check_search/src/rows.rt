@@ -11,7 +11,7 @@ use std::marker::Model;
 
 /// The cap of a stage, and an entry for each class.
 #[derive(Debug, Drop)]
-pub(crate) struct StageRow {
+pub struct StageRow {
     cap: i128,
     entries: Vec<i128>,
 }
@@ -39,15 +39,15 @@ impl StageRow {
         })
     }
 
-    // Returns the cap.
-    pub(crate) fn side(&self) -> i128
+    /// Returns the cap.
+    pub fn side(&self) -> i128
         ensures { result ≡ self.now.b }
     {
         self.cap
     }
 
-    // Returns the entries in class order.
-    pub(crate) fn entries(&self) -> &[i128]
+    /// Returns the entries in class order.
+    pub fn entries(&self) -> &[i128]
         ensures { result.now ≡ self.now.a }
     {
         &self.entries

@@ -136,7 +136,7 @@ pub(crate) fn all_within_reach(bounds: &[ValueBounds], held: &[usize], later: &[
 }
 
 // True if `number ≤ upper` and `lower ≤ number + more`.
-fn is_within_reach(bound: Bounds, number: usize, more: usize) -> bool
+pub(crate) fn is_within_reach(bound: Bounds, number: usize, more: usize) -> bool
     requires { number + more < 2 ^ 64 }
     ensures { result ≡ within_reach bound number more }
 {

@@ -1,22 +1,25 @@
 //! What a front takes, in all, of each value and of each household, and the most that the classes after it can give.
 
-ghost use Rattle.std.specs.Prelude.{◌≡◌, ℕ, false, ◌+◌, ◌-◌, ◌*◌, ◌≤◌, ◌<◌, ◌++◌, ◌^◌, [], ◌∷◌, IfOk, true, nat_le, ◌&&◌, drop, length};
+ghost use Rattle.std.specs.Prelude.{◌≡◌, ℕ, false, ◌+◌, ◌-◌, ◌*◌, ◌≤◌, ◌<◌, ◌++◌, ◌^◌, [], ◌∷◌, IfOk, true, nat_le, ◌&&◌, drop, length, slice_index_or};
 ghost use Rattle.laws_of_fronts.specs.Front.{Gives};
 ghost use Rattle.check_search.specs.Front.{Tracks};
-ghost use Rattle.laws_of_fronts.specs.Tallies.{AreAtMost};
-ghost use Rattle.define_searches.specs.Fronts.{is_reachable, size_reachable, taken_by, values_reachable};
+ghost use Rattle.laws_of_fronts.specs.Tallies.{AreAtMost, HasBound};
+ghost use Rattle.define_searches.specs.declared.Bounds.{Bounds};
+ghost use Rattle.define_searches.specs.Compositions.{takes_one_a_household};
+ghost use Rattle.define_searches.specs.Fronts.{is_reachable, size_reachable, taken_by, value_reachable, values_reachable};
 
 use crate::groups::Classes;
 use crate::homes;
 use crate::tallies::{
-    PLACES, add_to, all_within_reach, number_needed, room_left, take_from, values_allow,
+    PLACES, add_to, all_within_reach, is_within_reach, number_needed, room_left, take_from,
+    values_allow,
 };
 use std::alloc::{AllocError, Global};
 
-// How many members a front takes, in all (`taken`), of each value (`held`) and of each household (`homes`); and the most that later classes
-// can give, in all (`later_taken`) and of each value (`later`).
+/// How many members a front takes, in all (`taken`), of each value (`held`) and of each household (`homes`); and the most that later classes
+/// can give, in all (`later_taken`) and of each value (`later`).
 #[derive(Debug, Drop)]
-pub(crate) struct Tally {
+pub struct Tally {
     taken: usize,
     held: Vec<usize>,
     later_taken: usize,
@@ -25,8 +28,8 @@ pub(crate) struct Tally {
 }
 
 impl Tally {
-    // Returns the tally of the empty front, with all classes still to come.
-    pub(crate) fn new(alloc: Global, classes: &Classes) -> Result<Tally, AllocError>
+    /// Returns the tally of the empty front, with all classes still to come.
+    pub fn new(alloc: Global, classes: &Classes) -> Result<Tally, AllocError>
         ensures { IfOk result (λ tally. Tracks classes.now [] classes.now.classes tally) }
     {
         classes.facts();
@@ -44,8 +47,8 @@ impl Tally {
         })
     }
 
-    // Subtracts the class after the front from what later classes can give.
-    pub(crate) fn begin_class(&mut self, classes: &Classes, front: &[usize])
+    /// Subtracts the class after the front from what later classes can give.
+    pub fn begin_class(&mut self, classes: &Classes, front: &[usize])
         requires below { length front.now < length classes.now.classes }
         requires stands { Tracks classes.now front.now (drop (length front.now) classes.now.classes) self.old }
         ensures { Tracks classes.now front.now (drop (length front.now + 1) classes.now.classes) self.new }
@@ -55,8 +58,8 @@ impl Tally {
         self.later_taken -= class.most();
     }
 
-    // Adds the class after the front to what later classes can give, which undoes `begin_class`.
-    pub(crate) fn end_class(&mut self, classes: &Classes, front: &[usize])
+    /// Adds the class after the front to what later classes can give, which undoes `begin_class`.
+    pub fn end_class(&mut self, classes: &Classes, front: &[usize])
         requires below { length front.now < length classes.now.classes }
         requires stands { Tracks classes.now front.now (drop (length front.now + 1) classes.now.classes) self.old }
         ensures { Tracks classes.now front.now (drop (length front.now) classes.now.classes) self.new }
@@ -66,8 +69,8 @@ impl Tally {
         self.later_taken += class.most();
     }
 
-    // Adds `count` members of the next class to what the front takes.
-    pub(crate) fn take(&mut self, classes: &Classes, front: &[usize], count: usize)
+    /// Adds `count` members of the next class to what the front takes.
+    pub fn take(&mut self, classes: &Classes, front: &[usize], count: usize)
         requires below { length front.now < length classes.now.classes }
         requires small { taken_by classes.now front.now ≤ 1000 }
         requires few { count ≤ 1000 }
@@ -80,8 +83,8 @@ impl Tally {
         self.taken += count;
     }
 
-    // Subtracts `count` members of the next class from what the front takes, which undoes `take`.
-    pub(crate) fn give_back(&mut self, classes: &Classes, front: &[usize], count: usize)
+    /// Subtracts `count` members of the next class from what the front takes, which undoes `take`.
+    pub fn give_back(&mut self, classes: &Classes, front: &[usize], count: usize)
         requires below { length front.now < length classes.now.classes }
         requires stands { Tracks classes.now (front.now ++ count ∷ []) (drop (length front.now + 1) classes.now.classes) self.old }
         ensures { Tracks classes.now front.now (drop (length front.now + 1) classes.now.classes) self.new }
@@ -176,6 +179,59 @@ impl Tally {
     {
         classes.facts();
         classes.size() - (self.taken + count)
+    }
+
+    /// True if the front takes at most the size, and the later classes can give the rest.
+    pub fn reaches_size(&self, classes: &Classes, front: &[usize]) -> bool
+        requires few { taken_by classes.now front.now ≤ 1000 }
+        requires stands { Tracks classes.now front.now (drop (length front.now) classes.now.classes) self.now }
+        ensures { result ≡ size_reachable classes.now front.now }
+    {
+        classes.facts();
+        self.size_allows(classes.size(), 0)
+    }
+
+    /// True if the front's count of a value is at most the upper bound, and can reach the lower bound.
+    pub fn reaches_value(
+        &self,
+        classes: &Classes,
+        front: &[usize],
+        category: usize,
+        value: usize,
+    ) -> bool
+        requires few { taken_by classes.now front.now ≤ 1000 }
+        requires category { category < length classes.now.bounds }
+        requires value { value < length (slice_index_or classes.now.bounds category []) }
+        requires stands { Tracks classes.now front.now (drop (length front.now) classes.now.classes) self.now }
+        ensures { (bound : Bounds) → HasBound classes.now.bounds category value bound → result ≡ value_reachable classes.now front.now category (value, bound) }
+    {
+        classes.facts();
+        let place = PLACES * category + value;
+        let bound = classes.bounds()[category].as_slice()[value];
+        is_within_reach(bound, self.held[place], self.later[place])
+    }
+
+    /// True if the front takes at most one member of each household.
+    pub fn takes_one_a_household(&self, classes: &Classes, front: &[usize]) -> bool
+        requires few { taken_by classes.now front.now ≤ 1000 }
+        requires stands { Tracks classes.now front.now (drop (length front.now) classes.now.classes) self.now }
+        ensures { result ≡ takes_one_a_household classes.now.classes front.now }
+    {
+        for place in 0..classes.classes().len() {
+            let class = classes.class_at(place);
+            if !homes::has_room(&self.homes, class.household(), 0) {
+                return false;
+            }
+        }
+        true
+    }
+
+    /// Returns how many members the front lacks of the size, or 0 if it takes more.
+    pub fn front_lack(&self, classes: &Classes, front: &[usize]) -> usize
+        requires { Tracks classes.now front.now (drop (length front.now) classes.now.classes) self.now }
+        ensures { result ≡ classes.now.size - taken_by classes.now front.now }
+    {
+        classes.size().saturating_sub(self.taken)
     }
 
     // True if, with `count` more, at most the size is taken and later classes can give the rest.

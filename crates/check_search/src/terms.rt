@@ -14,15 +14,20 @@ use crate::rows::{StageRow, rows_of};
 use pool_model::{Pool, Stage};
 use std::alloc::{AllocError, Global};
 
-// The classes at a stage, the caps of the earlier stages as closed rows and that of the stage as a row, each with its greatest sums. The
-// search changes none of it.
+/// The classes at a stage, the caps of the earlier stages as closed rows, the latest first, and that of the stage as a row, each with its
+/// greatest sums. The search changes none of it.
 #[derive(Debug, Drop)]
-pub(crate) struct Terms {
-    pub(crate) classes: Classes,
-    pub(crate) closed: Vec<StageRow>,
-    pub(crate) closed_sums: Vec<Sums>,
-    pub(crate) row: StageRow,
-    pub(crate) sums: Sums,
+pub struct Terms {
+    /// The classes.
+    pub classes: Classes,
+    /// The caps of the earlier stages, the latest first.
+    pub closed: Vec<StageRow>,
+    /// The greatest sums in each of these rows.
+    pub closed_sums: Vec<Sums>,
+    /// The cap of the stage.
+    pub row: StageRow,
+    /// The greatest sums in it.
+    pub sums: Sums,
 }
 
 impl Terms {

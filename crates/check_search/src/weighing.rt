@@ -190,3 +190,39 @@ pub(crate) fn front_attains(
     }
     true
 }
+
+/// Returns the optimistic weight of a front in a row: what it weighs, plus the greatest sum of `lack` units of the classes after it. `lack`
+/// is how many members it lacks of the size.
+pub fn optimistic_weight(
+    sums: &Sums,
+    classes: &Classes,
+    row: &StageRow,
+    front: &[usize],
+    lack: usize,
+) -> i128
+    requires narrow { AreNarrow classes.now row.now.a }
+    requires sums { IsSummed classes.now row.now sums.now }
+    requires within { length front.now ≤ length classes.now.classes }
+    requires counts { AreWithin classes.now front.now }
+    requires lack { lack ≡ classes.now.size - taken_by classes.now front.now }
+    ensures { result ≡ optimistic classes.now row.now front.now }
+{
+    classes.facts();
+    let rest = sums.greatest_of(classes, row, front.len(), lack);
+    weight_of(classes, row, front) + rest
+}
+
+// Returns what a front weighs in a row.
+fn weight_of(classes: &Classes, row: &StageRow, front: &[usize]) -> i128
+    requires narrow { AreNarrow classes.now row.now.a }
+    requires within { length front.now ≤ length classes.now.classes }
+    requires counts { AreWithin classes.now front.now }
+    ensures { result ≡ weight_in row.now.a front.now }
+{
+    classes.facts();
+    let mut weight = 0;
+    for place in 0..front.len() {
+        weight = with_count(weight, front[place], row.entries()[place]);
+    }
+    weight
+}

@@ -1,4 +1,5 @@
 pub mod Attended
+pub mod LinksRead
 pub mod Turning
 pub mod Counting
 pub mod Turned

@@ -1,4 +1,5 @@
 pub mod DeskTold
+pub mod LinksRead
 pub mod Serving
 pub mod ServeOutcomes
 pub mod Rooms

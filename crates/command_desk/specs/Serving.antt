@@ -28,7 +28,7 @@ pub record AreAttended (links : Option (DoorLinks LinkTold)) (before : Kept) (vi
   pub given : IfSome links (λ told. map (λ visit. visit.link) visits ≡ take (length visits) told.coming)
   pub door : links_after ≡ option_map (after_visits visits) links
 
--- the calls of a door, after so many links were given, attended and given back, one after the other
+-- the calls of a door, after `turns` links were given, attended and given back, one after the other
 abbrev pub after_turns : ℕ → Option (List DoorCall) → Option (List DoorCall)
 after_turns zero calls = calls
 after_turns (suc turns) calls = called (called (after_turns turns calls) (Next false)) Back

@@ -7,6 +7,7 @@ ghost use Rattle.command_stores.specs.StoreTold.{MayBeAttached, keeper_told, sto
 ghost use Rattle.office_core.specs.Keeping.{Attach, HasCause, with_call};
 ghost use Rattle.office_http.specs.Visits.{link_told};
 ghost use Rattle.command_desk.specs.DeskTold.{NoMoreBack, desk_told, door_told, ports};
+ghost use Rattle.command_desk.specs.LinksRead.{LinksAreReadAsNeeded};
 ghost use Rattle.command_desk.specs.ServeOutcomes.{SilentServeOutcome};
 ghost use Rattle.command_desk.specs.Rooms.{IsRoom};
 
@@ -38,7 +39,7 @@ pub fn call_serve<R: Threads + Sync, W: Watch + Sync, K: Keeper, D: Door, O: Sin
     errs: &mut E,
 ) -> Status
     requires { NoMoreBack (D.links door.old) }
-    ensures { (source : Bytes) → IsUntouched source → SilentServeOutcome path.now serve.port serve.connections (desk_told (store_told
+    ensures ends { (source : Bytes) → IsUntouched source → SilentServeOutcome path.now serve.port serve.connections (desk_told (store_told
         (told (status_number result) source
         (object (O.written out.old) (O.written out.new) (O.faults out.old) (O.faults out.new))
         (object (E.written errs.old) (E.written errs.new) (E.faults errs.old) (E.faults errs.new)))
@@ -46,6 +47,7 @@ pub fn call_serve<R: Threads + Sync, W: Watch + Sync, K: Keeper, D: Door, O: Sin
         (door_told (λ link. link_told (D.Link.left link) (D.Link.written link) (D.Link.faults link))
         (D.links door.old) (D.links door.new) (D.faults door.old) (D.faults door.new))
         (ports (D.opened_at door.old) (D.opened_at door.new) (D.calls door.old) (D.calls door.new))) }
+    ensures needed { LinksAreReadAsNeeded D.Link.left D.Link.reads (D.links door.old) (D.links door.new) }
 {
     match open_store(resources.alloc, path, keeper) {
         Ok(room) => match serve_door(resources, serve, keeper, door) {

@@ -3,6 +3,7 @@
 ghost use Rattle.std.specs.Prelude.{◌≡◌, ◌+◌, ◌-◌, ◌<◌, ◌^◌, if◌then◌else◌, is_err, is_ok};
 ghost use Rattle.office_http.specs.Visits.{kept, link_told};
 ghost use Rattle.command_desk.specs.DeskTold.{NoMoreBack, door_told, ports};
+ghost use Rattle.command_desk.specs.LinksRead.{LinksAreReadAsNeeded};
 ghost use Rattle.command_desk.specs.Turns.{ServesAt, ServesDoor};
 
 use crate::calling::Serve;
@@ -33,6 +34,7 @@ pub(crate) fn serve_door<R: Threads + Sync, W: Watch + Sync, K: Keeper, D: Door>
         (D.links door.old) (D.links door.new) (D.faults door.old) (D.faults door.new))
         (ports (D.opened_at door.old) (D.opened_at door.new) (D.calls door.old) (D.calls door.new))
         (kept (K.tables keeper.old) (K.faults keeper.old) (K.course keeper.old)) (kept (K.tables keeper.new) (K.faults keeper.new) (K.course keeper.new)) result }
+    ensures needed { LinksAreReadAsNeeded D.Link.left D.Link.reads (D.links door.old) (D.links door.new) }
     ensures place { (K.course keeper.new).place ≡ (K.course keeper.old).place }
 {
     match door.listen(serve.port) {
@@ -53,6 +55,7 @@ fn serve_links<R: Threads + Sync, W: Watch + Sync, K: Keeper, D: Door>(
         (door_told (λ link. link_told (D.Link.left link) (D.Link.written link) (D.Link.faults link))
         (D.links door.old) (D.links door.new) (D.faults door.old) (D.faults door.new)) (D.calls door.old) (D.calls door.new)
         (kept (K.tables keeper.old) (K.faults keeper.old) (K.course keeper.old)) (kept (K.tables keeper.new) (K.faults keeper.new) (K.course keeper.new)) result }
+    ensures needed { LinksAreReadAsNeeded D.Link.left D.Link.reads (D.links door.old) (D.links door.new) }
     ensures port { D.opened_at door.new ≡ D.opened_at door.old }
     ensures place { (K.course keeper.new).place ≡ (K.course keeper.old).place }
 {

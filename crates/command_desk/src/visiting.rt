@@ -4,6 +4,7 @@ ghost use Rattle.std.specs.Prelude.{◌≡◌, OnErr, OnOk, option_map};
 ghost use Rattle.outside.specs.Faults.{Rose};
 ghost use Rattle.office_http.specs.Visits.{kept, link_told};
 ghost use Rattle.command_desk.specs.DeskTold.{NoMoreBack, seen_links};
+ghost use Rattle.command_desk.specs.LinksRead.{LinksAreReadAsNeeded};
 ghost use Rattle.command_desk.specs.Turns.{CallsInTurn, TakesTurn};
 
 use command_shell::Resources;
@@ -23,6 +24,7 @@ pub(crate) fn visit_next<R: Threads + Sync, W: Watch + Sync, K: Keeper, D: Door>
         (option_map (seen_links (λ link. link_told (D.Link.left link) (D.Link.written link) (D.Link.faults link))) (D.links door.old))
         (option_map (seen_links (λ link. link_told (D.Link.left link) (D.Link.written link) (D.Link.faults link))) (D.links door.new))
         (kept (K.tables keeper.old) (K.faults keeper.old) (K.course keeper.old)) (kept (K.tables keeper.new) (K.faults keeper.new) (K.course keeper.new)) result }
+    ensures needed { LinksAreReadAsNeeded D.Link.left D.Link.reads (D.links door.old) (D.links door.new) }
     ensures back { NoMoreBack (D.links door.new) }
     ensures cause { OnErr result (Rose (D.faults door.old) (D.faults door.new)) }
     ensures none { OnOk result (D.faults door.new ≡ D.faults door.old) }

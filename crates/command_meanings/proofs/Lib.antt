@@ -1,3 +1,4 @@
 pub mod RunEndings
 pub mod OneAnswer
 pub mod PanelLines
+pub mod LegEndings

@@ -4,7 +4,9 @@ use Rattle.std.specs.Prelude.{⊤}
 use Rattle.define_made_pools.specs.MadePools.{made_pool}
 use Rattle.define_made_pools.specs.Summary.{summary_text}
 use Rattle.define_bundles.specs.BundleText.{bundle_text}
+use Rattle.define_pools.specs.Certificate.{Answer}
 use Rattle.define_pools.specs.Pool.{Pool}
+use Rattle.define_rows.specs.Table.{Table}
 use Rattle.define_searches.specs.Classes.{classes_of}
 use Rattle.define_runs.specs.Run.{Ending, Limits, RunEnds, opening, run_limits}
 use Rattle.define_runs.proofs.Following.{same_ending}
@@ -30,12 +32,12 @@ lottery_said limits pool (Ending.TotalPasses stood pass) = Stops Wide (total_lin
 lottery_said limits pool (Ending.PivotsSpent stood) = Stops Spent (pivots_spent_line limits.pivots (Some stood))
 lottery_said limits pool (Ending.NodesSpent stood) = Stops Spent (nodes_spent_line limits.nodes stood)
 
-width_said : (limits : Limits) (pool : Pool) (ending : Ending) (line : List ℕ) → TellsWidth ending line → Stops Wide line ≡ lottery_said limits pool ending
+pub width_said : (limits : Limits) (pool : Pool) (ending : Ending) (line : List ℕ) → TellsWidth ending line → Stops Wide line ≡ lottery_said limits pool ending
 width_said limits pool (Ending.TooWide stood pass) line tells = ap (Stops Wide) tells
 width_said limits pool (Ending.TotalPasses stood pass) line tells = ap (Stops Wide) tells
 width_said limits pool other line tells = absurd tells
 
-budget_said : (limits : Limits) (pool : Pool) (ending : Ending) (line : List ℕ) → TellsBudget limits ending line → Stops Spent line ≡ lottery_said limits pool ending
+pub budget_said : (limits : Limits) (pool : Pool) (ending : Ending) (line : List ℕ) → TellsBudget limits ending line → Stops Spent line ≡ lottery_said limits pool ending
 budget_said limits pool (Ending.PivotsSpent stood) line tells = ap (Stops Spent) tells
 budget_said limits pool (Ending.NodesSpent stood) line tells = ap (Stops Spent) tells
 budget_said limits pool other line tells = absurd tells
@@ -62,9 +64,13 @@ lottery_once limits pool first second a b =
     one_told (lottery_said limits pool) limits pool first second (lottery_tells limits pool first a) (lottery_tells limits pool second b)
 
 -- the answer is a text with status 0
-abbrev IsDone : Saying → Type 0
+abbrev pub IsDone : Saying → Type 0
 IsDone (Prints Done text) = ⊤
 IsDone answer = ⊥
+
+-- an answer that is the one of `lottery` for a lottery that is found has status 0
+pub found_is_done : (limits : Limits) (pool : Pool) (last : Table) (found : Answer) (answer : Saying) → answer ≡ lottery_said limits pool (Ending.Found last found) → IsDone answer
+found_is_done limits pool last found answer is = subst IsDone (sym is) tt
 
 -- the answer of `make` for an ending of the run: the summary if a lottery is found, else the answer of `lottery`
 abbrev made_said : Limits → Pool → Ending → Saying

@@ -1,6 +1,7 @@
 pub mod Lines
 pub mod Panel
 pub mod Lottery
+pub mod Legs
 pub mod Make
 pub mod Seal
 pub mod Draw

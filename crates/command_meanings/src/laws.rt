@@ -8,6 +8,7 @@ ghost use Rattle.command_shell.specs.Answers.{HasOneAnswer};
 ghost use Rattle.command_meanings.specs.Check.{CheckMeans};
 ghost use Rattle.command_meanings.specs.Draw.{DrawMeans};
 ghost use Rattle.command_meanings.specs.ItsBundle.{BundleMeans};
+ghost use Rattle.command_meanings.specs.Legs.{LegsMeans};
 ghost use Rattle.command_meanings.specs.Lottery.{LotteryMeans};
 ghost use Rattle.command_meanings.specs.Make.{MakeMeans};
 ghost use Rattle.command_meanings.specs.Panel.{PanelMeans};
@@ -24,6 +25,11 @@ pub fn panel_has_one_answer()
 /// `lottery` has at most one right answer about a pool.
 pub fn lottery_has_one_answer()
     ensures { (limits : Limits) (pool : Pool) → HasOneAnswer (LotteryMeans limits pool) }
+{}
+
+/// `legs` has at most one right answer about a pool.
+pub fn legs_has_one_answer()
+    ensures { (limits : Limits) (pool : Pool) → HasOneAnswer (LegsMeans limits pool) }
 {}
 
 /// `make` has at most one right answer, for a seed, a number of volunteers and the limits of a run.

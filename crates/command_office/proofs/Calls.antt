@@ -16,8 +16,8 @@ use Rattle.define_offices.specs.Commands.{Command}
 use Rattle.command_stores.specs.StoreTold.{StoreTold, keeper_told, store_told}
 use Rattle.define_offices.specs.Tables.{Tables}
 use Rattle.office_core.specs.Keeping.{Course}
-use Rattle.command_asked.specs.Office.{EndsRightly, LeavesDoor, LeavesStore}
-use Rattle.command_asked.specs.declared.asked.Asked.{Asked}
+use Rattle.command_office.specs.Office.{EndsRightly, LeavesDoor, LeavesStore}
+use Rattle.command_office.specs.declared.asked.Asked.{Asked}
 
 -- if a call is right, and the keeper's tables, faults and course are as before, the call leaves the store alone
 pub leaves : (Right : Told → Type 0) (call : Told) (kept : Option Tables) (faults : ℕ) (course : Course) → Right call → LeavesStore Right (store_told call (keeper_told (object kept kept faults faults) course course))

@@ -5,13 +5,15 @@ ghost use Rattle.command_shell.specs.Told.{object, told};
 ghost use Rattle.command_shell.specs.Answers.{status_number};
 ghost use Rattle.command_stores.specs.StoreTold.{keeper_told, store_told};
 ghost use Rattle.command_desk.specs.DeskTold.{NoMoreBack, desk_told, door_told, ports};
+ghost use Rattle.command_desk.specs.LinksRead.{LinksAreReadAsNeeded};
 ghost use Rattle.office_http.specs.Visits.{link_told};
-ghost use Rattle.command_asked.specs.Office.{EndsRightly, OfficeIsRight};
-ghost use Rattle.command_headline.specs.Headline.{Headline};
+ghost use Rattle.command_office.specs.Office.{EndsRightly, OfficeIsRight};
+ghost use Rattle.command_office.specs.Headline.{Headline};
 
-use command_asked::{Asked, command_of, read_asked};
+use crate::asked::{Asked, read_asked};
+use crate::steps::command_of;
 use command_desk::call_serve;
-use command_pools::{call_lottery, call_make};
+use command_pools::{call_legs, call_lottery, call_make};
 use command_shell::{Resources, Status, call, refuse_words, want_memory};
 use command_stores::{call_import, call_prove_round, call_step, call_text};
 use command_words::WordsStop;
@@ -22,14 +24,15 @@ use std::thread::Threads;
 
 /// Makes one call of the program, and returns the program's status. `words` don't include the program's name.
 ///
-/// The clause `right` says for each list of words what each status means, and what `out` and `errs` gained; `promises` says what that means
-/// for a reader who knows pools and lotteries, and nothing of runs.
+/// The clause `right` says for each list of words what each status means, and what `out` and `errs` gained; `promises` says what follows
+/// from it on one page. `needed` says that no link is read more than its visit needs, so nothing more is read from a client that has asked
+/// and keeps the link open.
 ///
 /// If the door tells its links, the caller must show that no more links came back to it than it gave. A new door has given none.
 ///
-/// For `lottery` and `make`, workers search the pieces of a pricing on threads, and `watch` is told of each piece as it starts. No answer
+/// For `lottery`, `legs` and `make`, workers search the pieces of a pricing on threads, and `watch` is told of each piece as it starts. No answer
 /// depends on the workers or the watch.
-#[tactic(auto, using(command_headline::proofs::Kept::keeps))]
+#[tactic(auto, using(crate::proofs::Kept::keeps))]
 pub fn office<R: Threads + Sync, S: Source, O: Sink, E: Sink, K: Keeper, D: Door, W: Watch + Sync>(
     rt: &R,
     alloc: Global,
@@ -60,6 +63,7 @@ pub fn office<R: Threads + Sync, S: Source, O: Sink, E: Sink, K: Keeper, D: Door
         (door_told (λ link. link_told (D.Link.left link) (D.Link.written link) (D.Link.faults link))
         (D.links door.old) (D.links door.new) (D.faults door.old) (D.faults door.new))
         (ports (D.opened_at door.old) (D.opened_at door.new) (D.calls door.old) (D.calls door.new))) }
+    ensures needed { LinksAreReadAsNeeded D.Link.left D.Link.reads (D.links door.old) (D.links door.new) }
 {
     match read_asked(alloc, words) {
         Ok(asked) => {
@@ -82,7 +86,7 @@ fn run<R: Threads + Sync, W: Watch + Sync, S: Source, O: Sink, E: Sink, K: Keepe
     door: &mut D,
 ) -> Status
     requires { NoMoreBack (D.links door.old) }
-    ensures { EndsRightly (Some asked.entry) (desk_told (store_told
+    ensures right { EndsRightly (Some asked.entry) (desk_told (store_told
         (told (status_number result)
         (object (S.left source.old) (S.left source.new) (S.faults source.old) (S.faults source.new))
         (object (O.written out.old) (O.written out.new) (O.faults out.old) (O.faults out.new))
@@ -91,11 +95,13 @@ fn run<R: Threads + Sync, W: Watch + Sync, S: Source, O: Sink, E: Sink, K: Keepe
         (door_told (λ link. link_told (D.Link.left link) (D.Link.written link) (D.Link.faults link))
         (D.links door.old) (D.links door.new) (D.faults door.old) (D.faults door.new))
         (ports (D.opened_at door.old) (D.opened_at door.new) (D.calls door.old) (D.calls door.new))) }
+    ensures needed { LinksAreReadAsNeeded D.Link.left D.Link.reads (D.links door.old) (D.links door.new) }
 {
     let alloc = resources.alloc;
     match asked {
         Asked::Text(command) => call(alloc, &command, source, out, errs),
         Asked::Lottery(lottery) => call_lottery(resources, &lottery, source, out, errs),
+        Asked::Legs(legs) => call_legs(resources, &legs, source, out, errs),
         Asked::Make(make) => call_make(resources, &make, out, errs),
         Asked::Step { store, step } => match command_of(alloc, &step) {
             Ok(command) => call_step(resources, &command, store.as_str(), keeper, out, errs),

@@ -5,7 +5,7 @@ ghost use Rattle.std.specs.declared.io.ErrorKind.TheVariants.{InvalidData};
 ghost use Rattle.command_shell.specs.Told.{object, GainsLine};
 ghost use Rattle.command_shell.specs.Answers.{status_number};
 ghost use Rattle.command_shell.specs.Lines.{want_of_memory_line};
-ghost use Rattle.command_asked.specs.Office.{words_not_utf8_line};
+ghost use Rattle.command_office.specs.Office.{words_not_utf8_line};
 
 use command_shell::{Status, refuse_words, want_memory};
 use outside::Sink;

@@ -1,4 +1,4 @@
--- The answers for a stop of the run are right by `LotteryMeans` and `MakeMeans`.
+-- The answers for a stop of the run are right by `LotteryMeans`, `LegsMeans` and `MakeMeans`.
 use Rattle.std.proofs.Common.{◌≡◌, ℕ, List, Err, refl, ap, sym, subst}
 use Rattle.define_made_pools.specs.MadePools.{made_pool}
 use Rattle.define_made_pools.specs.Summary.{Sizes, summary_text}
@@ -13,6 +13,7 @@ use Rattle.leximin_run.specs.declared.stops.Stop.{Stop}
 use Rattle.leximin_run.specs.declared.stops.Stop.TheVariants.{TooWide, TotalPasses, PivotsSpent, NodesSpent, OutOfMemory}
 use Rattle.command_shell.specs.declared.status.Cause.TheVariants.{Wide, Spent}
 use Rattle.command_shell.specs.Answers.{IsRight, Saying, Stops}
+use Rattle.command_meanings.specs.Legs.{LegsMeans}
 use Rattle.command_meanings.specs.Lottery.{LotteryMeans, PassesWidth, SpendsBudget}
 use Rattle.command_meanings.specs.Make.{MakeMeans, sizes_of}
 use Rattle.command_pools.specs.Found.{TellsStop}
@@ -40,6 +41,15 @@ stop_is_right limits pool stop ends answer is = right (refused limits pool stop 
     right : TellsRefusal limits pool answer → IsRight (LotteryMeans limits pool) answer
     right (IsWidth line passes e) = subst (IsRight (LotteryMeans limits pool)) (sym e) passes
     right (IsBudget line spends e) = subst (IsRight (LotteryMeans limits pool)) (sym e) spends
+
+-- `legs` answers to a stop as `lottery` does
+pub legs_stop_is_right : (limits : Limits) (pool : Pool) (stop : Stop) → TellsEnding (classes_of pool) (run_limits limits) (Err stop) → (answer : Saying) →
+    TellsStop limits stop answer → IsRight (LegsMeans limits pool) answer
+legs_stop_is_right limits pool stop ends answer is = right (refused limits pool stop ends answer is)
+  where
+    right : TellsRefusal limits pool answer → IsRight (LegsMeans limits pool) answer
+    right (IsWidth line passes e) = subst (IsRight (LegsMeans limits pool)) (sym e) passes
+    right (IsBudget line spends e) = subst (IsRight (LegsMeans limits pool)) (sym e) spends
 
 pub made_stop_is_right : (seed volunteers : ℕ) (limits : Limits) (pool : Pool) → pool ≡ made_pool seed volunteers → (stop : Stop) →
     TellsEnding (classes_of pool) (run_limits limits) (Err stop) → (answer : Saying) → TellsStop limits stop answer → IsRight (MakeMeans seed volunteers limits) answer

@@ -45,7 +45,10 @@ type Row = (
     &'static [u8],
 );
 
-/// Calls of `lottery`, one of `panel`, and words whose options don't go together.
+/// The legs of the run over one seat and two volunteers, with their bounds.
+const EITHER_LEGS: &[u8] = b"leg\t1\t1\t1\t4\nleg\t1\t2\t1\t10\nbound\t14\n";
+
+/// Calls of `lottery` and `legs`, one of `panel`, and words whose options don't go together.
 const ROWS: &[Row] = &[
     (&["panel"], FOUR, 0, b"panel\ta\tc\n", b""),
     (
@@ -124,6 +127,30 @@ const ROWS: &[Row] = &[
         b"",
         b"spent\tnodes\t6\t1\t1\t1\n",
     ),
+    (
+        &["lottery", "--pivots", "14"],
+        EITHER,
+        0,
+        EITHER_BUNDLE,
+        b"",
+    ),
+    (&["legs"], EITHER, 0, EITHER_LEGS, b""),
+    (&["legs", "--workers", "3"], EITHER, 0, EITHER_LEGS, b""),
+    (&["legs"], WOMEN_GONE, 1, b"no panel\n", b""),
+    (
+        &["legs", "--bits", "1"],
+        EITHER,
+        4,
+        b"",
+        b"wide\t0\t0\t0\t1\tadd\t1\t1\n",
+    ),
+    (
+        &["legs", "--pivots", "1"],
+        EITHER,
+        5,
+        b"",
+        b"spent\tpivots\t1\t1\t2\t1\n",
+    ),
 ];
 
 /// Calls of `make`, which doesn't read what the source holds.
@@ -200,7 +227,7 @@ const APART_FILES: &[(&str, &[u8])] = &[
     ),
 ];
 
-/// Three workers are at work at once, for `lottery`, `make` and `solve`: a watch holds the pieces of two until the third has started.
+/// Three workers are at work at once, for `lottery`, `legs`, `make` and `solve`: a watch holds the pieces of two until the third has started.
 #[test]
 fn the_third_worker_starts_while_two_are_held(rt: HostRuntime) -> Result<(), AllocError> {
     let alloc = rt.alloc();
@@ -214,6 +241,7 @@ fn the_third_worker_starts_while_two_are_held(rt: HostRuntime) -> Result<(), All
     }
     for words in [
         ["lottery", "--workers=3"].as_slice(),
+        &["legs", "--workers=3"],
         &["make", "--seed=7", "--volunteers=20", "--workers=3"],
         &["solve", "--store=s", "--workers=3"],
     ] {
@@ -232,6 +260,7 @@ fn the_third_worker_starts_while_two_are_held(rt: HostRuntime) -> Result<(), All
 const FAILING: &[(&[u64], &[u64], usize, &[u64], u8, usize, &[u8])] = &[
     (&[1], &[], 1000, &[], 7, 0, b"read fault\n"),
     (&[2], &[], 1000, &[], 7, 0, b"read fault\n"),
+    (&[3], &[], 1000, &[], 0, 218, b""),
     (&[], &[1], 1000, &[], 8, 0, b"write fault\n"),
     (&[], &[2], 1000, &[], 8, 9, b"write fault\n"),
     (&[], &[17], 1000, &[], 8, 213, b"write fault\n"),

@@ -13,6 +13,8 @@ mod imports;
 #[cfg(test)]
 mod office_calls;
 #[cfg(test)]
+mod page_texts;
+#[cfg(test)]
 mod proved;
 #[cfg(test)]
 mod stores;

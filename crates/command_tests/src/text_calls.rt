@@ -1,5 +1,6 @@
 //! Commands that read one text: words, a text, and what is told. They are answered without a source or sinks.
 
+use crate::page_texts::{MARKED_BUNDLE, MARKED_PAGE};
 use crate::texts::{
     COUPLE_PROOF, CROSSED, DOUBLED_PROOF, EITHER_BUNDLE, FIVE_BUNDLE, FOUR, FOUR_BUNDLE,
     FOUR_BUNDLE_PROVED, FOUR_PROOF, FOUR_PROVED, LATER, MEN_LEFT, MORE_BUNDLE, NOBODY, ONE_WOMAN,
@@ -51,7 +52,7 @@ const USAGE_ROWS: &[Row] = &[
         FOUR,
         2,
         b"",
-        b"error: 'sortition' requires a subcommand but one was not provided\n  [subcommands: prove, keep, verify, bundle, explain, why, loosen-by-proof, page, seal, dice, tickets, draw, chances, short, short-draw, import-charter, import-rules, import-register, solve, drop, next-round, show, report, pool, serve, panel, loosen, lottery, check, make, help]\n\nUsage: sortition <COMMAND>\n\nFor more information, try '--help'.\n",
+        b"error: 'sortition' requires a subcommand but one was not provided\n  [subcommands: prove, keep, verify, bundle, explain, why, loosen-by-proof, page, seal, dice, tickets, draw, chances, short, short-draw, import-charter, import-rules, import-register, solve, drop, next-round, show, report, pool, serve, panel, loosen, lottery, legs, check, make, help]\n\nUsage: sortition <COMMAND>\n\nFor more information, try '--help'.\n",
     ),
     (
         &["panel", "--nodes", "x"],
@@ -356,7 +357,7 @@ const PROOF_ROWS: &[Row] = &[
         &["why"],
         SHORT,
         0,
-        b"gender female: at least 2; 1 available, 0 of them seated\nthese together miss by 1\neach is needed: without it the others can be met\n",
+        b"gender female: at least 2; 1 available, 0 of them seated\nthese together miss by at least 1\neach is needed: without it the others can be met\n",
         b"",
     ),
     (&["why"], FOUR, 0, b"a panel exists\na\nc\n", b""),
@@ -402,6 +403,15 @@ const PROOF_ROWS: &[Row] = &[
         b"rule\tBadDigit\t1\n",
     ),
 ];
+
+/// A call of `page` that prints one. A constant has room for one page.
+const PAGE_ROWS: &[Row] = &[(
+    &["page", "--drawn", "500", "--tickets", "1000"],
+    MARKED_BUNDLE,
+    0,
+    MARKED_PAGE,
+    b"",
+)];
 
 /// Calls of `prove`.
 const PROVE_ROWS: &[Row] = &[
@@ -482,6 +492,7 @@ fn texts_are_answered(rt: HostRuntime) -> Result<(), AllocError> {
         BUNDLE_ROWS,
         CHECK_ROWS,
         PROOF_ROWS,
+        PAGE_ROWS,
         PROVE_ROWS,
     ] {
         for (words, text, status, out, errs) in rows {

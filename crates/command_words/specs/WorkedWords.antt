@@ -121,6 +121,15 @@ pub record LotteryGives : Type 0 where
   pub no_workers : GiveNothing (codes "lottery" ∷ codes "--workers" ∷ codes "0" ∷ [])
   pub more_workers : GiveNothing (codes "lottery" ∷ codes "--workers" ∷ codes "65" ∷ [])
 
+-- the limits of `legs` are those of `lottery`
+pub record LegsGives : Type 0 where
+  pub defaults : Give (codes "legs" ∷ []) name.Legs
+      (number (codes "bits") 127 ∷ number (codes "pivots") 100000 ∷ number (codes "nodes") 50000000 ∷ number (codes "workers") 1 ∷ [])
+  pub most : Give (codes "legs" ∷ codes "--pivots" ∷ codes "1000000000" ∷ codes "--nodes" ∷ codes "1000000000000" ∷ codes "--workers" ∷ codes "64" ∷ []) name.Legs
+      (number (codes "bits") 127 ∷ number (codes "pivots") 1000000000 ∷ number (codes "nodes") 1000000000000 ∷ number (codes "workers") 64 ∷ [])
+  pub more_bits : GiveNothing (codes "legs" ∷ codes "--bits" ∷ codes "128" ∷ [])
+  pub share : GiveNothing (codes "legs" ∷ codes "--share" ∷ [])
+
 -- `make` requires a seed of at most 2 ^ 63 - 1 and a number of volunteers from 1 to 400, and has the limits of `lottery`
 pub record MakeGives : Type 0 where
   pub defaults : Give (codes "make" ∷ codes "--seed" ∷ codes "0" ∷ codes "--volunteers" ∷ codes "1" ∷ []) name.Make

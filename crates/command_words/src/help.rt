@@ -44,6 +44,7 @@ If no panel meets the quotas:
 To make a lottery without a store:
   prove            Makes the lottery of a pool, with a proof of it
   lottery          Makes the lottery of a pool by the stated run, of up to some 30 people
+  legs             Prints how many pivots the stated run makes, and how many it could make
   panel            Prints the first panel of a pool that meets the quotas
   make             Makes a pool from a number, and tells of its lottery
 

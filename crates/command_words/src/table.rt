@@ -337,6 +337,13 @@ const RUN_COMMANDS: &[TableCommand] = &[
         options: &[BITS, PIVOTS, NODES, WORKERS],
     },
     CommandWords {
+        command: CommandName::Legs,
+        name: "legs",
+        help: "Prints how many pivots the run over the pool on standard input makes, and how many it could make",
+        example: "Example: sortition legs < city.pool",
+        options: &[BITS, PIVOTS, NODES, WORKERS],
+    },
+    CommandWords {
         command: CommandName::Check,
         name: "check",
         help: "Checks the certificate of the bundle on standard input",

@@ -39,6 +39,8 @@ pub enum CommandName {
     Page,
     /// The lottery of a pool by the stated run.
     Lottery,
+    /// The legs of the stated run over a pool.
+    Legs,
     /// The verdict on the certificate of a bundle.
     Check,
     /// The summary of the run over a made pool.

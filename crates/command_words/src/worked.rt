@@ -5,6 +5,7 @@ ghost use Rattle.command_words.specs.WorkedWords.{
   DropGives,
   ImportsGive,
   KeepGives,
+  LegsGives,
   LotteryGives,
   MakeGives,
   NextRoundGives,
@@ -35,6 +36,7 @@ pub fn words_are_worked()
     ensures imports { ImportsGive }
     ensures searches { SearchesGive }
     ensures lottery { LotteryGives }
+    ensures legs { LegsGives }
     ensures make { MakeGives }
     ensures others { OthersGive }
     ensures page { PageGives }

@@ -57,7 +57,7 @@ quota_line pool quota =
 -- the line that says by how many people the quotas are missed at least; if that isn't known, only that no panel of whole people meets them
 -- together
 abbrev pub miss_line : Option ℕ → List ℕ
-miss_line (Some least) = codes "these together miss by " ++ decimal least ++ 10 ∷ []
+miss_line (Some least) = codes "these together miss by at least " ++ decimal least ++ 10 ∷ []
 miss_line None = codes "no panel of whole people meets these together" ++ 10 ∷ []
 
 -- the line that says whether it is known that each quota is needed

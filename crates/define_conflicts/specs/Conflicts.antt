@@ -1,13 +1,15 @@
 -- What `why` claims of a conflict. Builds on Quotas and OnlyQuotas. `quota_conflicts` promises it, and the meaning of `why` cites it.
-use Rattle.std.specs.Prelude.{◌≡◌, ◌≤◌, [], IsTrue}
-use Rattle.std.specs.List.{list_all}
+use Rattle.std.specs.Prelude.{◌≡◌, ◌≢◌, ◌≤◌, [], IsTrue}
+use Rattle.std.specs.List.{AllPairs, list_all}
 use Rattle.define_pools.specs.Pool.{Pool, panels}
 use Rattle.define_conflicts.specs.OnlyQuotas.{only}
 use Rattle.define_conflicts.specs.Quotas.{Conflict, EachNeeded, MissBy, is_quota_of, known_miss}
 
 pub record IsConflict (pool : Pool) (conflict : Conflict) : Type 0 where
-  -- the quotas are the pool's
+  -- the quotas are the pool's: what each of them counts is there, and a household is somebody's
   pub of_pool : IsTrue (list_all (is_quota_of pool) conflict.quotas)
+  -- no quota is named twice
+  pub different : AllPairs (λ one other. one ≢ other) conflict.quotas
   -- each selection misses the quotas by at least `known_miss conflict` people in all, and this number is at least 1
   pub misses : MissBy pool conflict.quotas (known_miss conflict)
   pub some : 1 ≤ known_miss conflict

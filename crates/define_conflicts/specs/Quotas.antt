@@ -45,11 +45,11 @@ bound_of pool AtMost (OfHousehold member) = 1
 abbrev pub bound : Pool → Quota → ℕ
 bound pool quota = bound_of pool quota.side quota.counted
 
--- the pool has the category and the value, or the volunteer, that a quota names to say whom it counts
+-- the pool has the category and the value that a quota names to say whom it counts, or the volunteer, who has a household
 abbrev pub is_counted_of : Pool → Counted → Bool
 is_counted_of pool Everybody = true
 is_counted_of pool (WithValue category value) = nat_lt category (length pool.categories) && nat_lt value (length (category_at pool category).values)
-is_counted_of pool (OfHousehold member) = nat_lt member (length pool.volunteers)
+is_counted_of pool (OfHousehold member) = nat_lt member (length pool.volunteers) && share_household pool.volunteers member member
 
 -- the quota is one of the pool's: the pool has what it names
 abbrev pub is_quota_of : Pool → Quota → Bool

@@ -19,4 +19,4 @@ couple_conflict = record { quotas = quotas_of couple_weighted; least_miss = Some
 abbrev pub couple_text : List ℕ
 couple_text =
     codes "the size: at least 2; 2 available, 0 of them seated" ++ 10 ∷ codes "household h: at most 1; 2 available, 0 of them seated" ++ 10
-    ∷ codes "these together miss by 1" ++ 10 ∷ codes "each is needed: without it the others can be met" ++ 10 ∷ []
+    ∷ codes "these together miss by at least 1" ++ 10 ∷ codes "each is needed: without it the others can be met" ++ 10 ∷ []

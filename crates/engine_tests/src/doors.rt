@@ -73,13 +73,14 @@ fn links_in_memory_come_and_go(rt: HostRuntime) -> Result<(), Fail> {
     Ok(())
 }
 
-/// Tests that a port is a door. The door gives the connection that a client makes. What the client writes can be read, and what is put
+/// Tests that a port is a door, at one address of this machine alone. The door gives the connection that a client makes. What the client writes can be read, and what is put
 /// arrives at the client, even if the client has sent more than was read. The connection ends when it is given back.
 #[test]
 fn ports_are_doors(rt: HostRuntime) -> Result<(), Fail> {
     let mut door = TcpDoor::new(&rt);
     assert!(rt; door.next().is_err());
     let port = open(&mut door).unwrap_or(0);
+    assert!(rt; TcpStream::connect(&rt, ("127.0.0.2", port)).is_err());
     let mut client = TcpStream::connect(&rt, ("127.0.0.1", port))?;
     client.write_all(b"who is there? And who is not?")?;
     assert_eq!(rt; echo_next(&mut door).ok(), Some(true));

@@ -1,3 +1,4 @@
+mod ChoiceLaws
 pub mod MarkLaws
 pub mod FrameLaws
 pub mod PartLaws

@@ -2,9 +2,10 @@
 //! 1, Bland's rule, and a pivot that is made whole or stops at the first operation that passes the width. Stands on `frac128`, and on
 //! `define_rows`, in whose terms the contracts see a `Table`. Used by `leximin_run`.
 //!
-//! Promises: the calls of `Table`, each exactly the definition's step. All other modules are helpers over numbers and slices.
+//! Promises: the calls of `Table`, each exactly the definition's step, and `basis_bound`. All other modules are helpers over numbers and slices.
 #![tactic(auto)]
 
+mod bases;
 mod bounds;
 mod choosing;
 mod frame;
@@ -15,6 +16,7 @@ mod starting;
 mod table;
 mod width;
 
+pub use bases::basis_bound;
 pub use define_rows::{Composition, Op, Pass, Row, Var};
 pub use table::Table;
 use thiserror::Error;

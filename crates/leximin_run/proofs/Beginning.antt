@@ -14,6 +14,8 @@ use Rattle.define_runs.proofs.Following.{ends_at_once, opens_at}
 use Rattle.define_searches.proofs.Contained.{first_there}
 use Rattle.define_runs.proofs.Kept.{MayBegin, first_table_is, may_begin, reached_kept}
 use Rattle.leximin_run.specs.Advancing.{Reaches}
+use Rattle.leximin_run.specs.Tracing.{ReachesWithLegs}
+use Rattle.leximin_run.proofs.LegSteps.{begins_with_legs}
 
 -- If the opening search stays within its budget, the opening goes on with the composition that the search finds.
 opens : (all : Classes) (limits : RunLimits) → (first_search all).visits ≤ limits.opening → opening all limits ≡ opened all limits (first_composition all)
@@ -42,6 +44,9 @@ module _ (all : Classes) (limits : RunLimits) (first : List ℕ) (within : (firs
         reached = reached;
         stands = record { limited = limited; ranges = ranges; keeps = reached_kept all limits limited ranges table reached; closed_are = ap closed_rows (first_table_is (sizes_of all) first limits.bits table e) };
       }
+
+  pub begun_with_legs : (table : Table) → start (sizes_of all) first limits.bits ≡ Ok table → ReachesWithLegs all limits table []
+  begun_with_legs table e = begins_with_legs all limits table (starts ∙ ap started e)
 
   pub may_start : KeepsLimits all → MayBegin all first
   may_start limited = may_begin all limited first (first_there (compositions all) first found)

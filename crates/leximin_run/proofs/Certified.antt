@@ -12,11 +12,7 @@ use Rattle.laws_of_runs.proofs.NoPanels.{none_where_no_panel}
 use Rattle.leximin_run.specs.declared.stops.Solved.{Solved}
 use Rattle.leximin_run.specs.declared.stops.Solved.TheVariants.{Found, NoPanel}
 use Rattle.leximin_run.specs.declared.stops.Stop.{Stop}
-use Rattle.leximin_run.specs.declared.stops.SolvedSized.{SolvedSized}
-use Rattle.leximin_run.specs.declared.stops.SolvedSized.TheVariants as sized
-use Rattle.define_runs.specs.Run.{RunLimits}
-use Rattle.define_searches.specs.Classes.{Classes}
-use Rattle.leximin_run.specs.Answers.{IsCertified, KeepsRanges, TellsEnding, TellsSized, unsized}
+use Rattle.leximin_run.specs.Answers.{IsCertified, KeepsRanges, TellsEnding}
 
 pub certified : (pool : Pool) (limits : Limits) → IsPool pool → AreLimits limits → (answer : Result Solved Stop) → TellsEnding (classes_of pool) (run_limits limits) answer → IsCertified pool answer
 certified pool limits is_pool ranges (Ok (Found answer)) told =
@@ -28,9 +24,3 @@ pub keeps_ranges : (pool : Pool) (limits : Limits) → IsPool pool → AreLimits
 keeps_ranges pool limits is_pool ranges (Ok (Found answer)) told = found_in_ranges pool (are_alike pool) (alike_makes pool) (run_limits limits) told.0 answer is_pool ranges told.1
 keeps_ranges pool limits is_pool ranges (Ok NoPanel) told = tt
 keeps_ranges pool limits is_pool ranges (Err stop) told = tt
-
--- If an answer with sizes is how the run ends, so is the answer without them.
-pub tells_unsized : (all : Classes) (limits : RunLimits) (answer : Result SolvedSized Stop) → TellsSized all limits answer → TellsEnding all limits (unsized answer)
-tells_unsized all limits (Ok (sized.Found answer sizes)) told = (told.0, told.2)
-tells_unsized all limits (Ok sized.NoPanel) told = told
-tells_unsized all limits (Err stop) told = told

@@ -4,6 +4,8 @@ use Rattle.std.specs.List.{All}
 use Rattle.std.proofs.lemmas.Bool.{le-ltb}
 use Rattle.std.proofs.lemmas.List.Elements.{All-from_recursion, recursion_from_All}
 use Rattle.laws_basic.proofs.Each.{each_mapped}
+use Rattle.define_legs.specs.declared.Leg.{Leg}
+use Rattle.define_legs.specs.Legs.{EndsWithLegs}
 use Rattle.define_pools.specs.Lottery.{Lottery}
 use Rattle.define_rows.specs.Choice.{choice}
 use Rattle.define_rows.specs.InOrder.{IsInOrder, settled_count}
@@ -19,6 +21,8 @@ use Rattle.leximin_run.specs.declared.running.Refusal.{Refusal}
 use Rattle.leximin_run.specs.declared.running.Refusal.TheVariants.{Wide, NoPivot, NoVisit, NoMemory}
 use Rattle.leximin_run.specs.Advancing.{Reaches, Refuses, Stands}
 use Rattle.leximin_run.specs.Answers.{TellsEnding, stop_of}
+use Rattle.leximin_run.specs.Tracing.{ReachesWithLegs}
+use Rattle.leximin_run.proofs.LegSteps.{ends_with_legs}
 
 -- Each column of the solution is a column of the table.
 pub known_columns : (table : Table) → IsInOrder table → All (λ part. part.0 < length table.columns) (map fraction_of (solution table))
@@ -34,11 +38,11 @@ module _ (all : Classes) (limits : RunLimits) (table : Table) (closed : List Row
       ap (λ s. cond s (step_in_stage all limits table (choice table)) (cond (ltb (settled_count table) (length table.sizes)) (GoOn (enter_stage table)) (Ended (answered all table (spread all (parts_of table)))))) shut
       ∙ ap (λ s. cond s (GoOn (enter_stage table)) (Ended (answered all table (spread all (parts_of table))))) (le-ltb (settled_count table) (length table.sizes) settled)
 
-  pub found_at_end : table.in_stage ≡ false → length table.sizes ≤ settled_count table → (lottery : Lottery) → spread all (parts_of table) ≡ Ok lottery →
-      Ends all limits (Found table (record { lottery = lottery; stages = map (stage_of all) closed }))
-  found_at_end shut settled lottery e =
-      let ended = comes_to_end all limits table (answered all table (Ok lottery)) reaches.reached (answer_due shut settled ∙ ap (λ s. Ended (answered all table s)) e) in
-      subst (λ rows. Ends all limits (Found table (record { lottery = lottery; stages = map (stage_of all) rows }))) (sym reaches.stands.closed_are) ended
+  pub found_at_end : table.in_stage ≡ false → length table.sizes ≤ settled_count table → (legs : List Leg) → ReachesWithLegs all limits table legs → (lottery : Lottery) → spread all (parts_of table) ≡ Ok lottery →
+      EndsWithLegs all limits (Found table (record { lottery = lottery; stages = map (stage_of all) closed })) legs
+  found_at_end shut settled legs with_legs lottery e =
+      let ended = ends_with_legs all limits table legs (answered all table (Ok lottery)) with_legs (answer_due shut settled ∙ ap (λ s. Ended (answered all table s)) e) in
+      subst (λ rows. EndsWithLegs all limits (Found table (record { lottery = lottery; stages = map (stage_of all) rows })) legs) (sym reaches.stands.closed_are) ended
 
   pub passed_at_end : table.in_stage ≡ false → length table.sizes ≤ settled_count table → (pass : TotalPass) → spread all (parts_of table) ≡ Err pass → Ends all limits (TotalPasses table pass)
   passed_at_end shut settled pass e = comes_to_end all limits table (answered all table (Err pass)) reaches.reached (answer_due shut settled ∙ ap (λ s. Ended (answered all table s)) e)

@@ -1,4 +1,5 @@
 mod Turns
 mod Beginning
+mod LegSteps
 mod Ending
 mod Certified

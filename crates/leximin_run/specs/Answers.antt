@@ -1,6 +1,9 @@
 -- The answers of a run. Builds on Run of `define_runs`. The promises of `solve` use them, and so do `command_pools` and `office_core`.
-use Rattle.std.specs.Prelude.{◌≡◌, [], ℕ, ℤ, pos, length, Option, Some, None, Result, Ok, Err}
+use Rattle.std.specs.Prelude.{◌≡◌, [], ℕ, ℤ, ◌<◌, ◌≤◌, pos, List, length, Option, Some, None, Result, Ok, Err}
+use Rattle.std.specs.List.{All}
 use Rattle.define_bundles.specs.Ranges.{IsInRanges}
+use Rattle.define_legs.specs.declared.Leg.{Leg}
+use Rattle.define_legs.specs.Legs.{EndsWithLegs, leg_bases, pivot_limit, with_pivot}
 use Rattle.define_pools.specs.Certificate.{Certifies}
 use Rattle.define_pools.specs.Lottery.{LeximinGreatest}
 use Rattle.define_pools.specs.Pool.{Pool, panels}
@@ -16,6 +19,10 @@ use Rattle.leximin_run.specs.declared.stops.Solved.{Solved}
 use Rattle.leximin_run.specs.declared.stops.Solved.TheVariants.{Found, NoPanel}
 use Rattle.leximin_run.specs.declared.stops.SolvedSized.{SolvedSized}
 use Rattle.leximin_run.specs.declared.stops.SolvedSized.TheVariants as sized
+use Rattle.leximin_run.specs.declared.stops.SolvedTraced.{SolvedTraced}
+use Rattle.leximin_run.specs.declared.stops.SolvedTraced.TheVariants as traced
+use Rattle.leximin_run.specs.declared.stops.Outcome.{Outcome}
+use Rattle.leximin_run.specs.declared.stops.Outcome.TheVariants as outcome
 use Rattle.define_runs.specs.declared.sizes.RunSizes.{RunSizes}
 use Rattle.leximin_run.specs.declared.stops.Stop.{Stop}
 use Rattle.leximin_run.specs.declared.stops.Stop.TheVariants.{TooWide, TotalPasses, PivotsSpent, NodesSpent, OutOfMemory}
@@ -65,14 +72,66 @@ stop_of table NoMemory = OutOfMemory
 abbrev pub sizes_in : Table → RunSizes
 sizes_in table = record { classes = length table.sizes; columns = length table.columns; pivots = table.pivots }
 
+-- the answer of a run, without its sizes and its legs
+abbrev pub solved_of : Result Outcome Stop → Result Solved Stop
+solved_of (Ok (outcome.Found answer sizes legs)) = Ok (Found answer)
+solved_of (Ok outcome.NoPanel) = Ok NoPanel
+solved_of (Err stop) = Err stop
+
+-- the answer of a run with its legs, without its sizes
+abbrev pub traced_of : Result Outcome Stop → Result SolvedTraced Stop
+traced_of (Ok (outcome.Found answer sizes legs)) = Ok (traced.Found answer legs)
+traced_of (Ok outcome.NoPanel) = Ok traced.NoPanel
+traced_of (Err stop) = Err stop
+
 -- the answer without the sizes
 abbrev pub unsized : Result SolvedSized Stop → Result Solved Stop
 unsized (Ok (sized.Found answer sizes)) = Ok (Found answer)
 unsized (Ok sized.NoPanel) = Ok NoPanel
 unsized (Err stop) = Err stop
 
+-- the answer without the legs
+abbrev pub untraced : Result SolvedTraced Stop → Result Solved Stop
+untraced (Ok (traced.Found answer legs)) = Ok (Found answer)
+untraced (Ok traced.NoPanel) = Ok NoPanel
+untraced (Err stop) = Err stop
+
 -- the answer is how the run ends, with the sizes of the run's last table if a lottery is found
 abbrev pub TellsSized : Classes → RunLimits → Result SolvedSized Stop → Type 0
 TellsSized all limits (Ok (sized.Found answer sizes)) = (last : Table) × (sizes ≡ sizes_in last) × Ends all limits (Ending.Found last answer)
 TellsSized all limits (Ok sized.NoPanel) = TellsEnding all limits (Ok NoPanel)
 TellsSized all limits (Err stop) = TellsEnding all limits (Err stop)
+
+-- the answer is how the run ends, with the run's legs if a lottery is found
+abbrev pub TellsTraced : Classes → RunLimits → Result SolvedTraced Stop → Type 0
+TellsTraced all limits (Ok (traced.Found answer legs)) = (last : Table) × EndsWithLegs all limits (Ending.Found last answer) legs.items
+TellsTraced all limits (Ok traced.NoPanel) = TellsEnding all limits (Ok NoPanel)
+TellsTraced all limits (Err stop) = TellsEnding all limits (Err stop)
+
+-- the answer is how the run ends, with the sizes of its last table and its legs if a lottery is found
+abbrev pub TellsOutcome : Classes → RunLimits → Result Outcome Stop → Type 0
+TellsOutcome all limits (Ok (outcome.Found answer sizes legs)) = (last : Table) × (sizes ≡ sizes_in last) × EndsWithLegs all limits (Ending.Found last answer) legs.items
+TellsOutcome all limits (Ok outcome.NoPanel) = TellsEnding all limits (Ok NoPanel)
+TellsOutcome all limits (Err stop) = TellsEnding all limits (Err stop)
+
+-- each leg has fewer pivots than there are sets of variables that could be basic in it
+abbrev pub AreShortLegs : Classes → List Leg → Type 0
+AreShortLegs all legs = All (λ leg. leg.pivots < leg_bases (length all.classes) leg) legs
+
+abbrev pub HasShortLegs : Classes → Result SolvedTraced Stop → Type 0
+HasShortLegs all (Ok (traced.Found answer legs)) = AreShortLegs all legs.items
+HasShortLegs all (Ok traced.NoPanel) = Unit {0}
+HasShortLegs all (Err stop) = Unit {0}
+
+-- if a lottery is found, there is a class
+abbrev pub HasSomeClass : Classes → Result SolvedTraced Stop → Type 0
+HasSomeClass all (Ok (traced.Found answer legs)) = 1 ≤ length all.classes
+HasSomeClass all (Ok traced.NoPanel) = Unit {0}
+HasSomeClass all (Err stop) = Unit {0}
+
+-- If the budget of pivots is spent, it is below the sum, over the run's legs in which a pivot was made or is due, of how many sets of
+-- variables could be basic in them. So a budget of at least that sum is never spent
+abbrev pub SpendsBelowLegs : Classes → RunLimits → Stop → Type 0
+SpendsBelowLegs all limits (PivotsSpent place) =
+    (table : Table) × (legs : List Leg) × (stood place ≡ Some table) × EndsWithLegs all limits (Ending.PivotsSpent table) legs × (limits.pivots < pivot_limit (length all.classes) (with_pivot legs))
+SpendsBelowLegs all limits stop = Unit {0}

@@ -1,8 +1,9 @@
 //! The whole run, from a pool to an answer.
 
-ghost use Rattle.std.specs.Prelude.{◌≡◌, ◌≤◌, ◌<◌, false, Some, IfOk, [], length, slice_index_or};
+ghost use Rattle.std.specs.Prelude.{◌≡◌, ◌≤◌, ◌<◌, false, Some, IfErr, IfOk, [], length, slice_index_or};
 ghost use Rattle.leximin_run.specs.Advancing.{Reaches};
-ghost use Rattle.leximin_run.specs.Answers.{IsCertified, KeepsRanges, TellsEnding, TellsSized, sizes_in, stop_of, unsized};
+ghost use Rattle.leximin_run.specs.Tracing.{ReachesWithLegs};
+ghost use Rattle.leximin_run.specs.Answers.{HasShortLegs, HasSomeClass, IsCertified, KeepsRanges, SpendsBelowLegs, TellsEnding, TellsOutcome, TellsSized, TellsTraced, sizes_in, solved_of, stop_of, traced_of, unsized, untraced};
 ghost use Rattle.define_runs.specs.Run.{parts_of, run_limits};
 ghost use Rattle.define_rows.specs.InOrder.{settled_count};
 ghost use Rattle.define_searches.specs.Classes.{classes_of};
@@ -12,8 +13,10 @@ ghost use Rattle.define_searches.specs.Visits.{first_search};
 
 use crate::certifying::certificate;
 use crate::running::{Refusal, Run};
-use crate::stops::{At, Solved, SolvedSized, Stop};
+use crate::stops::{At, Outcome, Solved, SolvedSized, SolvedTraced, Stop};
+use crate::tracing::Counts;
 use alike::{Classes, Composition, SpreadStop, classes, spread};
+use define_legs::Leg;
 use define_runs::{Limits, RunSizes};
 use exact_table::{Table, TableStop};
 use frac128::Frac;
@@ -41,10 +44,12 @@ pub fn solve<R: Threads + Sync, W: Watch + Sync>(
     ensures certified { IsCertified pool.now result }
     // A lottery that is found is in the ranges of a bundle, so it can be put into one.
     ensures ranges { KeepsRanges pool.now result }
+    // A budget of pivots that is at least the bound of the run's legs is never spent.
+    ensures spent { IfErr result (SpendsBelowLegs (classes_of pool.now) (run_limits limits)) }
 {
-    match solve_sized(rt, alloc, pool, limits, workers, watch) {
-        Ok(SolvedSized::Found(answer, _)) => Ok(Solved::Found(answer)),
-        Ok(SolvedSized::NoPanel) => Ok(Solved::NoPanel),
+    match outcome(rt, alloc, pool, limits, workers, watch) {
+        Ok(Outcome::Found(answer, _, _)) => Ok(Solved::Found(answer)),
+        Ok(Outcome::NoPanel) => Ok(Solved::NoPanel),
         Err(stop) => Err(stop),
     }
 }
@@ -63,6 +68,58 @@ pub fn solve_sized<R: Threads + Sync, W: Watch + Sync>(
     ensures run { TellsSized (classes_of pool.now) (run_limits limits) result }
     ensures certified { IsCertified pool.now (unsized result) }
     ensures ranges { KeepsRanges pool.now (unsized result) }
+    ensures spent { IfErr result (SpendsBelowLegs (classes_of pool.now) (run_limits limits)) }
+{
+    match outcome(rt, alloc, pool, limits, workers, watch) {
+        Ok(Outcome::Found(answer, sizes, _)) => Ok(SolvedSized::Found(answer, sizes)),
+        Ok(Outcome::NoPanel) => Ok(SolvedSized::NoPanel),
+        Err(stop) => Err(stop),
+    }
+}
+
+/// Makes the run of `solve`. If it finds a lottery, it also returns the legs of the run. In each leg Bland's rule made fewer pivots than
+/// there are sets of variables that could be basic.
+pub fn solve_traced<R: Threads + Sync, W: Watch + Sync>(
+    rt: &R,
+    alloc: Global,
+    pool: &Pool,
+    limits: Limits,
+    workers: u32,
+    watch: &W,
+) -> Result<SolvedTraced, Stop>
+    requires some_worker { 1 ≤ workers }
+    requires few_workers { workers ≤ 64 }
+    ensures run { TellsTraced (classes_of pool.now) (run_limits limits) result }
+    ensures certified { IsCertified pool.now (untraced result) }
+    ensures ranges { KeepsRanges pool.now (untraced result) }
+    ensures short { HasShortLegs (classes_of pool.now) result }
+    ensures some { HasSomeClass (classes_of pool.now) result }
+    ensures spent { IfErr result (SpendsBelowLegs (classes_of pool.now) (run_limits limits)) }
+{
+    match outcome(rt, alloc, pool, limits, workers, watch) {
+        Ok(Outcome::Found(answer, _, legs)) => Ok(SolvedTraced::Found(answer, legs)),
+        Ok(Outcome::NoPanel) => Ok(SolvedTraced::NoPanel),
+        Err(stop) => Err(stop),
+    }
+}
+
+// Makes the run, and returns all that is told of it.
+fn outcome<R: Threads + Sync, W: Watch + Sync>(
+    rt: &R,
+    alloc: Global,
+    pool: &Pool,
+    limits: Limits,
+    workers: u32,
+    watch: &W,
+) -> Result<Outcome, Stop>
+    requires some_worker { 1 ≤ workers }
+    requires few_workers { workers ≤ 64 }
+    ensures run { TellsOutcome (classes_of pool.now) (run_limits limits) result }
+    ensures certified { IsCertified pool.now (solved_of result) }
+    ensures ranges { KeepsRanges pool.now (solved_of result) }
+    ensures short { HasShortLegs (classes_of pool.now) (traced_of result) }
+    ensures some { HasSomeClass (classes_of pool.now) (traced_of result) }
+    ensures spent { IfErr result (SpendsBelowLegs (classes_of pool.now) (run_limits limits)) }
 {
     pool.facts();
     let _ = limits.bits();
@@ -77,15 +134,15 @@ fn run<R: Threads + Sync, W: Watch + Sync>(
     limits: Limits,
     workers: u32,
     watch: &W,
-) -> Result<SolvedSized, Stop>
+) -> Result<Outcome, Stop>
     requires some_worker { 1 ≤ workers }
     requires few_workers { workers ≤ 64 }
-    ensures { TellsSized (classes_of pool.now) (run_limits limits) result }
+    ensures { TellsOutcome (classes_of pool.now) (run_limits limits) result }
 {
     let classes = classes(alloc, pool)?;
     match first(alloc, &classes, limits.nodes()) {
         Ok(Some(composition)) => begin(rt, alloc, &classes, limits, composition, workers, watch),
-        Ok(None) => Ok(SolvedSized::NoPanel),
+        Ok(None) => Ok(Outcome::NoPanel),
         Err(SearchStop::Spent) => Err(Stop::NodesSpent(At::Opening)),
         Err(SearchStop::OutOfMemory) => Err(Stop::OutOfMemory),
     }
@@ -100,12 +157,12 @@ fn begin<R: Threads + Sync, W: Watch + Sync>(
     composition: Composition,
     workers: u32,
     watch: &W,
-) -> Result<SolvedSized, Stop>
+) -> Result<Outcome, Stop>
     requires within { (first_search classes.now).visits ≤ limits.nodes }
     requires first { first_composition classes.now ≡ Some composition }
     requires some_worker { 1 ≤ workers }
     requires few_workers { workers ≤ 64 }
-    ensures { TellsSized classes.now (run_limits limits) result }
+    ensures { TellsOutcome classes.now (run_limits limits) result }
 {
     classes.facts();
     let sizes = sizes(alloc, classes)?;
@@ -144,16 +201,19 @@ fn finish<R: Threads + Sync, W: Watch + Sync>(
     mut run: Run<'_>,
     workers: u32,
     watch: &W,
-) -> Result<SolvedSized, Stop>
+) -> Result<Outcome, Stop>
     requires some_worker { 1 ≤ workers }
     requires few_workers { workers ≤ 64 }
+    requires legs { ReachesWithLegs run.pricer.classes (run_limits run.limits) run.table [] }
     requires reached { Reaches run.pricer.classes (run_limits run.limits) run.table run.pricer.closed }
-    ensures { TellsSized run.entry.pricer.classes (run_limits run.entry.limits) result }
+    ensures { TellsOutcome run.entry.pricer.classes (run_limits run.entry.limits) result }
 {
+    let mut legs = Vec::new(alloc);
     loop {
+        let before = Counts::of(&run.table);
         match run.advance(rt, alloc, workers, watch) {
-            Ok(true) => {}
-            Ok(false) => return answer(alloc, run),
+            Ok(true) => before.count_step(&mut legs, &run.table)?,
+            Ok(false) => return answer(alloc, run, legs),
             Err(refusal) => return Err(stop(run, refusal)),
         }
     }
@@ -173,19 +233,21 @@ fn stop(run: Run<'_>, refusal: Refusal) -> Stop
 }
 
 // Makes the answer once everybody is settled: spreads the columns of positive value, and makes the certificate of the closed rows.
-fn answer(alloc: Global, run: Run<'_>) -> Result<SolvedSized, Stop>
+fn answer(alloc: Global, run: Run<'_>, legs: Vec<Leg>) -> Result<Outcome, Stop>
+    requires legs { ReachesWithLegs run.pricer.classes (run_limits run.limits) run.table legs.items }
     requires reached { Reaches run.pricer.classes (run_limits run.limits) run.table run.pricer.closed }
     requires shut { run.table.in_stage ≡ false }
     requires settled { length run.table.sizes ≤ settled_count run.table }
-    ensures { TellsSized run.entry.pricer.classes (run_limits run.entry.limits) result }
+    ensures { TellsOutcome run.entry.pricer.classes (run_limits run.entry.limits) result }
 {
     let parts = parts(alloc, &run.table)?;
     let classes = run.pricer.classes();
     let certificate = certificate(alloc, classes, run.pricer.closed())?;
     match spread(alloc, classes, &parts) {
-        Ok(lottery) => Ok(SolvedSized::Found(
+        Ok(lottery) => Ok(Outcome::Found(
             Answer::new(lottery, certificate),
             sizes_of(&run.table),
+            legs,
         )),
         Err(SpreadStop::TotalPasses { place, total, den }) => {
             Err(Stop::TotalPasses(At::Table(run.table), place, total, den))

@@ -1,5 +1,6 @@
 //! The answers of a run, and why it stops.
 
+use define_legs::Leg;
 use define_runs::RunSizes;
 use exact_table::{Pass, Table};
 use pool_model::Answer;
@@ -28,6 +29,24 @@ pub enum Solved {
 pub enum SolvedSized {
     /// A lottery, with its certificate; and the classes, columns and pivots of the run.
     Found(Answer, RunSizes),
+    /// The pool has no quota panel.
+    NoPanel,
+}
+
+/// The result of a run, with its legs.
+#[derive(Debug, Drop)]
+pub enum SolvedTraced {
+    /// A lottery, with its certificate; and the legs of the run.
+    Found(Answer, Vec<Leg>),
+    /// The pool has no quota panel.
+    NoPanel,
+}
+
+/// The result of a run, with the sizes of its last table and its legs.
+#[derive(Debug, Drop)]
+pub(crate) enum Outcome {
+    /// A lottery, with its certificate.
+    Found(Answer, RunSizes, Vec<Leg>),
     /// The pool has no quota panel.
     NoPanel,
 }

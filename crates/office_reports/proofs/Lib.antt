@@ -2,3 +2,4 @@ pub mod Names
 pub mod Making
 pub mod Chances
 pub mod SummaryTexts
+pub mod LegLines

@@ -1,4 +1,4 @@
-//! Two assemblies as commands, from the imports on, and how each command ends.
+//! Assemblies as commands, from the imports on, and how each command ends.
 
 ghost use Rattle.std.specs.Prelude.{IfSome};
 ghost use Rattle.office_core.specs.Commands.{HasWorkers};
@@ -104,6 +104,22 @@ pub(crate) const HOUSEHOLDS: &[Row] = &[
     (Asked::Draw(HOUSED_SEAL, b"0"), Ending::Replies),
     (Asked::DropOut("a"), Ending::Replies),
     (Asked::Next, Ending::Replies),
+];
+
+/// The first round of four volunteers, which is open.
+pub(crate) const ENROLLED: &[Row] = &[
+    (Asked::Rules, Ending::Replies),
+    (Asked::Register(FOUR), Ending::Replies),
+    (Asked::Charter, Ending::Replies),
+];
+
+/// The same round, which is solved and then sealed.
+pub(crate) const SEALED: &[Row] = &[
+    (Asked::Rules, Ending::Replies),
+    (Asked::Register(FOUR), Ending::Replies),
+    (Asked::Charter, Ending::Replies),
+    (Asked::Solve(1), Ending::Replies),
+    (Asked::Seal, Ending::Replies),
 ];
 
 /// Does a command over a keeper. Returns how it ends, or None if the command can't be made, for want of memory.

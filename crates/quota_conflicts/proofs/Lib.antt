@@ -2,3 +2,4 @@ pub mod Sums
 pub mod Counts
 pub mod Selected
 pub mod Added
+pub mod Different

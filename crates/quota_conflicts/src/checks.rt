@@ -1,8 +1,9 @@
 //! A conflict, checked: its quotas are the pool's, a tree shows that each selection misses them, and witnesses show that each is needed.
 //! Stands on `covers`, `misses`, `needs` and `quotas`; `answers` and `texts` use this.
 
-ghost use Rattle.std.specs.Prelude.{◌≡◌, IfOk, IfSome};
-ghost use Rattle.std.specs.List.{list_all};
+ghost use Rattle.std.specs.Prelude.{◌≡◌, ◌≢◌, IfOk, IfSome};
+ghost use Rattle.std.specs.Bool.{OnTrue};
+ghost use Rattle.std.specs.List.{AllPairs, list_all};
 ghost use Rattle.define_conflicts.specs.Conflicts.{IsConflict};
 ghost use Rattle.define_conflicts.specs.Quotas.{is_quota_of as is_of};
 ghost use Rattle.quota_conflicts.specs.Shown.{IsShown};
@@ -65,7 +66,7 @@ impl Conflict {
     }
 }
 
-/// Returns the conflict of the quotas, or None if one of them isn't the pool's or the tree doesn't show that each selection misses one.
+/// Returns the conflict of the quotas, or None if one of them isn't the pool's or is there twice, or the tree doesn't show that each selection misses one.
 pub(crate) fn checked(
     alloc: Global,
     pool: &Pool,
@@ -76,7 +77,7 @@ pub(crate) fn checked(
     ensures { IfOk result (λ found. IfSome found (IsConflict pool.now)) }
 {
     conflict_leaves_no_panel();
-    if !are_quotas_of(pool, &quotas) {
+    if !are_quotas_of(pool, &quotas) || !are_different(&quotas) {
         return Ok(None);
     }
     let Some(least_miss) = shown_miss(alloc, pool, &quotas, nodes)? else {
@@ -90,6 +91,19 @@ fn are_quotas_of(pool: &Pool, quotas: &[Quota]) -> bool
     ensures { result ≡ list_all (is_of pool.now) quotas.now }
 {
     quotas.iter().all(|quota| is_quota_of(pool, *quota))
+}
+
+/// True if no quota is there twice.
+fn are_different(quotas: &[Quota]) -> bool
+    ensures { OnTrue result (AllPairs (λ one other. one ≢ other) quotas.now) }
+{
+    for place in 0..quotas.len() {
+        let quota = quotas[place];
+        if quotas[..place].contains(&quota) {
+            return false;
+        }
+    }
+    true
 }
 
 /// Returns what the tree shows: `Some(Some(n))` if it is one leaf that shows that each selection misses the quotas by at least `n` people,

@@ -79,7 +79,9 @@ pub(crate) fn is_quota_of(pool: &Pool, quota: Quota) -> bool
     match quota.counted {
         Counted::Everybody => true,
         Counted::WithValue(category, value) => has_value(pool, category, value),
-        Counted::OfHousehold(member) => member < pool.volunteers().len(),
+        Counted::OfHousehold(member) => {
+            member < pool.volunteers().len() && share_household(pool.volunteers(), member, member)
+        }
     }
 }
 

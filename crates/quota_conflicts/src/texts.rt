@@ -166,7 +166,7 @@ fn push_miss(text: &mut Vec<u8>, least_miss: Option<usize>) -> Result<(), AllocE
 {
     match least_miss {
         Some(least) => {
-            text.extend_from_slice(b"these together miss by ")?;
+            text.extend_from_slice(b"these together miss by at least ")?;
             push_number(text, least)?;
             text.push(b'\n')?;
             Ok(())

@@ -8,8 +8,8 @@ use Rattle.command_desk.specs.DeskTold.{door_told, ports}
 use Rattle.command_desk.proofs.Ending.{door_failed, from_before, served}
 use Rattle.command_desk.proofs.calling.call_serve.Goals as goal
 
-pub returns-in-Ok-serve_door : goal.returns-in-Ok-serve_door
-returns-in-Ok-serve_door g c source alone =
+pub returns-in-Ok-serve_door-clause-ends : goal.returns-in-Ok-serve_door-clause-ends
+returns-in-Ok-serve_door-clause-ends g c source alone =
     let sees = λ (link : g.row.D-Link.Denot). link_told (g.D.Link.Link.left link) (g.D.Link.Link.written link) (g.D.Link.Link.faults link) in
     let door = door_told sees (g.D.Door.links c.args.door.now) (g.D.Door.links c.serve_door.new.door) (g.D.Door.faults c.args.door.now) (g.D.Door.faults c.serve_door.new.door) in
     let after = kept (g.K.Keeper.tables c.serve_door.new.keeper) (g.K.Keeper.faults c.serve_door.new.keeper) (g.K.Keeper.course c.serve_door.new.keeper) in
@@ -27,8 +27,8 @@ returns-in-Ok-serve_door g c source alone =
           (c.serve_door.ensures.place ∙ ap (λ (course : Course). course.place) c.in-Ok.ensures.attached) serves c.served_answer.ensures (c.tell.ensures source);
     }
 
-pub returns-in-Err : goal.returns-in-Err
-returns-in-Err g c source alone =
+pub returns-in-Err-clause-ends : goal.returns-in-Err-clause-ends
+returns-in-Err-clause-ends g c source alone =
     let sees = λ (link : g.row.D-Link.Denot). link_told (g.D.Link.Link.left link) (g.D.Link.Link.written link) (g.D.Link.Link.faults link) in
     let door = door_told sees (g.D.Door.links c.args.door.now) (g.D.Door.links c.serve_door.new.door) (g.D.Door.faults c.args.door.now) (g.D.Door.faults c.serve_door.new.door) in
     let after = kept (g.K.Keeper.tables c.serve_door.new.keeper) (g.K.Keeper.faults c.serve_door.new.keeper) (g.K.Keeper.course c.serve_door.new.keeper) in

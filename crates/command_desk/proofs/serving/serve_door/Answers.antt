@@ -1,5 +1,6 @@
 use Rattle.office_http.specs.Visits.{kept, link_told}
 use Rattle.command_desk.specs.DeskTold.{door_told, ports}
+use Rattle.command_desk.proofs.LinksRead.{more_read, none_read}
 use Rattle.command_desk.proofs.Turned.{at_port, not_opened, opened}
 use Rattle.command_desk.proofs.serving.serve_door.Goals as goal
 
@@ -21,3 +22,10 @@ returns-in-Err-clause-served g c =
     not_opened sees c.args.serve.port c.args.serve.connections (g.D.Door.links c.args.door.now) (g.D.Door.links c.listen.new.self) (g.D.Door.faults c.args.door.now)
     (g.D.Door.faults c.listen.new.self) (ports (g.D.Door.opened_at c.args.door.now) (g.D.Door.opened_at c.listen.new.self) (g.D.Door.calls c.args.door.now) (g.D.Door.calls c.listen.new.self))
     (kept (g.K.Keeper.tables c.args.keeper.now) (g.K.Keeper.faults c.args.keeper.now) (g.K.Keeper.course c.args.keeper.now)) c.in-Err.failed c.in-Err.ensures.same c.in-Err.ensures.cause c.in-Err.ensures.shut c.in-Err.ensures.call
+
+pub returns-in-Ok-clause-needed : goal.returns-in-Ok-clause-needed
+returns-in-Ok-clause-needed g c =
+    more_read g.D.Link.Link.left g.D.Link.Link.reads _ _ _ (none_read g.D.Link.Link.left g.D.Link.Link.reads _ _ c.in-Ok.ensures.same) c.serve_links.ensures.needed
+
+pub returns-in-Err-clause-needed : goal.returns-in-Err-clause-needed
+returns-in-Err-clause-needed g c = none_read g.D.Link.Link.left g.D.Link.Link.reads _ _ c.in-Err.ensures.same

@@ -4,11 +4,12 @@ use Rattle.command_desk.specs.DeskTold.{door_told, seen_links}
 use Rattle.office_http.specs.Visits.{kept, link_told}
 use Rattle.outside.specs.Faults.{Rose}
 use Rattle.command_desk.proofs.Counting.{counted}
+use Rattle.command_desk.proofs.LinksRead.{more_read, none_read}
 use Rattle.command_desk.proofs.Turned.{all_turns, failed_turn, last_turn, no_turn, one_turn, turn_calls}
 use Rattle.command_desk.proofs.serving.serve_links.Goals as goal
 
 pub loop-turn-init : goal.loop-turn-init
-loop-turn-init g c = record { way = no_turn _ _; back = c.requires; none = refl; port = refl; calls = refl; place = refl }
+loop-turn-init g c = record { way = no_turn _ _; needed = none_read g.D.Link.Link.left g.D.Link.Link.reads _ _ refl; back = c.requires; none = refl; port = refl; calls = refl; place = refl }
 
 pub add-requires : goal.add-requires
 add-requires g c =
@@ -25,6 +26,7 @@ loop-turn-preserved g c =
     record {
       way = one_turn (links c.args.door.now) (links c.loop-turn.door) (links c.visit_next.new.door) (keeps c.args.keeper.now) (keeps c.loop-turn.keeper) (keeps c.visit_next.new.keeper)
           c.loop-turn.counts c.add.new.self c.loop-turn._turn c.in-Ok-Some.ended here.way (rw c.in-Ok-Some.field-0-is at c.in-Ok-Some.ensures.turn) c.add.ensures.served c.add.ensures.broken;
+      needed = more_read g.D.Link.Link.left g.D.Link.Link.reads _ _ _ here.needed c.visit_next.ensures.needed;
       back = c.in-Ok-Some.ensures.back;
       none = c.in-Ok-Some.ensures.none ∙ here.none;
       port = c.visit_next.ensures.port ∙ here.port;
@@ -67,3 +69,9 @@ returns-clause-served g c =
     all_turns c.args.connections c.loop-turn._turn
     (door_told sees (g.D.Door.links c.args.door.now) (g.D.Door.links c.loop-turn.door) (g.D.Door.faults c.args.door.now) (g.D.Door.faults c.loop-turn.door))
     (g.D.Door.calls c.args.door.now) (g.D.Door.calls c.loop-turn.door) (keeps c.args.keeper.now) (keeps c.loop-turn.keeper) c.loop-turn.counts here.way all here.none
+
+pub returns-in-Ok-None-clause-needed : goal.returns-in-Ok-None-clause-needed
+returns-in-Ok-None-clause-needed g c = more_read g.D.Link.Link.left g.D.Link.Link.reads _ _ _ c.loop-turn.invariant.needed c.visit_next.ensures.needed
+
+pub returns-in-Err-clause-needed : goal.returns-in-Err-clause-needed
+returns-in-Err-clause-needed g c = more_read g.D.Link.Link.left g.D.Link.Link.reads _ _ _ c.loop-turn.invariant.needed c.visit_next.ensures.needed

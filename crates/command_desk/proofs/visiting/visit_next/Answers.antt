@@ -2,6 +2,7 @@ use Rattle.std.proofs.Common.{◌≡◌, Option, refl, subst}
 use Rattle.std.specs.Prelude.{IfSome}
 use Rattle.office_http.specs.Visits.{kept, link_told, visit}
 use Rattle.outside.specs.Links.{first_of}
+use Rattle.command_desk.proofs.LinksRead.{one_read}
 use Rattle.command_desk.proofs.Turning.{none_out, one_attended}
 use Rattle.command_desk.proofs.visiting.visit_next.Goals as goal
 
@@ -23,3 +24,9 @@ returns-in-Some-clause-back g c =
     let links = g.D.Door.links c.args.door.now in
     let first = subst (λ (link : Option g.row.D-Link.Denot). IfSome links (λ told. link ≡ first_of told.coming)) c.in-Some.is c.in_ok-link.ensures.first in
     none_out links (g.D.Door.links c.next.new.self) (g.D.Door.links c.back.new.self) c.in-Some.link c.attend-ended.new.link c.requires first c.in_ok-link.ensures.given c.back.ensures.last
+
+pub returns-in-Some-clause-needed : goal.returns-in-Some-clause-needed
+returns-in-Some-clause-needed g c =
+    let first = subst (λ (link : Option g.row.D-Link.Denot). IfSome (g.D.Door.links c.args.door.now) (λ told. link ≡ first_of told.coming)) c.in-Some.is c.in_ok-link.ensures.first in
+    one_read g.D.Link.Link.left g.D.Link.Link.reads (g.D.Door.links c.args.door.now) (g.D.Door.links c.next.new.self) (g.D.Door.links c.back.new.self) c.in-Some.link c.attend-ended.new.link
+    first c.in_ok-link.ensures.given c.back.ensures.last c.attend-ended.ensures.needed c.attend-ended.ensures.reads

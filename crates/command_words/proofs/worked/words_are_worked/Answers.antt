@@ -60,6 +60,10 @@ pub returns-clause-lottery : goal.returns-clause-lottery
 unfolding given_in command_table proof_commands draw_commands office_commands run_commands clap_on_literals
 returns-clause-lottery c = record { defaults = refl; least = refl; most = refl; no_bits = refl; more_bits = refl; more_pivots = refl; more_nodes = refl; no_workers = refl; more_workers = refl }
 
+pub returns-clause-legs : goal.returns-clause-legs
+unfolding given_in command_table proof_commands draw_commands office_commands run_commands clap_on_literals
+returns-clause-legs c = record { defaults = refl; most = refl; more_bits = refl; share = refl }
+
 pub returns-clause-make : goal.returns-clause-make
 unfolding given_in command_table proof_commands draw_commands office_commands run_commands clap_on_literals
 returns-clause-make c = record { defaults = refl; most = refl; no_seed = refl; no_volunteers = refl; greater_seed = refl; nobody = refl; too_many = refl; more_bits = refl }

@@ -14,7 +14,7 @@ returns-in_ok-push-in-Some c =
     let number = decimal c.in-Some.least in
     c.in_ok-push-in-Some.ensures.items
     ∙ ap (λ before. before ++ 10 ∷ []) (c.in_ok-push_number-in-Some.ensures ∙ ap (λ before. before ++ number) c.in_ok-extend_from_slice-in-Some.ensures.items)
-    ∙ regrouped text (codes "these together miss by ") number (10 ∷ [])
+    ∙ regrouped text (codes "these together miss by at least ") number (10 ∷ [])
     ∙ ap (λ least. text ++ miss_line least) (sym c.in-Some.is)
 
 pub returns-in-None : goal.returns-in-None

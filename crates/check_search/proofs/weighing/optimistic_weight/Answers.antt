@@ -1,0 +1,35 @@
+use Rattle.std.proofs.Common.{rules, ◌≡◌, length, drop, ap, ◌∙◌, ◌+ℤ◌, ◌<◌, ◌^◌, FitsSigned, to_z, of_z, subst, sym}
+use Rattle.std.specs.Int.{w128}
+use Rattle.std.specs.Prelude.{unsigned_abs}
+use Rattle.std.proofs.lemmas.Int.{to_z-of_z, fits_signed_from_abs}
+use Rattle.define_searches.specs.Compositions.{weight_in}
+use Rattle.define_searches.specs.Fronts.{greatest_sum, optimistic}
+use Rattle.laws_of_fronts.proofs.WeightLaws.{front_narrow}
+use Rattle.check_search.proofs.weighing.optimistic_weight.Goals as goal
+
+-- The sum that the code makes is the front's weight plus the greatest sum of units of the classes after the front.
+module _ (c : goal.After-weight_of) where
+  weighs : c.weight_of.result +ℤ c.greatest_of-rest.result ≡ weight_in c.args.row.now.a c.args.front.now +ℤ greatest_sum c.args.lack (drop (length c.args.front.now) c.args.classes.now.classes) (drop (length c.args.front.now) c.args.row.now.a)
+  weighs = ap (λ z. z +ℤ c.greatest_of-rest.result) c.weight_of.ensures ∙ ap (λ z. weight_in c.args.row.now.a c.args.front.now +ℤ z) c.greatest_of-rest.ensures
+
+  fits : FitsSigned w128 (c.weight_of.result +ℤ c.greatest_of-rest.result)
+  fits =
+      let narrow : unsigned_abs (c.weight_of.result +ℤ c.greatest_of-rest.result) < 2 ^ 127 =
+      subst (λ z. unsigned_abs z < 2 ^ 127) (sym weighs) (front_narrow c.args.classes.now c.args.row.now.a c.args.front.now c.args.lack c.facts.ensures c.requires.narrow c.requires.within c.requires.counts) in
+      fits_signed_from_abs w128 (c.weight_of.result +ℤ c.greatest_of-rest.result) narrow
+
+  stored : to_z w128 (of_z w128 c.weight_of.result) +ℤ to_z w128 (of_z w128 c.greatest_of-rest.result) ≡ c.weight_of.result +ℤ c.greatest_of-rest.result
+  stored =
+      let fits_weight : FitsSigned w128 c.weight_of.result = search rules in
+      let fits_rest : FitsSigned w128 c.greatest_of-rest.result = search rules in
+      simp to_z-of_z
+
+pub overflow_add-result : goal.overflow_add-result
+overflow_add-result c = subst (FitsSigned w128) (sym (stored c)) (fits c)
+
+pub returns : goal.returns
+returns c =
+    let all = c.args.classes.now in let row = c.args.row.now in let front = c.args.front.now in
+    let value : c.weight_of.result +ℤ c.greatest_of-rest.result ≡ optimistic all row front =
+    weighs c ∙ ap (λ n. weight_in row.a front +ℤ greatest_sum n (drop (length front) all.classes) (drop (length front) row.a)) c.requires.lack in
+    ap (λ z. to_z w128 (of_z w128 z)) (stored c) ∙ to_z-of_z w128 (c.weight_of.result +ℤ c.greatest_of-rest.result) (fits c) ∙ value

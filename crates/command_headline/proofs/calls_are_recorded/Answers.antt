@@ -1,5 +1,0 @@
-use Rattle.command_headline.proofs.Records.{calls_are_recorded}
-use Rattle.command_headline.proofs.calls_are_recorded.Goals as goal
-
-pub returns : goal.returns
-returns c = calls_are_recorded

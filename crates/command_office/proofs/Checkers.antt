@@ -1,0 +1,92 @@
+-- What `check` and `verify` answer about a text that the source told.
+use Rattle.std.proofs.Common.{◌≡◌, ◌∙◌, ◌+◌, ◌≤◌, ℕ, List, length, Option, Some, None, Ok, ap, subst, arith}
+use Rattle.std.specs.Prelude.{◌≢◌, ◌↔◌}
+use Rattle.std.proofs.lemmas.List.{length-append}
+use Rattle.define_additions.specs.ProofVerdict.{Proof, verdict}
+use Rattle.define_bundles.specs.BundleText.{Bundle, IsBundle, bundle_spelling}
+use Rattle.define_bundles.proofs.ReadAgain.{spelled_is_read as bundle_is_read}
+use Rattle.define_checks.specs.Reasons.{Valid}
+use Rattle.outside.specs.Content.{LosesMore, ReadsAll}
+use Rattle.define_pools.specs.Certificate.{Certifies}
+use Rattle.define_proof_texts.specs.ProofText.{IsProof, proof_spelling}
+use Rattle.define_proof_texts.proofs.ReadAgain.{spelled_is_read as proof_is_read}
+use Rattle.command_shell.specs.declared.status.Cause.TheVariants.{Input, Spent}
+use Rattle.command_shell.specs.declared.status.Printed.TheVariants.{Done, Refused as Rejected}
+use Rattle.command_shell.specs.Answers.{IsRight, IsTheAnswer, RightAnswers, Saying, Prints, Stops, status_of}
+use Rattle.command_shell.specs.Formats.{bundle_format, proof_format}
+use Rattle.command_shell.specs.Lines.{input_limit}
+use Rattle.command_shell.specs.Outcomes.{Answered, Ends, IsAboutSource, IsTold, ReadFault, TooLong, WantOfMemory, WriteFault}
+use Rattle.command_shell.specs.Subjects.{About, AboutFault, AboutValue, Format}
+use Rattle.command_shell.specs.Told.{Told}
+use Rattle.command_meanings.specs.Check.{CheckMeans}
+use Rattle.command_meanings.specs.Verify.{VerifyMeans}
+use Rattle.command_office.specs.About.{ToldText}
+use Rattle.command_office.specs.Office.{Answers}
+use Rattle.command_office.proofs.Reading.{its_status}
+
+-- if the source told that it held `text`, the bytes that were read are `text`
+pub same_text : (before after : Option (List ℕ)) (text bytes : List ℕ) → before ≡ Some text → ReadsAll before after bytes → bytes ≡ text
+same_text None after text bytes told held = absurd (cc (told))
+same_text (Some left) after text bytes told held = let same : left ≡ text = cc (told) in held.0 ∙ same
+
+-- if a source told a text of at most `limit` bytes, no call reads more than `limit` bytes from it
+pub not_longer : (before after : Option (List ℕ)) (text : List ℕ) (limit : ℕ) → before ≡ Some text → length text ≤ limit → LosesMore limit before after → ⊥
+not_longer None after text limit told within loses = cc (told)
+not_longer (Some left) None text limit told within loses = loses.2
+not_longer (Some left) (Some rest) text limit told within loses =
+    let same : left ≡ text = cc (told) in
+    let parts : length left ≡ length loses.0 + length rest = ap length loses.2 ∙ length-append loses.0 rest in
+    let whole : length left ≡ length text = ap length same in
+    let more = loses.1 in
+    absurd (omega arith)
+
+module _ {Value : Type 0} (format : Format Value) (Means : Value → RightAnswers) (told : Told) where
+  -- there is a right answer about `value` with the status of the call
+  pub record IsDue (value : Value) : Type 0 where
+    pub answer : Saying
+    pub right : IsRight (Means value) answer
+    pub status : told.status ≡ status_of answer
+
+  due_of : (value : Value) (text : List ℕ) → format.read text ≡ Ok value → ToldText told.source text → (answer : Saying) → IsTold answer told →
+      (right : IsAboutSource (About format (λ v. IsTheAnswer (Means v))) told.source answer) → About format (λ v. IsTheAnswer (Means v)) right.bytes answer → IsDue value
+  due_of value text reads_so from answer is right (AboutValue own reads spells means) =
+      let bytes = same_text told.source.before told.source.after text right.bytes from.told right.held in
+      let same : own ≡ value = cc (reads, reads_so, bytes) in
+      record { answer = answer; right = subst (λ v. IsRight (Means v) answer) same means.right; status = its_status answer told is }
+  due_of value text reads_so from answer is right (AboutFault fault fails e) =
+      let bytes = same_text told.source.before told.source.after text right.bytes from.told right.held in
+      absurd (cc (fails, reads_so, bytes))
+
+  pub due : (value : Value) (text : List ℕ) → format.read text ≡ Ok value → ToldText told.source text → told.status ≢ 8 → told.status ≢ 12 → Answers format Means told → IsDue value
+  due value text reads_so from n8 n12 (Ends (Answered answer right is)) = due_of value text reads_so from answer is right right.means
+  due value text reads_so from n8 n12 (Ends (WriteFault printed cut_text right cut)) = absurd (n8 cut.status)
+  due value text reads_so from n8 n12 (Ends (WantOfMemory want)) = absurd (n12 want.status)
+  due value text reads_so from n8 n12 (TooLong long) = absurd (not_longer told.source.before told.source.after text input_limit from.told from.within long.held)
+  due value text reads_so from n8 n12 (ReadFault fault) = absurd (from.no_fault fault.faulted)
+
+-- if no budget is spent, the status of `check` is 0 exactly if the certificate holds
+certified : (nodes status : ℕ) (bundle : Bundle) (answer : Saying) → IsRight (CheckMeans nodes bundle) answer → status ≡ status_of answer → status ≢ 5 →
+    status ≡ 0 ↔ Certifies bundle.pool bundle.answer.lottery bundle.answer.stages
+certified nodes status bundle (Prints Done text) right is n5 = (λ s. right.greatest.certified, λ holds. is)
+certified nodes status bundle (Prints Rejected text) right is n5 = (λ s. absurd (cc (is, s)), λ holds. absurd (right.fails holds))
+certified nodes status bundle (Stops Spent text) right is n5 = absurd (n5 is)
+certified nodes status bundle answer right is n5 = absurd right
+
+pub check_is_exact : (nodes : ℕ) (told : Told) → Answers bundle_format (CheckMeans nodes) told → (bundle : Bundle) → IsBundle bundle → ToldText told.source (bundle_spelling bundle) →
+    told.status ≢ 5 → told.status ≢ 8 → told.status ≢ 12 → told.status ≡ 0 ↔ Certifies bundle.pool bundle.answer.lottery bundle.answer.stages
+check_is_exact nodes told outcome bundle is from n5 n8 n12 =
+    let it = due bundle_format (CheckMeans nodes) told bundle (bundle_spelling bundle) (bundle_is_read bundle is) from n8 n12 outcome in
+    certified nodes told.status bundle it.answer it.right it.status n5
+
+-- the status of `verify` is 0 exactly if the proof is valid
+proved : (status : ℕ) (proof : Proof) (answer : Saying) → IsRight (VerifyMeans proof) answer → status ≡ status_of answer → status ≡ 0 ↔ verdict proof ≡ Valid
+proved status proof (Prints Done text) right is = (λ s. right.valid, λ holds. is)
+proved status proof (Prints Rejected text) right is = (λ s. absurd (cc (is, s)), λ holds. absurd (cc (right.refuses, holds)))
+proved status proof (Stops Input text) right is = absurd right
+proved status proof answer right is = absurd right
+
+pub verify_is_exact : (told : Told) → Answers proof_format VerifyMeans told → (proof : Proof) → IsProof proof → ToldText told.source (proof_spelling proof) →
+    told.status ≢ 8 → told.status ≢ 12 → told.status ≡ 0 ↔ verdict proof ≡ Valid
+verify_is_exact told outcome proof is from n8 n12 =
+    let it = due proof_format VerifyMeans told proof (proof_spelling proof) (proof_is_read proof is) from n8 n12 outcome in
+    proved told.status proof it.answer it.right it.status

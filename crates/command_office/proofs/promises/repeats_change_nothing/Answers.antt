@@ -1,0 +1,5 @@
+use Rattle.command_office.proofs.Again.{repeats_change_nothing}
+use Rattle.command_office.proofs.promises.repeats_change_nothing.Goals as goal
+
+pub returns : goal.returns
+returns c = repeats_change_nothing c.repeats_change_nothing.ensures.charter c.repeats_change_nothing.ensures.rules c.repeats_change_nothing.ensures.others

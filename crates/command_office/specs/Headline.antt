@@ -1,0 +1,200 @@
+-- The headline: what the program promises, on one page. `office` ensures `Headline` of every call (command_office, src/top_call.rt), and the
+-- law `headline` (src/lib.rt) derives it from the exact contract, `OfficeIsRight`. `OfSeveralCalls`, at the end, is a law there too.
+--
+-- One step behind this page: pools, quota panels, lotteries and certificates (define_pools); what leximin greatest says part by part
+-- (define_leximin); when a proof is valid (define_additions); the stated run (define_runs); what the words ask for (`asked`); how an answer is
+-- told (`Outcomes`); and each command's meaning, a record with a field for each status (`TextMeans`, `LotteryMeans`, `MakeMeans`, `StepMeans`).
+-- Only whole weights are compared. Of a terminal, a file, a pipe or a store on disk, which don't tell theirs, it holds of any content.
+use Rattle.std.specs.Prelude.{◌≡◌, ◌≢◌, ◌↔◌, ◌⊎◌, ◌≤◌, ℕ, Bool, true, false, IsTrue, IsFalse, List, [], Option, Some, None, Ok, option_and_then, option_map, ⊤}
+use Rattle.define_additions.specs.ProofVerdict.{OfLottery, Proof, verdict}
+use Rattle.define_additions.specs.TreeLines.{TreeLine}
+use Rattle.define_bundles.specs.BundleText.{Bundle, IsBundle, bundle_spelling, bundle_text}
+use Rattle.define_checks.specs.Reasons.{Valid}
+use Rattle.define_draws.specs.Draw.{Drawn, draw}
+use Rattle.define_draws.specs.Seal.{is_seal}
+use Rattle.define_leximin.specs.Leximin.{IsLeximin}
+use Rattle.define_made_pools.specs.MadePools.{made_pool}
+use Rattle.define_made_pools.specs.Summary.{summary_text}
+use Rattle.define_offices.specs.Commands.{SolvedWith}
+use Rattle.define_offices.specs.Steps.{apply}
+use Rattle.define_offices.specs.Tables.{Tables, bundle_of, named_round}
+use Rattle.define_pools.specs.Certificate.{Answer, Certifies}
+use Rattle.define_pools.specs.Lottery.{Lottery}
+use Rattle.define_pools.specs.Pool.{Pool, panels}
+use Rattle.define_proof_texts.specs.ProofText.{IsProof, proof_spelling}
+use Rattle.define_rows.specs.Table.{Table}
+use Rattle.define_runs.specs.Run.{Ending, RunEnds, RunFinds}
+use Rattle.define_short_draws.specs.Short.{shortened}
+use Rattle.office_core.specs.Acting.{IsLoaded}
+use Rattle.command_shell.specs.declared.status.Printed.{Printed}
+use Rattle.command_shell.specs.Answers.{IsTheAnswer, Prints, Saying}
+use Rattle.command_shell.specs.Formats.{pool_format}
+use Rattle.command_shell.specs.Lines.{keeper_fault_line, want_of_memory_line}
+use Rattle.command_shell.specs.Outcomes.{IsAboutSource, IsCutOff, IsInput, IsReadFault, IsStopped, IsTold, IsTooLong}
+use Rattle.command_shell.specs.Told.{Gains, HasFaulted}
+use Rattle.command_bundles.specs.declared.check.Check.{Check}
+use Rattle.command_meanings.specs.Legs.{LegsMeans}
+use Rattle.command_meanings.specs.Lottery.{LotteryMeans}
+use Rattle.command_meanings.specs.Make.{MakeMeans, sizes_of}
+use Rattle.command_meanings.specs.Panel.{visits_of}
+use Rattle.command_meanings.specs.Seal.{bundle_seal}
+use Rattle.command_proofs.specs.declared.verify.Verify.{Verify}
+use Rattle.command_texts.specs.TextMeans.{OneAnswer, TextMeans}
+use Rattle.command_texts.specs.declared.commands.TextCommand.TheVariants as texts
+use Rattle.command_stores.specs.Imports.{ImportMeans}
+use Rattle.command_stores.specs.ProvedRounds.{ProvesRound}
+use Rattle.command_stores.specs.Steps.{StepMeans, TextMeans as StoreTextMeans}
+use Rattle.command_stores.specs.StoreOutcomes.{IsAnswered}
+use Rattle.command_stores.specs.StoreTold.{IsLeftAlone, KeepsTables, StoreTold}
+use Rattle.command_stores.specs.declared.imports.Import.TheVariants as imports
+use Rattle.command_desk.specs.DeskTold.{DeskTold, IsUnopened}
+use Rattle.command_desk.specs.ServeOutcomes.{SilentServeOutcome}
+use Rattle.command_office.specs.Asked.{asked}
+use Rattle.command_office.specs.Office.{IsUsage}
+use Rattle.command_office.specs.Steps.{step_command}
+use Rattle.command_office.specs.declared.asked.Asked.{Asked}
+use Rattle.command_office.specs.declared.asked.Asked.TheVariants as asks
+use Rattle.command_office.specs.declared.steps.Step.TheVariants as steps
+use Rattle.command_office.specs.About.{HeldBundle, HeldPool, IsItsPool, IsRoundPool, ToldPool, ToldText}
+use Rattle.command_office.specs.Again.{RepeatsChangeNothing}
+use Rattle.command_office.specs.Isolation.{TellsNothingOfOthers}
+use Rattle.command_office.specs.Records.{CallsAreRecorded}
+use Rattle.command_office.specs.Workers.{WorkersChangeNothing}
+
+-- ---- an answer's text or line is what the command's meaning says at the answer's status
+
+-- the answer is right by the meaning of the command that the words ask for: about all that the source held, or about the tables that were
+-- loaded from the store. Over a store, the change of the tables that comes with the answer is kept (`IsAnswered`)
+abbrev pub IsRightAnswer : Option Asked → StoreTold → Saying → Type 0
+IsRightAnswer (Some (asks.Text it)) told answer = IsAboutSource (TextMeans it) told.call.source answer
+IsRightAnswer (Some (asks.Lottery it)) told answer = IsAboutSource (OneAnswer pool_format (LotteryMeans it.limits)) told.call.source answer
+IsRightAnswer (Some (asks.Legs it)) told answer = IsAboutSource (OneAnswer pool_format (LegsMeans it.limits)) told.call.source answer
+IsRightAnswer (Some (asks.Make it)) told answer = IsTheAnswer (MakeMeans it.seed it.volunteers it.limits) answer
+IsRightAnswer (Some (asks.Step store it)) told answer = IsAnswered store (StepMeans (step_command it)) told.keeper answer
+IsRightAnswer (Some (asks.StoreText store it)) told answer = IsAnswered store (StoreTextMeans it) told.keeper answer
+IsRightAnswer (Some (asks.ProveRound store it)) told answer = IsAnswered store (ProvesRound it) told.keeper answer
+IsRightAnswer (Some (asks.Import store it)) told answer = (bytes : List ℕ) × IsInput told.call.source bytes × IsAnswered store (ImportMeans it bytes) told.keeper answer
+IsRightAnswer other told answer = ⊥
+
+-- how a call ends, by its status
+pub data Ends (it : Option Asked) (told : StoreTold) : Type 0 where
+  -- 0, 1, 3 to 6 and 11: a right answer was told whole: its text is what out gained, or its line what errs gained
+  Answered : (answer : Saying) → IsRightAnswer it told answer → IsTold answer told.call → Ends it told
+  -- 8: out counted a fault while the text of a right answer was printed. The change that comes with this answer is kept
+  CutOff : (printed : Printed) (text : List ℕ) → IsRightAnswer it told (Prints printed text) → IsCutOff text told.call → Ends it told
+  -- 2: the words ask for nothing
+  Usage : it ≡ None → IsUsage told.call → Ends it told
+  -- 3: the source held more bytes than an input may have
+  TooLong : IsTooLong told.call → Ends it told
+  -- 7: the source counted a fault
+  ReadFault : IsReadFault told.call → Ends it told
+  -- 9: the keeper of the store counted a fault
+  KeeperFault : HasFaulted told.keeper.object → IsStopped 9 keeper_fault_line told.call → Ends it told
+  -- 12: memory was wanting, which may come in any call
+  WantOfMemory : IsStopped 12 want_of_memory_line told.call → Ends it told
+
+-- ---- a lottery that is answered
+
+-- a lottery was found that is leximin greatest over the quota panels of a pool, and `Told` says which pool and where it was told
+pub record Finds (Told : Pool → Answer → Type 0) : Type 0 where
+  pub pool : Pool
+  pub answer : Answer
+  pub leximin : IsLeximin pool answer.lottery
+  pub told : Told pool answer
+
+-- a round that was open got the bundle of such a lottery over its pool. Or it had a bundle, and the tables stay: if they are the record of an
+-- office, the lottery of this bundle is leximin greatest too (`CallsAreRecorded`)
+pub data SolvesRound (round : ℕ) (told : StoreTold) (ByRun : Pool → Answer → Type 0) : Type 0 where
+  GotBundle : Finds (λ pool answer. IsRoundPool round told pool × ByRun pool answer ×
+      (told.keeper.object.after ≡ option_map (λ tables. apply tables (SolvedWith round (record { pool = pool; answer = answer }))) told.keeper.object.before)) → SolvesRound round told ByRun
+  HadBundle : (tables : Tables) (bundle : Bundle) → IsLoaded told.keeper.object.before tables → option_and_then bundle_of (named_round tables.rounds round) ≡ Some bundle →
+      KeepsTables told.keeper → SolvesRound round told ByRun
+
+-- what status 0 means for the commands that answer a lottery
+abbrev pub AnswersLottery : Option Asked → StoreTold → Type 0
+AnswersLottery (Some (asks.Lottery it)) told = Finds (λ pool answer. HeldPool told.call.source pool × RunFinds pool it.limits answer × Gains told.call.out (bundle_text pool answer))
+AnswersLottery (Some (asks.Text (texts.Prove it))) told = Finds (λ pool answer. (HeldPool told.call.source pool ⊎ HeldBundle told.call.source (record { pool = pool; answer = answer })) ×
+    ((trees : List (List TreeLine)) × (verdict (OfLottery pool answer trees) ≡ Valid) × Gains told.call.out (proof_spelling (OfLottery pool answer trees))))
+AnswersLottery (Some (asks.Make it)) told = Finds (λ pool answer. (pool ≡ made_pool it.seed it.volunteers) ×
+    ((last : Table) × RunEnds pool it.limits (Ending.Found last answer) × Gains told.call.out (summary_text pool answer (sizes_of last))))
+AnswersLottery (Some (asks.Step store (steps.Solve round limits workers))) told = SolvesRound round told (λ pool answer. RunFinds pool limits answer)
+AnswersLottery (Some (asks.Import store (imports.Proof round))) told = SolvesRound round told (λ pool answer. ⊤)
+AnswersLottery (Some (asks.ProveRound store it)) told = SolvesRound it.round told (λ pool answer. ⊤)
+AnswersLottery other told = ⊤
+
+-- the visits that the opening search may make, for the commands whose run is stated
+abbrev pub nodes_of : Option Asked → Option ℕ
+nodes_of (Some (asks.Text (texts.Panel it))) = Some it.nodes
+nodes_of (Some (asks.Lottery it)) = Some it.limits.nodes
+nodes_of (Some (asks.Make it)) = Some it.limits.nodes
+nodes_of (Some (asks.Step store (steps.Solve round limits workers))) = Some limits.nodes
+nodes_of other = None
+
+-- ---- a draw
+
+-- `seal`, its capitals made small, is the seal of the bundle's text, and the digits of dice draw a panel of this lottery
+pub record IsSealedDraw (seal digits : List ℕ) (bundle : Bundle) (lottery : Lottery) : Type 0 where
+  pub sealed : IsTrue (is_seal (bundle_seal bundle) seal)
+  pub drawn : Drawn
+  pub draws : draw lottery (bundle_seal bundle) seal digits ≡ Ok drawn
+
+-- what status 0 means for a draw: from the bundle that the source held, from its lottery in a round number of tickets, or from a round
+abbrev pub DrawsSealed : Option Asked → StoreTold → Type 0
+DrawsSealed (Some (asks.Text (texts.Draw seal digits))) told = (bundle : Bundle) × HeldBundle told.call.source bundle × IsSealedDraw seal digits bundle bundle.answer.lottery
+DrawsSealed (Some (asks.Text (texts.ShortDraw tickets seal digits))) told =
+    (bundle : Bundle) × HeldBundle told.call.source bundle × IsSealedDraw seal digits bundle (shortened bundle.answer.lottery tickets)
+DrawsSealed (Some (asks.Step store (steps.Draw round seal digits))) told = (tables : Tables) × (bundle : Bundle) × IsLoaded told.keeper.object.before tables ×
+    (option_and_then bundle_of (named_round tables.rounds round) ≡ Some bundle) × IsSealedDraw seal digits bundle bundle.answer.lottery
+DrawsSealed other told = ⊤
+
+-- ---- the promises of a call whose words ask for `it`, or for nothing
+
+abbrev pub uses_store : Option Asked → Bool
+uses_store (Some (asks.Step store it)) = true
+uses_store (Some (asks.StoreText store it)) = true
+uses_store (Some (asks.ProveRound store it)) = true
+uses_store (Some (asks.Import store it)) = true
+uses_store other = false
+
+pub record Keeps (it : Option Asked) (told : StoreTold) : Type 0 where
+  pub ends : Ends it told
+  -- status 0 of a command that answers a lottery: the lottery is leximin greatest
+  pub lottery : told.call.status ≡ 0 → AnswersLottery it told
+  -- status 1 comes only if the pool that the call is about has no quota panel
+  pub no_panel : told.call.status ≡ 1 → (pool : Pool) × IsItsPool it told pool × (panels pool ≡ [])
+  -- if the run is stated, and this pool was told, status 1 comes exactly if there is no quota panel and the opening search is within its budget
+  pub exactly : (nodes : ℕ) (pool : Pool) → nodes_of it ≡ Some nodes → ToldPool it told pool → told.call.status ≢ 8 → told.call.status ≢ 9 → told.call.status ≢ 12 →
+      told.call.status ≡ 1 ↔ ((panels pool ≡ []) × (visits_of pool ≤ nodes))
+  -- if the text of a bundle was told, and no budget was spent, `check` has status 0 exactly if the certificate holds
+  pub certificate : (check : Check) → it ≡ Some (asks.Text (texts.Check check)) → (bundle : Bundle) → IsBundle bundle → ToldText told.call.source (bundle_spelling bundle) →
+      told.call.status ≢ 5 → told.call.status ≢ 8 → told.call.status ≢ 12 → told.call.status ≡ 0 ↔ Certifies bundle.pool bundle.answer.lottery bundle.answer.stages
+  -- if the text of a proof was told, `verify` has status 0 exactly if the proof is valid
+  pub proof : (verify : Verify) → it ≡ Some (asks.Text (texts.Verify verify)) → (proof : Proof) → IsProof proof → ToldText told.call.source (proof_spelling proof) →
+      told.call.status ≢ 8 → told.call.status ≢ 12 → told.call.status ≡ 0 ↔ verdict proof ≡ Valid
+  -- a draw is of the bundle whose seal was given
+  pub draw : told.call.status ≡ 0 → DrawsSealed it told
+  -- unless the status is 0 or 8, the tables of the store are as before; a command without a store leaves the keeper alone at every status
+  pub stays : told.call.status ≢ 0 → told.call.status ≢ 8 → KeepsTables told.keeper
+  pub alone : IsFalse (uses_store it) → IsLeftAlone told.keeper
+
+-- `serve` ends as `ServeOutcome` says, status by status: each link that the door gave is attended by the desk over the tables of the store.
+-- Any other call leaves the door alone
+abbrev pub Promises : Option Asked → DeskTold → Type 0
+Promises (Some (asks.Serve store serve)) told = SilentServeOutcome store serve.port serve.connections told
+Promises other told = IsUnopened told × Keeps other told.store
+
+-- the promises, for every call with these words
+abbrev pub Headline : List (List ℕ) → DeskTold → Type 0
+Headline words told = Promises (asked words) told
+
+-- ---- what is promised of several calls
+
+pub record OfSeveralCalls : Type 0 where
+  -- the number of workers changes no byte of an answer
+  pub workers : WorkersChangeNothing
+  -- a volunteer's reply tells nothing of others
+  pub isolation : TellsNothingOfOthers
+  -- a command that is given again changes nothing
+  pub repeats : RepeatsChangeNothing
+  -- the tables of a store are the fold of the commands that were accepted, and each lottery that they keep is leximin greatest
+  pub records : CallsAreRecorded

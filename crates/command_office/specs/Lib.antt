@@ -1,0 +1,9 @@
+pub mod Steps
+pub mod Asked
+pub mod Office
+pub mod About
+pub mod Headline
+pub mod Workers
+pub mod Isolation
+pub mod Again
+pub mod Records

@@ -1,0 +1,4 @@
+pub mod LineCounts
+pub mod Stages
+pub mod Walks
+pub mod Shown

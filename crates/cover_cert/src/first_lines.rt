@@ -1,0 +1,93 @@
+//! How many lines the text of a cover has before the first line of its first tree. They are counted from the values, without writing the
+//! text. `checking` and `trees` use this to name lines in verdicts.
+
+ghost use Rattle.std.specs.Prelude.{◌≡◌, ◌+◌, not, count_by, IfOk, is_some, length};
+ghost use Rattle.std.specs.List.{flat_map};
+ghost use Rattle.define_additions.specs.Trees.{is_open};
+ghost use Rattle.define_bundles.specs.BundleText.{lines_before_done, pool_lines};
+ghost use Rattle.define_pool_texts.specs.PoolText.{category_lines};
+
+use pool_model::{Answer, Category, Pool, Standing, Volunteer};
+use std::alloc::AllocError;
+
+/// Returns `number + count`, or out of memory if the sum does not fit a `usize`: a text with that many lines would not fit memory.
+pub(crate) fn after(number: usize, count: usize) -> Result<usize, AllocError>
+    ensures { IfOk result (λ sum. sum ≡ number + count) }
+{
+    match number.checked_add(count) {
+        Some(sum) => Ok(sum),
+        None => Err(AllocError),
+    }
+}
+
+/// Returns how many lines a bundle's text has before the last one.
+pub(crate) fn bundle_line_count(pool: &Pool, answer: &Answer) -> Result<usize, AllocError>
+    ensures { IfOk result (λ count. count ≡ length (lines_before_done pool.now answer.now)) }
+{
+    let rows = answer.lottery().rows().len();
+    let stages = answer.certificate().stages().len();
+    let before = pool_line_count(pool)?;
+    // The 2 further lines are the bundle's first, and the line of the total.
+    let with_total = after(before, 2)?;
+    after(after(with_total, rows)?, stages)
+}
+
+/// Returns how many lines a pool's text has.
+pub(crate) fn pool_line_count(pool: &Pool) -> Result<usize, AllocError>
+    ensures { IfOk result (λ count. count ≡ length (pool_lines pool.now)) }
+{
+    let volunteers = pool.volunteers();
+    let categories = category_line_count(pool.categories())?;
+    // The 3 further lines are the pool's first two, and its last.
+    let with_volunteers = after(after(categories, 3)?, volunteers.len())?;
+    let with_households = after(with_volunteers, household_count(volunteers))?;
+    after(with_households, decided_count(volunteers))
+}
+
+/// Returns how many lines categories and their values have.
+fn category_line_count(categories: &[Category]) -> Result<usize, AllocError>
+    ensures { IfOk result (λ count. count ≡ length (flat_map category_lines categories.now)) }
+{
+    let mut count = 0;
+    for category in categories {
+        count = after(after(count, category.values().len())?, 1)?;
+    }
+    Ok(count)
+}
+
+/// Returns how many volunteers have a household.
+fn household_count(volunteers: &[Volunteer]) -> usize
+    ensures { result ≡ count_by (λ volunteer. is_some volunteer.household) volunteers.now }
+{
+    volunteers
+        .iter()
+        .filter(|volunteer| has_household(volunteer))
+        .count()
+}
+
+/// True if a volunteer has a household.
+fn has_household(volunteer: &Volunteer) -> bool
+    ensures { result ≡ is_some volunteer.now.household }
+{
+    volunteer.household().is_some()
+}
+
+/// Returns how many volunteers are seated or gone.
+fn decided_count(volunteers: &[Volunteer]) -> usize
+    ensures { result ≡ count_by (λ volunteer. not (is_open volunteer.standing)) volunteers.now }
+{
+    volunteers
+        .iter()
+        .filter(|volunteer| is_decided(volunteer.standing()))
+        .count()
+}
+
+/// True unless the standing is open.
+fn is_decided(standing: Standing) -> bool
+    ensures { result ≡ not (is_open standing) }
+{
+    match standing {
+        Standing::Open => false,
+        Standing::Seated | Standing::Gone => true,
+    }
+}

@@ -1,0 +1,3 @@
+pub mod LineByLine
+pub mod Counts
+pub mod Texts

@@ -1,0 +1,3 @@
+pub mod CoverText
+pub mod CoverReading
+pub mod WorkedCoverTexts

@@ -1,0 +1,9 @@
+pub mod Order
+pub mod Ruled
+pub mod Alive
+pub mod Covered
+pub mod Verdicts
+pub mod StepByStep
+pub mod Counts
+pub mod Numbered
+pub mod Lines

@@ -1,0 +1,8 @@
+use Rattle.laws_of_covers.proofs.Verdicts.{caps_are_left, trees_cover_caps}
+use Rattle.laws_of_covers.proofs.covered_caps.Goals as goal
+
+pub returns-clause-left : goal.returns-clause-left
+returns-clause-left c = caps_are_left
+
+pub returns-clause-hold : goal.returns-clause-hold
+returns-clause-hold c = trees_cover_caps

@@ -1,0 +1,5 @@
+pub mod Counts
+pub mod CoverSteps
+pub mod FirstCause
+pub mod LineSteps
+pub mod Laws

@@ -1,0 +1,44 @@
+//! Laws of covers: a valid cover shows that the caps of its certificate hold, so that its lottery is leximin greatest. Stands on
+//! `define_covers` and the definitions below it, and on the laws of fronts (`laws_of_fronts`). Used by `cover_cert`, which checks covers
+//! and makes them.
+//!
+//! The functions have no body. Their contracts are the laws, and the promises of this crate.
+#![tactic(auto)]
+
+ghost use Rattle.define_covers.specs.CoversHold.{CapsAreLeft, LiveWhereNoCause, TreesCoverCaps, ValidIsCertified, ValidWhereCovered};
+ghost use Rattle.laws_of_covers.specs.CoverSteps.{BeginsWithLottery, GoesOnByStages};
+ghost use Rattle.laws_of_covers.specs.Laws.{LiveWhereNoneFirst, NoneAboveWhereCovered, ValidIsGreatest, ValidWhereChecked};
+
+/// A front is live exactly if no cause applies to it. So if the lines of a tree have no fault, a search at the stage finds nothing above the
+/// cap.
+pub fn covered_fronts()
+    ensures live { LiveWhereNoCause }
+    ensures first { LiveWhereNoneFirst }
+    ensures none_above { NoneAboveWhereCovered }
+{}
+
+/// A certificate holds exactly if it meets all but its caps, and the caps hold. If each stage has a tree that covers it, the caps hold.
+pub fn covered_caps()
+    ensures left { CapsAreLeft }
+    ensures hold { TreesCoverCaps }
+{}
+
+/// For each bundle, a cover is valid exactly if the certificate meets all but its caps, and each stage has a tree that covers it. It is
+/// valid if a check finds the certificate valid and the trees cover the stages.
+pub fn valid_covers()
+    ensures covered { ValidWhereCovered }
+    ensures checked { ValidWhereChecked }
+{}
+
+/// The certificate of a valid cover holds, and its lottery is leximin greatest.
+pub fn valid_is_greatest()
+    ensures certified { ValidIsCertified }
+    ensures greatest { ValidIsGreatest }
+{}
+
+/// A check of a cover tries the reasons in their order: those of the lottery, then stage by stage those before the cap, that of the tree,
+/// and that of the listed panels.
+pub fn check_goes_by_stages()
+    ensures begins { BeginsWithLottery }
+    ensures goes_on { GoesOnByStages }
+{}

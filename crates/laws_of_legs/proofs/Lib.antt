@@ -1,0 +1,3 @@
+pub mod LegLists
+pub mod Traces
+pub mod Endings

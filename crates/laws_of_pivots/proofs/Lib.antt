@@ -1,0 +1,11 @@
+pub mod Frames
+pub mod Places
+pub mod Mixes
+pub mod Moves
+pub mod Fickle
+pub mod Cycles
+pub mod Chains
+pub mod Ranks
+pub mod Marks
+pub mod Short
+pub mod Leads

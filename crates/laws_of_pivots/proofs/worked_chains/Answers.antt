@@ -1,0 +1,11 @@
+use Rattle.std.proofs.Common.{refl}
+use Rattle.define_binomials.specs.Binomials.{binomial}
+use Rattle.laws_of_pivots.proofs.worked_chains.Goals as goal
+
+pub returns-clause-four : goal.returns-clause-four
+unfolding binomial
+returns-clause-four c = refl
+
+pub returns-clause-ten : goal.returns-clause-ten
+unfolding binomial
+returns-clause-ten c = refl
