@@ -4,8 +4,8 @@ use Rattle.std.specs.Int.{◌∣◌}
 use Rattle.std.specs.List.{list_all, AllByRecursion}
 use Rattle.std.proofs.lemmas.Bool.{and_parts, ltb-true}
 use Rattle.std.proofs.Math.Nat.{mul-div_assoc, mul-div_cancel', mul-div_cancel_left, mul-le-mul_right, le_of_dvd}
-use Rattle.laws_basic.proofs.Lists.{map_same}
-use Rattle.laws_basic.proofs.Each.{each_map, each_everywhere}
+use Rattle.define_pools.proofs.Lists.{map_same}
+use Rattle.define_pools.proofs.Each.{each_map, each_everywhere}
 use Rattle.frac128.specs.Fractions.{Fraction}
 use Rattle.define_pools.specs.Lists.{is_increasing}
 use Rattle.define_pools.specs.Lottery.{LotteryRow}

@@ -7,7 +7,7 @@ use Rattle.std.proofs.lemmas.List.{length-take, length-replicate, take-append-dr
 use Rattle.std.proofs.lemmas.List.FromFn.{length-map-range_with_len}
 use Rattle.std.proofs.Math.Nat.{div-le_of_le-mul, dvd-mul_left}
 use Rattle.std.proofs.Math.Bool.{or_assoc}
-use Rattle.laws_basic.proofs.Lists.{slice_get-at, filter_range_same}
+use Rattle.define_pools.proofs.Lists.{slice_get-at, filter_range_same}
 use Rattle.define_pools.specs.Lists.{includes}
 use Rattle.define_searches.specs.Classes.{Class, Classes}
 use Rattle.define_spreads.specs.Spreading.{dial, is_partly_taken, partly_taken, turned}

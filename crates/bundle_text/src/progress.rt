@@ -3,7 +3,7 @@
 ghost use Rattle.std.specs.Prelude.{◌≡◌, IfOk};
 ghost use Rattle.pool_text.specs.Answers.{Tells};
 ghost use Rattle.pool_text.specs.Progress.{seen as pool_seen};
-ghost use Rattle.define_pool_texts.specs.PoolText.{version_line};
+ghost use Rattle.define_bundles.specs.PoolText.{version_line};
 ghost use Rattle.define_bundles.specs.BundleReading.{line_kind, after_line, Begun, InPool, InRows, InStages};
 ghost use Rattle.bundle_text.specs.Progress.{seen};
 

@@ -2,7 +2,7 @@
 
 ghost use Rattle.std.specs.Prelude.{◌≡◌, ◌++◌, ◌∷◌, [], map, Ok, IfOk, OnOk};
 ghost use Rattle.define_lines.specs.Lines.{text_of};
-ghost use Rattle.define_pool_texts.specs.PoolText.{spelling};
+ghost use Rattle.define_bundles.specs.PoolText.{spelling};
 ghost use Rattle.define_bundles.specs.Ranges.{IsInRanges};
 ghost use Rattle.define_bundles.specs.BundleText.{total_line, panel_line, stage_line, done_line, answer_lines, bundle_text};
 ghost use Rattle.define_bundles.specs.BundleReading.{read_bundle};

@@ -6,7 +6,7 @@ use Rattle.std.proofs.lemmas.Bool.{false≢true}
 use Rattle.std.proofs.lemmas.List.{reverse-append}
 use Rattle.std.proofs.lemmas.List.Folds.{list_all-append}
 use Rattle.std.proofs.Math.Seq.{drop-cons}
-use Rattle.laws_basic.proofs.Each.{passes_at}
+use Rattle.define_pools.proofs.Each.{passes_at}
 use Rattle.define_pools.specs.Certificate.{Answer, Stage}
 use Rattle.define_pools.specs.Lottery.{Lottery}
 use Rattle.define_pools.specs.Pool.{Pool}

@@ -14,7 +14,7 @@ use Rattle.std.proofs.lemmas.Nat.Gcd.{IsGcd-from_mod, IsGcd-swap}
 use Rattle.frac128.specs.Divisors.{gcd_of}
 use Rattle.frac128.specs.Fractions.{Fraction, lowest_of}
 use Rattle.frac128.proofs.DivisorLaws.{IsGcd-gcd_of, gcd_of-positive, gcd_of_is}
-use Rattle.laws_basic.proofs.Lists.{filter_passed, filter_taken}
+use Rattle.define_pools.proofs.Lists.{filter_passed, filter_taken}
 use Rattle.define_made_pools.specs.Summary.{greatest, least}
 use Rattle.define_pools.specs.Lists.{includes}
 use Rattle.define_pools.specs.Lottery.{Lottery, LotteryRow, TotalAgrees, count, counts}

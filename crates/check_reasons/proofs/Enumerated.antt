@@ -2,7 +2,7 @@
 use Rattle.std.proofs.Common.{◌≡◌, ℕ, ◌+◌, ◌<◌, Bool, false, ◌&&◌, List, [], ◌∷◌, length, get_or, refl, sym, ap, ap₂, ◌∙◌, arith}
 use Rattle.std.specs.List.{enumerate_from, list_all}
 use Rattle.std.proofs.lemmas.Bool.{false_from_ne_true, false≢true}
-use Rattle.laws_basic.proofs.Each.{enumerated-each}
+use Rattle.define_pools.proofs.Each.{enumerated-each}
 
 pub list_all-enumerated_same : {X : Type 0} (p q : ℕ × X → Bool) (first : ℕ) (xs : List X) → ((k : ℕ) (x : X) → k < first + length xs → p (k, x) ≡ q (k, x)) →
     list_all p (enumerate_from first xs) ≡ list_all q (enumerate_from first xs)

@@ -4,10 +4,10 @@ use Rattle.std.specs.Prelude.{unwrap_or}
 use Rattle.std.specs.List.{find, list_all, list_any, AllByRecursion, range_with_len}
 use Rattle.std.proofs.lemmas.Bool.{and_parts, eqb-true, eq-eqb, ltb-true, lt-ltb, leb-true, le-leb, false≢true, false_from_ne_true, or_cases}
 use Rattle.std.proofs.lemmas.List.FromFn.{get_or-map-range_with_len, length-map-range_with_len}
-use Rattle.laws_basic.proofs.Each.{each_everywhere, each_from_list_all, each_map, each_mapped, each_range, list_all_from_each, range_each}
-use Rattle.laws_basic.proofs.Found.{find-each, find-none, find-passes, find_same}
-use Rattle.laws_basic.proofs.Lists.{map_same}
-use Rattle.laws_basic.proofs.Sums.{total, total-zero, total_eq, one_if, count_by-total}
+use Rattle.define_pools.proofs.Each.{each_everywhere, each_from_list_all, each_map, each_mapped, each_range, list_all_from_each, range_each}
+use Rattle.define_pools.proofs.Found.{find-each, find-none, find-passes, find_same}
+use Rattle.define_pools.proofs.Lists.{map_same}
+use Rattle.define_pools.proofs.Sums.{total, total-zero, total_eq, one_if, count_by-total}
 use Rattle.define_pools.specs.Lists.{includes, is_increasing}
 use Rattle.define_pools.specs.Pool.{Volunteer, volunteer, is_same_household, share_household, keeps_households}
 use Rattle.define_searches.proofs.Households.{share_back, same_name}

@@ -8,10 +8,10 @@ use Rattle.std.proofs.lemmas.Cmp.{int_eq_equiv}
 use Rattle.std.proofs.lemmas.Int.{ints}
 use Rattle.std.proofs.lemmas.List.{length-reverse, length-take-le, take_more, reverse-append}
 use Rattle.std.proofs.lemmas.List.FromFn.{fill_by_all, get_or-map-range_with_len, length-map-range_with_len}
-use Rattle.laws_basic.proofs.Each.{each_filter, each_map, each_range}
-use Rattle.laws_basic.proofs.Found.{find_same}
-use Rattle.laws_basic.proofs.Integers.{eq-tested, lt-tested, same_pos, tested-lt}
-use Rattle.laws_basic.proofs.Lists.{filter_same, map-map}
+use Rattle.define_pools.proofs.Each.{each_filter, each_map, each_range}
+use Rattle.define_pools.proofs.Found.{find_same}
+use Rattle.define_pools.proofs.Integers.{eq-tested, lt-tested, same_pos, tested-lt}
+use Rattle.define_pools.proofs.Lists.{filter_same, map-map}
 use Rattle.define_pools.specs.Certificate.{Stage, is_positive, is_settled, settling, unsettled}
 use Rattle.define_pools.specs.Lottery.{Lottery, count, counts}
 use Rattle.define_pools.specs.Pool.{Pool, everybody}

@@ -4,7 +4,7 @@ use Rattle.std.specs.List.{list_all}
 use Rattle.std.specs.Option.{option_map}
 use Rattle.std.proofs.lemmas.Bool.{and_from, and_parts}
 use Rattle.std.proofs.lemmas.Grind.{reverse_onto}
-use Rattle.laws_basic.proofs.Each.{list_all-push}
+use Rattle.define_pools.proofs.Each.{list_all-push}
 use Rattle.define_checks.specs.Caps.{classes_at, composition_above, first_above_cap, stage_row}
 use Rattle.define_checks.specs.Visits.{above_search, stage_search}
 use Rattle.define_checks.proofs.PassedCaps.{stage_search_finds}

@@ -1,7 +1,7 @@
 -- The leaders of classes are numbers below the count of volunteers.
 use Rattle.std.proofs.Common.{◌≡◌, ℕ, ◌<◌, Bool, true, not, List, [], ◌∷◌, get_or, length, sym, arith, subst, suc, zero}
 use Rattle.std.specs.List.{AllByRecursion, list_any, range_with_len}
-use Rattle.laws_basic.proofs.Each.{each_filter, each_range}
+use Rattle.define_pools.proofs.Each.{each_filter, each_range}
 use Rattle.define_searches.specs.Classes.{leaders}
 
 -- each leader's number is below `count`

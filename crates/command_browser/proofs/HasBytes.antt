@@ -2,7 +2,7 @@
 use Rattle.std.proofs.Common.{◌≡◌, ℕ, ◌≤◌, List, [], ◌∷◌, ◌++◌, length, ap, arith, length-append}
 use Rattle.std.specs.Prelude.{Option, Some, None, codes, map}
 use Rattle.std.specs.Fmt.{decimal}
-use Rattle.define_additions.specs.ProofVerdict.{OfLottery, OfNoPanel, Proof}
+use Rattle.define_proofs.specs.ProofVerdict.{OfLottery, OfNoPanel, Proof}
 use Rattle.define_bundles.specs.BundleText.{Bundle, done_line, lines_before_done}
 use Rattle.define_draws.specs.Draw.{Drawn, Refused}
 use Rattle.define_draws.specs.declared.DiceStop.TheVariants.{BadDigit, MoreDigits}

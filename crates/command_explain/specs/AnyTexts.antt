@@ -2,15 +2,15 @@
 -- they are read: as a bundle, as a proof, or else as a pool. Builds on the definitions of the texts.
 use Rattle.std.specs.Prelude.{◌≡◌, ℕ, Bool, List, take, codes, bytes_eq, if◌then◌else◌, Result, Ok, Err}
 use Rattle.std.specs.Bool.{MatchBool}
-use Rattle.define_additions.specs.ProofVerdict.{Proof}
+use Rattle.define_proofs.specs.ProofVerdict.{Proof}
 use Rattle.define_bundles.specs.BundleReading.{read_bundle}
 use Rattle.define_bundles.specs.BundleText.{Bundle, IsBundle, bundle_spelling}
 use Rattle.define_lines.specs.Lines.{Fault}
-use Rattle.define_pool_texts.specs.PoolReading.{read}
-use Rattle.define_pool_texts.specs.PoolText.{spelling}
+use Rattle.define_bundles.specs.PoolReading.{read}
+use Rattle.define_bundles.specs.PoolText.{spelling}
 use Rattle.define_pools.specs.Pool.{IsPool, Pool}
-use Rattle.define_proof_texts.specs.ProofReading.{read_proof}
-use Rattle.define_proof_texts.specs.ProofText.{IsProof, proof_spelling}
+use Rattle.define_proofs.specs.ProofReading.{read_proof}
+use Rattle.define_proofs.specs.ProofText.{IsProof, proof_spelling}
 use Rattle.command_shell.specs.Formats.{begins_as_bundle}
 use Rattle.command_shell.specs.Subjects.{Format}
 use Rattle.command_explain.specs.declared.any_text.AnyText.{AnyText}

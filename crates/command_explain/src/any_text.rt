@@ -5,9 +5,8 @@ ghost use Rattle.command_explain.specs.AnyTexts.{IsRightOrFaulty, looked_as, loo
 
 use bundle_text::Bundle;
 use command_shell::Subject;
-use define_bundles::bundle_or_fault;
-use define_pool_texts::pool_or_fault;
-use define_proof_texts::proof_or_fault;
+use define_bundles::{bundle_or_fault, pool_or_fault};
+use define_proofs::proof_or_fault;
 use pool_model::Pool;
 use proof_model::Proof;
 use std::alloc::{AllocError, Global};

@@ -2,7 +2,7 @@
 use Rattle.std.proofs.Common.{◌≡◌, ℕ, List, [], ◌∷◌, Option, Some, None, true, refl, sym, ap, subst}
 use Rattle.std.specs.Prelude.{option_map}
 use Rattle.std.specs.List.{AllByRecursion}
-use Rattle.laws_basic.proofs.Each.{each_filter_passes}
+use Rattle.define_pools.proofs.Each.{each_filter_passes}
 use Rattle.define_loosenings.specs.Costs.{cheapest_team}
 use Rattle.define_loosenings.specs.Loosenings.{IsCheapest, IsLeast, Loosening, least_loosening, loosening_for}
 use Rattle.define_loosenings.specs.Teams.{is_team}

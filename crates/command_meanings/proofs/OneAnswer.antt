@@ -1,7 +1,7 @@
 -- Each command has at most one right answer. For a command whose answer the definitions compute, each right answer is the computed one.
 use Rattle.std.proofs.Common.{◌≡◌, ◌∙◌, ℕ, List, [], Option, Some, None, Result, Ok, Err, ap, sym, subst, arith, rules}
 use Rattle.std.specs.List.{AllByRecursion}
-use Rattle.define_additions.specs.ProofVerdict.{OfLottery, OfNoPanel, Proof, verdict}
+use Rattle.define_proofs.specs.ProofVerdict.{OfLottery, OfNoPanel, Proof, verdict}
 use Rattle.define_bundles.specs.BundleText.{Bundle, bundle_spelling}
 use Rattle.define_checks.specs.Reasons.{Refused, Valid, Verdict}
 use Rattle.define_checks.specs.Visits.{check_answer}

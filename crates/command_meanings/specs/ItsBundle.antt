@@ -1,7 +1,7 @@
 -- What `bundle` answers: the bundle of a proof's lottery. Nothing is verified.
 use Rattle.std.specs.Prelude.{◌≡◌, ℕ, List, [], ◌∷◌, codes}
 use Rattle.define_bundles.specs.BundleText.{bundle_spelling}
-use Rattle.define_additions.specs.ProofVerdict.{OfLottery, OfNoPanel, Proof}
+use Rattle.define_proofs.specs.ProofVerdict.{OfLottery, OfNoPanel, Proof}
 use Rattle.command_shell.specs.Answers.{RightAnswers, no_answer}
 use Rattle.command_shell.specs.Lines.{line}
 

@@ -6,13 +6,13 @@
 -- ones: a refusal of the trees can be right even if the bundle's certificate holds.
 use Rattle.std.specs.Prelude.{◌≡◌, ℕ, List, [], ◌∷◌, codes, Option, None, Some, ⊤}
 use Rattle.std.specs.Fmt.{decimal, signed_decimal}
-use Rattle.define_additions.specs.ProofVerdict.{OfLottery, OfNoPanel, verdict}
-use Rattle.define_additions.specs.Refusals.{RefusalMeans}
-use Rattle.define_additions.specs.TreeLines.{TreeLine}
+use Rattle.define_proofs.specs.ProofVerdict.{OfLottery, OfNoPanel, verdict}
+use Rattle.define_proofs.specs.Refusals.{RefusalMeans}
+use Rattle.define_proofs.specs.TreeLines.{TreeLine}
 use Rattle.define_checks.specs.Reasons.{Refusal, Refused, Valid}
 use Rattle.define_pools.specs.Certificate.{Answer}
 use Rattle.define_pools.specs.Pool.{Pool, panels}
-use Rattle.define_proof_texts.specs.ProofText.{proof_spelling}
+use Rattle.define_proofs.specs.ProofText.{proof_spelling}
 use Rattle.proof_limits.specs.Budgets.{Left, SpendsOn, unspent}
 use Rattle.proof_limits.specs.declared.passes.Op.{Op}
 use Rattle.proof_limits.specs.declared.passes.Op.TheVariants.{Mul, Add, Sub, Div}

@@ -3,8 +3,8 @@ use Rattle.std.specs.Prelude.{◌≡◌, ℕ, List, [], ◌∷◌, codes}
 use Rattle.define_pools.specs.Certificate.{Answer}
 use Rattle.define_pools.specs.Pool.{Pool, panels}
 use Rattle.define_checks.specs.Reasons.{Refusal, Refused, Valid}
-use Rattle.define_additions.specs.ProofVerdict.{OfLottery, OfNoPanel, Proof, verdict}
-use Rattle.define_additions.specs.Refusals.{RefusalMeans}
+use Rattle.define_proofs.specs.ProofVerdict.{OfLottery, OfNoPanel, Proof, verdict}
+use Rattle.define_proofs.specs.Refusals.{RefusalMeans}
 use Rattle.command_shell.specs.Answers.{RightAnswers, no_answer}
 use Rattle.command_shell.specs.Lines.{line}
 use Rattle.command_meanings.specs.Check.{IsGreatest, refused_line, valid_line}

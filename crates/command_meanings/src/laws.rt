@@ -2,7 +2,7 @@
 //! law, since the run that makes its proof has no definition.
 
 ghost use Rattle.std.specs.Prelude.{ℕ, List};
-ghost use Rattle.define_additions.specs.ProofVerdict.{Proof};
+ghost use Rattle.define_proofs.specs.ProofVerdict.{Proof};
 ghost use Rattle.define_bundles.specs.BundleText.{Bundle};
 ghost use Rattle.command_shell.specs.Answers.{HasOneAnswer};
 ghost use Rattle.command_meanings.specs.Check.{CheckMeans};

@@ -2,14 +2,14 @@
 use Rattle.std.proofs.Common.{◌≡◌, ◌∙◌, ◌+◌, ◌≤◌, ℕ, List, length, Option, Some, None, Ok, ap, subst, arith}
 use Rattle.std.specs.Prelude.{◌≢◌, ◌↔◌}
 use Rattle.std.proofs.lemmas.List.{length-append}
-use Rattle.define_additions.specs.ProofVerdict.{Proof, verdict}
+use Rattle.define_proofs.specs.ProofVerdict.{Proof, verdict}
 use Rattle.define_bundles.specs.BundleText.{Bundle, IsBundle, bundle_spelling}
 use Rattle.define_bundles.proofs.ReadAgain.{spelled_is_read as bundle_is_read}
 use Rattle.define_checks.specs.Reasons.{Valid}
 use Rattle.outside.specs.Content.{LosesMore, ReadsAll}
 use Rattle.define_pools.specs.Certificate.{Certifies}
-use Rattle.define_proof_texts.specs.ProofText.{IsProof, proof_spelling}
-use Rattle.define_proof_texts.proofs.ReadAgain.{spelled_is_read as proof_is_read}
+use Rattle.define_proofs.specs.ProofText.{IsProof, proof_spelling}
+use Rattle.define_proofs.proofs.ReadAgain.{spelled_is_read as proof_is_read}
 use Rattle.command_shell.specs.declared.status.Cause.TheVariants.{Input, Spent}
 use Rattle.command_shell.specs.declared.status.Printed.TheVariants.{Done, Refused as Rejected}
 use Rattle.command_shell.specs.Answers.{IsRight, IsTheAnswer, RightAnswers, Saying, Prints, Stops, status_of}

@@ -8,8 +8,8 @@ use Rattle.define_offices.specs.Deciding.{NeedsRun, asked, asked_over, solve_in,
 use Rattle.define_offices.specs.Pools.{pool_of}
 use Rattle.define_offices.specs.Steps.{AtOnce, ByRun, Comes}
 use Rattle.define_offices.specs.Tables.{Open, Tables, named_round}
-use Rattle.define_pool_texts.specs.PoolText.{spelling}
-use Rattle.define_pool_texts.proofs.ReadAgain.{spelled_is_read}
+use Rattle.define_bundles.specs.PoolText.{spelling}
+use Rattle.define_bundles.proofs.PoolReadAgain.{spelled_is_read}
 use Rattle.define_pools.specs.Pool.{Pool, panels}
 use Rattle.define_runs.specs.Run as run
 use Rattle.define_runs.specs.Run.{Ending, Limits, RunEnds, run_limits}

@@ -4,7 +4,7 @@ use Rattle.std.specs.Prelude.{◌⊎◌, is_ok, option_and_then, option_map, ⊤
 use Rattle.std.proofs.Common.{◌≡◌, ◌∙◌, ℕ, Bool, true, false, cond, List, [], Option, Some, None, Result, Ok, Err, refl, ap, sym, subst, inl, inr, zero, suc, not}
 use Rattle.std.specs.Str.{bytes_eq}
 use Rattle.std.proofs.lemmas.Slice.Eq.{bytes_eq-Decides}
-use Rattle.define_additions.specs.ProofVerdict.{OfLottery, OfNoPanel, Proof}
+use Rattle.define_proofs.specs.ProofVerdict.{OfLottery, OfNoPanel, Proof}
 use Rattle.define_bundles.specs.BundleText.{Bundle}
 use Rattle.define_draws.specs.Dice.{name_ticket}
 use Rattle.define_draws.specs.Draw.{Drawn, Refused, SealDiffers, draw, drawn_with}
@@ -22,7 +22,7 @@ use Rattle.define_offices.specs.Tables.{Drawn as DrawnRound, Open, Round, Sealed
 use Rattle.define_pools.specs.Certificate.{Answer}
 use Rattle.define_pools.specs.Lottery.{Lottery}
 use Rattle.define_pools.specs.Pool.{Pool, panels}
-use Rattle.define_proof_texts.specs.ProofReading.{read_proof}
+use Rattle.define_proofs.specs.ProofReading.{read_proof}
 use Rattle.define_runs.specs.Run.{RunFinds}
 use Rattle.office_core.specs.Acting.{IsLoaded}
 use Rattle.command_shell.specs.declared.formats.PoolOrBundle.{PoolOrBundle}

@@ -2,16 +2,16 @@
 use Rattle.std.specs.Prelude.{⊤}
 use Rattle.std.proofs.Common.{◌≡◌, ◌∙◌, ℕ, Bool, true, false, cond, List, [], Option, Some, None, Result, Ok, Err, refl, sym, ap, subst}
 use Rattle.std.proofs.lemmas.Slice.Eq.{bytes_eq-Decides}
-use Rattle.define_additions.specs.ProofVerdict.{OfLottery, OfNoPanel, Proof, verdict}
-use Rattle.define_additions.proofs.Verdicts.{certified_where_valid, no_panel_where_valid}
+use Rattle.define_proofs.specs.ProofVerdict.{OfLottery, OfNoPanel, Proof, verdict}
+use Rattle.define_proofs.proofs.Verdicts.{certified_where_valid, no_panel_where_valid}
 use Rattle.define_bundles.specs.BundleText.{Bundle}
 use Rattle.define_checks.specs.Reasons as reasons
 use Rattle.define_checks.specs.Reasons.{Refused, Valid, Verdict}
 use Rattle.define_pools.specs.Pool.{IsPool, Pool, panels}
 use Rattle.define_pools.specs.Certificate.{Answer, Certifies}
 use Rattle.define_pools.proofs.Greatest.{greatest_from_Certifies}
-use Rattle.define_pool_texts.specs.PoolText.{spelling}
-use Rattle.define_proof_texts.specs.ProofText.{IsProof}
+use Rattle.define_bundles.specs.PoolText.{spelling}
+use Rattle.define_proofs.specs.ProofText.{IsProof}
 use Rattle.define_offices.specs.Commands.{Change, Keep, Lines, NoPanel, OtherPool, Outcome, Refusal, Refuses, Replies, Unproved}
 use Rattle.define_offices.specs.Deciding.{Answered, Finds, FindsNone, IsDecided, answered, is_same_pool, keep_in, kept_by, kept_over, proof_pool, shown, tells}
 use Rattle.define_offices.specs.Facts.{IsTables}

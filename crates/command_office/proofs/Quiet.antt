@@ -3,7 +3,7 @@ use Rattle.std.proofs.Common.{◌≡◌, ◌∙◌, ℕ, Bool, true, ◌==◌, L
 use Rattle.std.specs.Prelude.{◌≢◌, option_map}
 use Rattle.std.specs.List.{list_any}
 use Rattle.std.proofs.lemmas.Bool.{false≢true}
-use Rattle.define_additions.specs.ProofVerdict.{Proof}
+use Rattle.define_proofs.specs.ProofVerdict.{Proof}
 use Rattle.define_runs.specs.Run as run
 use Rattle.define_runs.specs.Run.{Ending, Limits}
 use Rattle.define_offices.specs.Commands.{Change, Command, Keep, Lines, NoPanel, Outcome, Refuses, Replies, Solve, Stops, Unproved}
@@ -21,7 +21,7 @@ use Rattle.command_stores.specs.Steps.{StepMeans, TellsEnding, TellsOutcome, Tel
 use Rattle.command_office.specs.declared.steps.Step.{Step}
 use Rattle.command_office.specs.declared.steps.Step.TheVariants as steps
 use Rattle.command_office.specs.Steps.{step_command}
-use Rattle.define_proof_texts.specs.ProofReading.{read_proof}
+use Rattle.define_proofs.specs.ProofReading.{read_proof}
 use Rattle.define_lines.specs.Lines as lines
 use Rattle.command_office.proofs.KeptRounds.{keep_comes, keep_none_stays}
 use Rattle.command_office.proofs.Plain.{file_plain, is_plain, is_plain_command, is_plain_import, plain_comes}

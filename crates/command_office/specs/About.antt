@@ -5,7 +5,7 @@ use Rattle.define_bundles.specs.BundleText.{Bundle, IsBundle, bundle_spelling}
 use Rattle.define_made_pools.specs.MadePools.{made_pool}
 use Rattle.define_offices.specs.Pools.{pool_of}
 use Rattle.define_offices.specs.Tables.{Open, Tables, named_round}
-use Rattle.define_pool_texts.specs.PoolText.{spelling}
+use Rattle.define_bundles.specs.PoolText.{spelling}
 use Rattle.define_pools.specs.Certificate.{Answer}
 use Rattle.define_pools.specs.Pool.{IsPool, Pool}
 use Rattle.office_core.specs.Acting.{IsLoaded}

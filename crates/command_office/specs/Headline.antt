@@ -2,12 +2,12 @@
 -- law `headline` (src/lib.rt) derives it from the exact contract, `OfficeIsRight`. `OfSeveralCalls`, at the end, is a law there too.
 --
 -- One step behind this page: pools, quota panels, lotteries and certificates (define_pools); what leximin greatest says part by part
--- (define_leximin); when a proof is valid (define_additions); the stated run (define_runs); what the words ask for (`asked`); how an answer is
+-- (define_leximin); when a proof is valid (define_proofs); the stated run (define_runs); what the words ask for (`asked`); how an answer is
 -- told (`Outcomes`); and each command's meaning, a record with a field for each status (`TextMeans`, `LotteryMeans`, `MakeMeans`, `StepMeans`).
 -- Only whole weights are compared. Of a terminal, a file, a pipe or a store on disk, which don't tell theirs, it holds of any content.
 use Rattle.std.specs.Prelude.{◌≡◌, ◌≢◌, ◌↔◌, ◌⊎◌, ◌≤◌, ℕ, Bool, true, false, IsTrue, IsFalse, List, [], Option, Some, None, Ok, option_and_then, option_map, ⊤}
-use Rattle.define_additions.specs.ProofVerdict.{OfLottery, Proof, verdict}
-use Rattle.define_additions.specs.TreeLines.{TreeLine}
+use Rattle.define_proofs.specs.ProofVerdict.{OfLottery, Proof, verdict}
+use Rattle.define_proofs.specs.TreeLines.{TreeLine}
 use Rattle.define_bundles.specs.BundleText.{Bundle, IsBundle, bundle_spelling, bundle_text}
 use Rattle.define_checks.specs.Reasons.{Valid}
 use Rattle.define_draws.specs.Draw.{Drawn, draw}
@@ -21,7 +21,7 @@ use Rattle.define_offices.specs.Tables.{Tables, bundle_of, named_round}
 use Rattle.define_pools.specs.Certificate.{Answer, Certifies}
 use Rattle.define_pools.specs.Lottery.{Lottery}
 use Rattle.define_pools.specs.Pool.{Pool, panels}
-use Rattle.define_proof_texts.specs.ProofText.{IsProof, proof_spelling}
+use Rattle.define_proofs.specs.ProofText.{IsProof, proof_spelling}
 use Rattle.define_rows.specs.Table.{Table}
 use Rattle.define_runs.specs.Run.{Ending, RunEnds, RunFinds}
 use Rattle.define_short_draws.specs.Short.{shortened}

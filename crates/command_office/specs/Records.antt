@@ -5,7 +5,7 @@
 use Rattle.std.specs.Prelude.{◌≡◌, ◌⊎◌, ◌==◌, ◌++◌, ◌∷◌, ℕ, Bool, IfSome, IsTrue, List, [], None, Ok, Option, Some, bytes_eq, codes, if◌then◌else◌}
 use Rattle.std.specs.List.{AllByRecursion, list_any}
 use Rattle.outside.specs.Faults.{Rose}
-use Rattle.define_additions.specs.ProofVerdict.{Proof}
+use Rattle.define_proofs.specs.ProofVerdict.{Proof}
 use Rattle.define_desk.specs.Desk.{Page, WithdrawalPage, page_of}
 use Rattle.define_desk.specs.Replies.{Reply, out_of_memory, unavailable}
 use Rattle.define_desk.specs.Requests.{AreAsking, Asking, Asks, NoRequest, Request, TooLarge}

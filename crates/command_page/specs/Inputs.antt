@@ -1,10 +1,10 @@
 -- A bundle or a proof as the input of a command. Builds on the formats of both texts.
 use Rattle.std.specs.Prelude.{ℕ, Bool, List, take, codes, bytes_eq, if◌then◌else◌, Option, Some, None, Result, Ok, Err}
-use Rattle.define_additions.specs.ProofVerdict.{OfLottery, OfNoPanel, Proof}
+use Rattle.define_proofs.specs.ProofVerdict.{OfLottery, OfNoPanel, Proof}
 use Rattle.define_bundles.specs.BundleReading.{read_bundle}
 use Rattle.define_bundles.specs.BundleText.{Bundle}
 use Rattle.define_lines.specs.Lines.{Fault}
-use Rattle.define_proof_texts.specs.ProofReading.{read_proof}
+use Rattle.define_proofs.specs.ProofReading.{read_proof}
 use Rattle.command_shell.specs.Formats.{IsBundleText, IsProofText}
 use Rattle.command_shell.specs.Subjects.{Format}
 use Rattle.command_page.specs.declared.inputs.BundleOrProof.{BundleOrProof}

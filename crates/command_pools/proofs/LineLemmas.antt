@@ -5,7 +5,7 @@ use Rattle.std.proofs.lemmas.List.{append-nil}
 use Rattle.std.proofs.lemmas.List.Elements.{All-from_recursion}
 use Rattle.define_pools.specs.Pool.{Pool, is_quota_panel}
 use Rattle.define_pools.proofs.AllPanels.{quota_parts}
-use Rattle.laws_basic.proofs.Each.{each_from_list_all}
+use Rattle.define_pools.proofs.Each.{each_from_list_all}
 use Rattle.define_lines.specs.Lines.{line_feed, line_of, tab, tabbed, text_of}
 use Rattle.define_lines.proofs.LineLemmas.{line_written}
 use Rattle.command_meanings.proofs.PanelLines.{tabbed_then}

@@ -1,10 +1,10 @@
 -- A proof of a run, or the answer that says why there is none, is right by `ProveMeans`, about the pool or the bundle that the run was
 -- given.
 use Rattle.std.proofs.Common.{◌≡◌, List, [], Some, refl, ap, sym, subst}
-use Rattle.define_additions.specs.ProofVerdict.{OfLottery, OfNoPanel, Proof, verdict}
-use Rattle.define_additions.specs.TreeLines.{TreeLine}
-use Rattle.define_additions.proofs.Refused.{refusal_means}
-use Rattle.define_additions.proofs.Verdicts.{certified_where_valid, no_panel_where_valid}
+use Rattle.define_proofs.specs.ProofVerdict.{OfLottery, OfNoPanel, Proof, verdict}
+use Rattle.define_proofs.specs.TreeLines.{TreeLine}
+use Rattle.define_proofs.proofs.Refused.{refusal_means}
+use Rattle.define_proofs.proofs.Verdicts.{certified_where_valid, no_panel_where_valid}
 use Rattle.define_pools.proofs.Greatest.{greatest_from_Certifies}
 use Rattle.command_meanings.specs.Check.{IsGreatest, refused_line}
 use Rattle.define_bundles.specs.BundleText.{Bundle}
@@ -18,7 +18,7 @@ use Rattle.define_pools.specs.Pool.{Pool, panels}
 use Rattle.command_shell.specs.declared.formats.PoolOrBundle.{PoolOrBundle}
 use Rattle.command_shell.specs.declared.formats.PoolOrBundle.TheVariants as either
 use Rattle.command_meanings.specs.Prove.{IsGiven, ProveMeans, given_in, pool_in}
-use Rattle.define_proof_texts.specs.ProofText.{IsProof, proof_spelling}
+use Rattle.define_proofs.specs.ProofText.{IsProof, proof_spelling}
 use Rattle.proof_limits.specs.Budgets.{Left}
 use Rattle.proof_run.specs.Made.{IsOfBundle}
 use Rattle.command_proofs.specs.Proved.{IsValidOf, NoProofMeans, TellsOfBundle, proof_said}

@@ -4,9 +4,9 @@ use Rattle.define_pools.specs.Certificate.{Answer, Certifies}
 use Rattle.define_pools.specs.Lottery.{LeximinGreatest}
 use Rattle.define_pools.specs.Pool.{Pool, panels}
 use Rattle.define_checks.specs.Reasons.{Refused, Valid, Verdict}
-use Rattle.define_additions.specs.ProofVerdict.{OfLottery, OfNoPanel, Proof, verdict}
-use Rattle.define_additions.specs.TreeLines.{TreeLine}
-use Rattle.define_additions.proofs.Refused.{refusal_means}
+use Rattle.define_proofs.specs.ProofVerdict.{OfLottery, OfNoPanel, Proof, verdict}
+use Rattle.define_proofs.specs.TreeLines.{TreeLine}
+use Rattle.define_proofs.proofs.Refused.{refusal_means}
 use Rattle.command_shell.specs.Answers.{IsRight, Saying}
 use Rattle.command_meanings.specs.Verify.{VerifyMeans}
 use Rattle.command_proofs.specs.Verified.{TellsVerdict}

@@ -1,6 +1,6 @@
 -- What a run made of a pool, why it made nothing, and what `prove` answers for each verdict on the proof of a bundle.
 use Rattle.std.specs.Prelude.{◌≡◌}
-use Rattle.define_additions.specs.ProofVerdict.{OfLottery, OfNoPanel, Proof, verdict}
+use Rattle.define_proofs.specs.ProofVerdict.{OfLottery, OfNoPanel, Proof, verdict}
 use Rattle.command_meanings.specs.Check.{refused_line}
 use Rattle.define_checks.specs.Reasons.{Refused, Valid, Verdict}
 use Rattle.command_shell.specs.declared.status.Printed.{Printed}
@@ -10,7 +10,7 @@ use Rattle.command_meanings.specs.Prove.{PassesProofWidth, SpendsProofBudget}
 use Rattle.command_proofs.specs.declared.making.Made.{Made}
 use Rattle.command_proofs.specs.declared.making.Made.TheVariants as made
 use Rattle.define_pools.specs.Pool.{Pool}
-use Rattle.define_proof_texts.specs.ProofText.{proof_spelling}
+use Rattle.define_proofs.specs.ProofText.{proof_spelling}
 use Rattle.proof_limits.specs.Budgets.{Left}
 use Rattle.proof_run.specs.Made.{IsOfPool}
 

@@ -1,7 +1,7 @@
 -- What `verify` answers for each verdict on a proof.
 use Rattle.std.specs.Prelude.{◌≡◌}
 use Rattle.define_checks.specs.Reasons.{Refused, Valid, Verdict}
-use Rattle.define_additions.specs.ProofVerdict.{Proof}
+use Rattle.define_proofs.specs.ProofVerdict.{Proof}
 use Rattle.command_shell.specs.declared.status.Printed.TheVariants as printed
 use Rattle.command_shell.specs.Answers.{Saying, Prints}
 use Rattle.command_meanings.specs.Check.{refused_line}

@@ -4,7 +4,7 @@ use Rattle.std.specs.List.{list_all}
 use Rattle.std.proofs.lemmas.Bool.{and_parts, leb-true}
 use Rattle.std.proofs.lemmas.List.{length-map}
 use Rattle.std.proofs.lemmas.List.Sums.{sum-map}
-use Rattle.laws_basic.proofs.Each.{passes_at}
+use Rattle.define_pools.proofs.Each.{passes_at}
 use Rattle.define_bundles.specs.Ranges.{is_row, is_weight}
 use Rattle.define_draws.proofs.TicketLemmas.{range_within, sum_pushed, weight_at}
 use Rattle.define_draws.specs.Tickets.{first_ticket, weights_of}

@@ -3,13 +3,13 @@
 use Rattle.std.specs.Prelude.{◌≡◌, ℕ, Bool, true, false, List, take, codes, bytes_eq, if◌then◌else◌, Result, Ok, Err}
 use Rattle.define_bundles.specs.BundleReading.{read_bundle}
 use Rattle.define_bundles.specs.BundleText.{Bundle, IsBundle, bundle_spelling}
-use Rattle.define_additions.specs.ProofVerdict.{Proof}
+use Rattle.define_proofs.specs.ProofVerdict.{Proof}
 use Rattle.define_lines.specs.Lines.{Fault}
 use Rattle.define_pools.specs.Pool.{IsPool, Pool}
-use Rattle.define_proof_texts.specs.ProofReading.{read_proof}
-use Rattle.define_proof_texts.specs.ProofText.{IsProof, proof_spelling}
-use Rattle.define_pool_texts.specs.PoolReading.{read}
-use Rattle.define_pool_texts.specs.PoolText.{spelling}
+use Rattle.define_proofs.specs.ProofReading.{read_proof}
+use Rattle.define_proofs.specs.ProofText.{IsProof, proof_spelling}
+use Rattle.define_bundles.specs.PoolReading.{read}
+use Rattle.define_bundles.specs.PoolText.{spelling}
 use Rattle.command_shell.specs.Subjects.{Format}
 use Rattle.command_shell.specs.declared.formats.PoolOrBundle.{PoolOrBundle}
 use Rattle.command_shell.specs.declared.formats.PoolOrBundle.TheVariants as either

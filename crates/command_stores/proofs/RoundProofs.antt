@@ -1,6 +1,6 @@
 -- What the code does for a round that is to be proved is what `ProvesRound` says.
 use Rattle.std.proofs.Common.{◌≡◌, ℕ, true, false, Option, Some, None, is_none, Result, Ok, Err, refl}
-use Rattle.define_additions.specs.ProofVerdict.{OfLottery, OfNoPanel, Proof}
+use Rattle.define_proofs.specs.ProofVerdict.{OfLottery, OfNoPanel, Proof}
 use Rattle.define_pools.specs.Pool.{Pool}
 use Rattle.define_runs.specs.Run.{Limits}
 use Rattle.define_offices.specs.Commands.{Change, Keep, Outcome, Refuses, Solve}

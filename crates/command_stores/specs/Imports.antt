@@ -5,7 +5,7 @@ use Rattle.std.specs.Prelude.{◌≡◌, ℕ, List, Option, Some, None, Result, 
 use Rattle.command_shell.specs.Answers.{Saying, Stops as StopsBy}
 use Rattle.command_shell.specs.Lines.{input_line}
 use Rattle.command_shell.specs.declared.status.Cause.TheVariants.{Input}
-use Rattle.define_additions.specs.ProofVerdict.{Proof}
+use Rattle.define_proofs.specs.ProofVerdict.{Proof}
 use Rattle.define_imports.specs.Cells.{Fault}
 use Rattle.define_imports.specs.Charters.{read_charter}
 use Rattle.define_imports.specs.Registers.{ReadsRows}
@@ -15,7 +15,7 @@ use Rattle.define_lines.specs.Lines as lines
 use Rattle.define_offices.specs.declared.Part.TheVariants as part
 use Rattle.define_offices.specs.Tables.{Tables}
 use Rattle.define_pools.specs.Pool.{Category}
-use Rattle.define_proof_texts.specs.ProofReading.{read_proof}
+use Rattle.define_proofs.specs.ProofReading.{read_proof}
 use Rattle.command_stores.specs.declared.imports.Import.{Import}
 use Rattle.command_stores.specs.declared.imports.Import.TheVariants as import
 use Rattle.command_stores.specs.Steps.{StepMeans, refused_by}

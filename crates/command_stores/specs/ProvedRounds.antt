@@ -6,7 +6,7 @@
 use Rattle.std.specs.Prelude.{◌≡◌, ℕ, Bool, true, false, Option, Some, None, Result, Ok, Err}
 use Rattle.command_proofs.specs.Proved.{NoProofMeans}
 use Rattle.command_shell.specs.Answers.{IsRight, Saying}
-use Rattle.define_additions.specs.ProofVerdict.{Proof, verdict}
+use Rattle.define_proofs.specs.ProofVerdict.{Proof, verdict}
 use Rattle.define_checks.specs.Reasons.{Valid}
 use Rattle.define_offices.specs.Commands.{Change, Keep, Outcome, Refusal, Solve}
 use Rattle.define_offices.specs.Deciding.{IsDecided, proof_pool, solve_in}

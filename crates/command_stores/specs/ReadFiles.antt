@@ -1,8 +1,8 @@
 -- What the code returns for a file that is imported. The contracts of src/imports.rt cite it.
 use Rattle.std.specs.Prelude.{◌≡◌, ℕ, List, None, Result, Ok, Err, ⊤}
-use Rattle.define_additions.specs.ProofVerdict.{Proof}
+use Rattle.define_proofs.specs.ProofVerdict.{Proof}
 use Rattle.define_offices.specs.Tables.{Tables}
-use Rattle.define_proof_texts.specs.ProofReading.{read_proof}
+use Rattle.define_proofs.specs.ProofReading.{read_proof}
 use Rattle.office_core.specs.Commands.{seen_command}
 use Rattle.office_core.specs.declared.commands.Command.{Command}
 use Rattle.office_import.specs.Answers.{fault_of}

@@ -10,7 +10,7 @@ use Rattle.command_meanings.specs.Check.{refused_line}
 use Rattle.command_meanings.specs.Lines.{nodes_spent_line, pivots_spent_line, total_line, wide_line}
 use Rattle.define_lines.specs.Lines.{text_of}
 use Rattle.define_pools.specs.Pool.{Pool}
-use Rattle.define_pool_texts.specs.PoolText.{spelling}
+use Rattle.define_bundles.specs.PoolText.{spelling}
 use Rattle.define_runs.specs.Run as run
 use Rattle.define_runs.specs.Run.{Ending, Limits}
 use Rattle.define_offices.specs.Commands.{Change, Command, Solve, Lines, NoPanel, Outcome, Refuses, Refusal, NoRound, Incomplete, Replies, Stops, Unproved}

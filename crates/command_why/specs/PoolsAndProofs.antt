@@ -1,10 +1,10 @@
 -- What `why` reads: a pool, or a proof over one. Builds on Formats and Subjects of `command_shell`, and on the definitions of the texts.
 use Rattle.std.specs.Prelude.{ℕ, Bool, List, take, codes, bytes_eq, if◌then◌else◌, Result, Ok, Err}
-use Rattle.define_additions.specs.ProofVerdict.{OfLottery, OfNoPanel, Proof}
+use Rattle.define_proofs.specs.ProofVerdict.{OfLottery, OfNoPanel, Proof}
 use Rattle.define_lines.specs.Lines.{Fault}
-use Rattle.define_pool_texts.specs.PoolReading.{read}
+use Rattle.define_bundles.specs.PoolReading.{read}
 use Rattle.define_pools.specs.Pool.{Pool}
-use Rattle.define_proof_texts.specs.ProofReading.{read_proof}
+use Rattle.define_proofs.specs.ProofReading.{read_proof}
 use Rattle.command_shell.specs.Formats.{IsPoolText, IsProofText}
 use Rattle.command_shell.specs.Subjects.{Format}
 use Rattle.command_why.specs.declared.about.PoolOrProof.{PoolOrProof}

@@ -11,9 +11,9 @@ use Rattle.define_checks.specs.Reasons.{Refused, Valid, Verdict, first_reason, r
 use Rattle.define_pools.specs.Certificate.{Stage}
 use Rattle.define_pools.specs.Lottery.{Lottery}
 use Rattle.define_pools.specs.Pool.{Pool}
-use Rattle.define_additions.specs.ProofSteps.{or_next}
-use Rattle.define_additions.specs.ProofVerdict.{line_reason, listed_reasons}
-use Rattle.define_additions.specs.TreeLines.{TreeFault}
+use Rattle.define_proofs.specs.ProofSteps.{or_next}
+use Rattle.define_proofs.specs.ProofVerdict.{line_reason, listed_reasons}
+use Rattle.define_proofs.specs.TreeLines.{TreeFault}
 use Rattle.define_covers.specs.Covers.{FrontLine}
 use Rattle.define_covers.specs.CoverVerdict.{fault_from, tree_fault, tree_reasons}
 use Rattle.check_reasons.specs.Sayings.{holds}

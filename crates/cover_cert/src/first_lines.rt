@@ -3,9 +3,9 @@
 
 ghost use Rattle.std.specs.Prelude.{◌≡◌, ◌+◌, not, count_by, IfOk, is_some, length};
 ghost use Rattle.std.specs.List.{flat_map};
-ghost use Rattle.define_additions.specs.Trees.{is_open};
+ghost use Rattle.define_proofs.specs.Trees.{is_open};
 ghost use Rattle.define_bundles.specs.BundleText.{lines_before_done, pool_lines};
-ghost use Rattle.define_pool_texts.specs.PoolText.{category_lines};
+ghost use Rattle.define_bundles.specs.PoolText.{category_lines};
 
 use pool_model::{Answer, Category, Pool, Standing, Volunteer};
 use std::alloc::AllocError;

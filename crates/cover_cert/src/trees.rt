@@ -32,7 +32,7 @@ pub(crate) struct Fault {
 }
 
 impl Model for Fault {
-    ghost use Rattle.define_additions.specs.TreeLines.{TreeFault as Seen};
+    ghost use Rattle.define_proofs.specs.TreeLines.{TreeFault as Seen};
 
     ghost Value = { Seen };
 

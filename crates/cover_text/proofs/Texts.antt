@@ -7,7 +7,7 @@ use Rattle.std.proofs.lemmas.List.{length-take-le, take_more}
 use Rattle.define_lines.specs.Lines.{line_feed, tab, tabbed, text_of}
 use Rattle.define_lines.proofs.LineLemmas.{line_written, text_of-append}
 use Rattle.define_bundles.specs.BundleText.{Bundle}
-use Rattle.define_proof_texts.specs.ProofText.{bundle_lines}
+use Rattle.define_proofs.specs.ProofText.{bundle_lines}
 use Rattle.define_covers.specs.Covers.{FrontLine}
 use Rattle.define_cover_texts.specs.CoverText.{cause_fields, cover_line, front_line, lines_before_close, tree_lines, trees_from}
 use Rattle.define_cover_texts.proofs.Spelled.{trees-push}

@@ -6,7 +6,7 @@ ghost use Rattle.std.specs.Fmt.{decimal};
 ghost use Rattle.define_lines.specs.Lines.{line_of, text_of};
 ghost use Rattle.define_bundles.specs.BundleReading.{missing_kind as missing_within};
 ghost use Rattle.bundle_text.specs.Progress.{seen as bundle_seen};
-ghost use Rattle.define_proof_texts.specs.ProofText.{bundle_lines, tree_line};
+ghost use Rattle.define_proofs.specs.ProofText.{bundle_lines, tree_line};
 ghost use Rattle.cover_text.specs.Stopped.{stopped};
 
 use bundle_text::{Bundle, Progress as BundleProgress, write_bundle};

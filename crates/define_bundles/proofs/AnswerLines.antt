@@ -15,7 +15,7 @@ use Rattle.define_lines.specs.Numbers.{number_up_to, signed_up_to}
 use Rattle.define_lines.proofs.LineLemmas.{Lacks, fields_of-line_of, line_of-fields_of}
 use Rattle.define_lines.proofs.FieldLemmas.{IsField, plain_field, decimal_field}
 use Rattle.define_lines.proofs.NumberLemmas.{bytes_are, number_again, number_spelled, signed_again, signed_spelled}
-use Rattle.laws_basic.proofs.Each.{each_map}
+use Rattle.define_pools.proofs.Each.{each_map}
 use Rattle.define_bundles.specs.Ranges.{is_weight, is_group, is_row, is_stage, reach}
 use Rattle.define_bundles.specs.BundleText.{total_line, panel_line, stage_line, done_line}
 use Rattle.define_bundles.specs.BundleReading.{AnswerLine, OfRow, OfStage, FaultyStage, TheDone, Unknown, weight_in_range, weight_of, with_number, numbers_up_to, stage_limit, signed_of, row_of, stage_of, panel_said, stage_said, done_said, answer_line, total_of}

@@ -1,3 +1,8 @@
+pub mod NameFields
+pub mod LowestKinds
+pub mod PoolReadAgain
+pub mod PoolSpelled
+mod FirstFaults
 pub mod AnswerLines
 pub mod ReadAgain
 pub mod Spelled

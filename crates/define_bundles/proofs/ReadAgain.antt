@@ -14,10 +14,10 @@ use Rattle.define_lines.proofs.LineByLine as reading
 use Rattle.define_lines.proofs.LineLemmas.{Lacks}
 use Rattle.define_lines.proofs.FieldLemmas.{plain_field, line_lacks_feed}
 use Rattle.define_lines.proofs.NumberLemmas.{bytes_same}
-use Rattle.define_pool_texts.specs.declared.Passed.{Passed}
-use Rattle.define_pool_texts.specs.PoolText.{version, version_line}
-use Rattle.define_pool_texts.specs.PoolReading as pools
-use Rattle.define_pool_texts.proofs.ReadAgain as pool_again
+use Rattle.define_bundles.specs.declared.Passed.{Passed}
+use Rattle.define_bundles.specs.PoolText.{version, version_line}
+use Rattle.define_bundles.specs.PoolReading as pools
+use Rattle.define_bundles.proofs.PoolReadAgain as pool_again
 use Rattle.define_bundles.specs.Ranges.{IsInRanges, is_weight, is_row, is_stage}
 use Rattle.define_bundles.specs.BundleText.{Bundle, IsBundle, bundle_line, pool_lines, total_line, panel_line, stage_line, done_line, answer_lines, lines_before_done, bundle_spelling}
 use Rattle.define_bundles.specs.BundleReading.{Progress, Begun, InPool, InRows, InStages, Done, AnswerLine, OfRow, OfStage, TheDone, said_of, row_kinds, stage_kinds, after_row, after_stage, read_bundle, reader}

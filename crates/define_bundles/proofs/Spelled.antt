@@ -4,7 +4,7 @@ use Rattle.std.specs.Prelude.{bytes_eq, Ok, is_some}
 use Rattle.std.specs.List.{list_all}
 use Rattle.std.proofs.lemmas.Bool.{not-false, lt-ltb, false≢true}
 use Rattle.std.proofs.lemmas.List.{append-nil, map-append}
-use Rattle.laws_basic.proofs.Each.{list_all-push}
+use Rattle.define_pools.proofs.Each.{list_all-push}
 use Rattle.define_pools.specs.Pool.{Pool, IsPool, has_households}
 use Rattle.define_pools.specs.Lottery.{Lottery}
 use Rattle.define_pools.specs.Certificate.{Answer, Stage}
@@ -13,12 +13,12 @@ use Rattle.define_pools.proofs.BuildingLemmas.{no_kind}
 use Rattle.define_lines.specs.Lines.{text_of, fields_of}
 use Rattle.define_lines.proofs.LineByLine as reading
 use Rattle.define_lines.proofs.NumberLemmas.{bytes_are}
-use Rattle.define_pool_texts.specs.declared.Passed.{Passed}
-use Rattle.define_pool_texts.specs.PoolText.{version_line}
-use Rattle.define_pool_texts.specs.PoolReading as pools
-use Rattle.define_pool_texts.proofs.LowestKinds.{encoding_kind, line_kind_of}
-use Rattle.define_pool_texts.proofs.Spelled as pool_lines_read
-use Rattle.define_pool_texts.proofs.Spelled.{neither, own_version}
+use Rattle.define_bundles.specs.declared.Passed.{Passed}
+use Rattle.define_bundles.specs.PoolText.{version_line}
+use Rattle.define_bundles.specs.PoolReading as pools
+use Rattle.define_bundles.proofs.LowestKinds.{encoding_kind, line_kind_of}
+use Rattle.define_bundles.proofs.PoolSpelled as pool_lines_read
+use Rattle.define_bundles.proofs.PoolSpelled.{neither, own_version}
 use Rattle.define_bundles.specs.Ranges.{is_weight, is_row, is_stage}
 use Rattle.define_bundles.specs.BundleText.{Bundle, IsBundle, bundle_line, pool_lines, total_line, panel_line, stage_line, done_line, lines_before_done, bundle_spelling}
 use Rattle.define_bundles.specs.BundleReading.{Progress, Begun, InPool, InRows, InStages, Done, AnswerLine, OfRow, OfStage, FaultyStage, TheDone, Unknown, total_of, said_of, row_kinds, stage_kinds, line_kind, after_row, after_stage, after_line, at_last, read_bundle, reader}

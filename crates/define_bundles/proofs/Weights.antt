@@ -2,7 +2,7 @@
 use Rattle.std.proofs.Common.{◌≡◌, ◌^◌, ℕ, true, leb, List}
 use Rattle.std.specs.List.{list_all}
 use Rattle.std.proofs.lemmas.Bool.{and_parts}
-use Rattle.laws_basic.proofs.Each.{list_all_implies}
+use Rattle.define_pools.proofs.Each.{list_all_implies}
 use Rattle.define_pools.specs.Lottery.{LotteryRow}
 use Rattle.define_bundles.specs.Ranges.{is_group, is_row, is_weight}
 

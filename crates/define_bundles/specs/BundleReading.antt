@@ -8,8 +8,8 @@ use Rattle.define_pools.specs.Building.{lowest_kind}
 use Rattle.define_lines.specs.Lines.{Fault, fields_of, pieces_of}
 use Rattle.define_lines.specs.Numbers.{number_up_to, signed_up_to}
 use Rattle.define_lines.specs.Reading.{Reader, read_lines}
-use Rattle.define_pool_texts.specs.PoolText.{version_line}
-use Rattle.define_pool_texts.specs.PoolReading as pools
+use Rattle.define_bundles.specs.PoolText.{version_line}
+use Rattle.define_bundles.specs.PoolReading as pools
 use Rattle.define_bundles.specs.Ranges.{is_weight, is_row, is_stage}
 use Rattle.define_bundles.specs.BundleText.{Bundle, bundle_line}
 

@@ -6,7 +6,7 @@ use Rattle.define_pools.specs.Pool.{Pool, IsPool, has_households}
 use Rattle.define_pools.specs.Lottery.{LotteryRow}
 use Rattle.define_pools.specs.Certificate.{Stage, Answer}
 use Rattle.define_lines.specs.Lines.{line_of, text_of}
-use Rattle.define_pool_texts.specs.PoolText.{version, lines_before_end, end_line}
+use Rattle.define_bundles.specs.PoolText.{version, lines_before_end, end_line}
 use Rattle.define_bundles.specs.Ranges.{IsInRanges}
 
 -- a pool with its answer

@@ -1,4 +1,4 @@
--- Small answers for the worked examples of this crate and of `define_proof_texts`.
+-- Small answers for the worked examples of this crate and of `define_proofs`.
 use Rattle.std.specs.Prelude.{◌-◌, ◌^◌, [], ◌∷◌, pos, negsuc}
 use Rattle.define_pools.specs.Certificate.{Answer}
 use Rattle.define_pools.specs.WorkedExamples.{row, stage, four_lottery, four_stages, dropout_lottery, dropout_stages}

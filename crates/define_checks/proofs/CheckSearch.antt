@@ -4,7 +4,7 @@ use Rattle.std.specs.Prelude.{int_lt, slice_get}
 use Rattle.std.specs.List.{find}
 use Rattle.std.proofs.lemmas.Bool.{and_from, and_parts, false≢true, false_from_ne_true}
 use Rattle.std.proofs.lemmas.List.{append-nil}
-use Rattle.laws_basic.proofs.Each.{each_everywhere, each_filter, each_map, each_mapped, none_pass}
+use Rattle.define_pools.proofs.Each.{each_everywhere, each_filter, each_map, each_mapped, none_pass}
 use Rattle.define_rows.specs.Row.{Row}
 use Rattle.define_searches.specs.Classes.{Class, Classes, IsSearchable}
 use Rattle.define_searches.specs.Compositions.{all_counts, attains, compositions, counts_of, is_composition, weight_in}

@@ -5,7 +5,7 @@ use Rattle.std.specs.Prelude.{int_lt, sum_by}
 use Rattle.std.specs.List.{AllByRecursion, find}
 use Rattle.std.specs.Ordering.{int_eq}
 use Rattle.std.proofs.lemmas.Bool.{eq-eqb, false_from_ne_true, le-ltb, lt-ltb, ltb-true, eqb-true, and_parts}
-use Rattle.laws_basic.proofs.Each.{each_append, each_map}
+use Rattle.define_pools.proofs.Each.{each_append, each_map}
 use Rattle.define_pools.specs.Certificate.{Stage, is_settled, panel_weight, settling, unsettled, weight_of}
 use Rattle.define_pools.specs.Lottery.{Lottery, count}
 use Rattle.define_pools.specs.Pool.{Pool, everybody, is_quota_panel}

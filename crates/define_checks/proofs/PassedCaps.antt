@@ -5,9 +5,9 @@ use Rattle.std.specs.List.{AllByRecursion}
 use Rattle.std.specs.Option.{option_map}
 use Rattle.std.proofs.lemmas.Bool.{and_from, and_parts, false≢true, ltb-true}
 use borrow.Author.Differences.{le-true, lt-true}
-use Rattle.laws_basic.proofs.Each.{each_both, each_from_list_all, each_map}
-use Rattle.laws_basic.proofs.Found.{find-each, find-none, find-passes}
-use Rattle.laws_basic.proofs.Tests.{implied}
+use Rattle.define_pools.proofs.Each.{each_both, each_from_list_all, each_map}
+use Rattle.define_pools.proofs.Found.{find-each, find-none, find-passes}
+use Rattle.define_pools.proofs.Tests.{implied}
 use Rattle.define_pools.specs.Certificate as certificate
 use Rattle.define_pools.specs.Certificate.{Stage, is_capped, panel_weight, weight_of}
 use Rattle.define_pools.specs.Pool.{Pool, is_quota_panel, panels}

@@ -6,8 +6,8 @@ use Rattle.std.specs.Ordering.{int_eq}
 use Rattle.std.proofs.lemmas.Bool.{and_parts, eqb-true, eq-eqb, false≢true, false_from_ne_true, le-leb, le-ltb, leb-true, ltb-false, not-false, not_from_true}
 use Rattle.std.proofs.lemmas.List.Folds.{list_all-map}
 use borrow.Author.Differences.{le-true, lt-false, lt-true, true_is_le}
-use Rattle.laws_basic.proofs.Each.{each_append, each_from_list_all, each_left, each_map, each_right, list_all_from_each}
-use Rattle.laws_basic.proofs.Found.{find-none}
+use Rattle.define_pools.proofs.Each.{each_append, each_from_list_all, each_left, each_map, each_right, list_all_from_each}
+use Rattle.define_pools.proofs.Found.{find-none}
 use Rattle.define_pools.specs.Certificate.{Answer, Certifies, Stage, StageHolds, StagesHold, is_settled, panel_weight, settling, unsettled, weight_of}
 use Rattle.define_pools.specs.Lottery.{IsLottery, Lottery, LotteryRow, TotalAgrees, count}
 use Rattle.define_pools.specs.Pool.{Pool, everybody, is_quota_panel}

@@ -4,7 +4,7 @@ use Rattle.std.specs.Prelude.{bytes_eq}
 use Rattle.std.specs.List.{AllByRecursion}
 use Rattle.std.proofs.lemmas.Bool.{and_from, and_parts, false≢true, false_from_ne_true, not-true, not_from_false, or_from, or_parts}
 use Rattle.std.proofs.lemmas.Slice.Eq.{bytes_eq-Decides}
-use Rattle.laws_basic.proofs.Each.{each_both, each_everywhere, each_map}
+use Rattle.define_pools.proofs.Each.{each_both, each_everywhere, each_map}
 use Rattle.define_pools.specs.Lists.{all_different, includes_list}
 use Rattle.define_checks.specs.Reasons.{first_repeated}
 

@@ -4,8 +4,8 @@ use Rattle.std.specs.Prelude.{unsigned_abs}
 use Rattle.std.specs.List.{list_all, range_with_len}
 use Rattle.std.proofs.lemmas.Bool.{and_parts, eqb-true, leb-true}
 use Rattle.std.proofs.lemmas.List.{length-map}
-use Rattle.laws_basic.proofs.Each.{each_both, each_everywhere, each_from_list_all, each_map, each_mapped, each_range}
-use Rattle.laws_basic.proofs.Sums.{length-filter-total, sum_by-is-total, total}
+use Rattle.define_pools.proofs.Each.{each_both, each_everywhere, each_from_list_all, each_map, each_mapped, each_range}
+use Rattle.define_pools.proofs.Sums.{length-filter-total, sum_by-is-total, total}
 use Rattle.define_bundles.specs.Ranges as ranges
 use Rattle.define_bundles.specs.Ranges.{is_stage}
 use Rattle.define_pools.specs.Certificate.{Stage, weight_of}

@@ -4,8 +4,8 @@ use Rattle.std.specs.Prelude.{count_by, sum_by}
 use Rattle.std.specs.List.{AllByRecursion, enumerate_from, list_all, range_with_len}
 use Rattle.std.proofs.lemmas.Bool.{and_parts, cases_lt, leb-true}
 use Rattle.std.proofs.Math.Nat.{mul-le-mul_left, mul-le-mul_right}
-use Rattle.laws_basic.proofs.Each.{each_everywhere, each_from_list_all, each_map}
-use Rattle.laws_basic.proofs.Sums.{count_by-total, one_if, sum_by-is-total, total, total-add, total-scaled, total-zero, total_ext, total_le}
+use Rattle.define_pools.proofs.Each.{each_everywhere, each_from_list_all, each_map}
+use Rattle.define_pools.proofs.Sums.{count_by-total, one_if, sum_by-is-total, total, total-add, total-scaled, total-zero, total_ext, total_le}
 use Rattle.define_pools.specs.declared.Standing.{Standing}
 use Rattle.define_pools.specs.declared.Standing.TheVariants.{Open, Seated, Gone}
 use Rattle.define_pools.specs.Lists.{includes, is_increasing}

@@ -5,15 +5,15 @@ use Rattle.std.specs.Prelude.{slice_index}
 use Rattle.std.specs.List.{AllByRecursion, enumerate_from, list_all, list_any}
 use Rattle.std.proofs.lemmas.Bool.{and_from, and_parts, eq-eqb, false_from_ne_true, leb-true, ltb-true}
 use Rattle.std.proofs.lemmas.List.{length-map}
-use Rattle.laws_basic.proofs.Each.{each_both, each_everywhere, each_from_list_all, each_map, enumerated-each, none_pass}
-use Rattle.laws_basic.proofs.Lists.{length-enumerate_from}
-use Rattle.laws_basic.proofs.Sums.{count_by-total, one_if, sum_by-is-total, total, total-ones, total_ext, total_le}
+use Rattle.define_pools.proofs.Each.{each_both, each_everywhere, each_from_list_all, each_map, enumerated-each, none_pass}
+use Rattle.define_pools.proofs.Lists.{length-enumerate_from}
+use Rattle.define_pools.proofs.Sums.{count_by-total, one_if, sum_by-is-total, total, total-ones, total_ext, total_le}
 use Rattle.define_pools.specs.Lists.{choices, includes, is_increasing}
 use Rattle.define_pools.specs.Pool.{BoundedValue, Category, Pool, Volunteer, allows, everybody, is_quota_panel, is_same_household, is_within, members_with, panels, share_household, volunteer}
 use Rattle.define_pools.specs.declared.Standing.TheVariants.{Gone}
 use Rattle.define_pools.proofs.AllPanels.{Quota as Parts, quota_parts}
 use Rattle.define_searches.proofs.Households.{same_name}
-use Rattle.define_additions.specs.Leaves.{standings}
+use Rattle.define_proofs.specs.Leaves.{standings}
 use Rattle.define_conflicts.specs.declared.Counted.{Counted}
 use Rattle.define_conflicts.specs.declared.Counted.TheVariants.{Everybody, WithValue, OfHousehold}
 use Rattle.define_conflicts.specs.declared.Quota.{Quota}

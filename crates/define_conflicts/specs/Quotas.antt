@@ -1,8 +1,8 @@
 -- Quotas and selections; by how many people a selection misses quotas; and conflicts. Builds on Pool and Lists of `define_pools`, and on
--- Leaves of `define_additions` for the list of standings. An auditor of `why` reads this file and OnlyQuotas.
+-- Leaves of `define_proofs` for the list of standings. An auditor of `why` reads this file and OnlyQuotas.
 use Rattle.std.specs.Prelude.{ℕ, ◌-◌, ◌==◌, ◌≤◌, ◌<◌, nat_lt, Bool, false, true, ◌&&◌, ◌||◌, IsTrue, List, [], length, count_by, sum_by, slice_index, slice_index_or, Option, unwrap_or}
 use Rattle.std.specs.List.{enumerate_from, list_all, list_any, remove}
-use Rattle.define_additions.specs.Leaves.{standings}
+use Rattle.define_proofs.specs.Leaves.{standings}
 use Rattle.define_pools.specs.declared.Standing.{Standing}
 use Rattle.define_pools.specs.Lists.{includes, is_increasing}
 use Rattle.define_pools.specs.Pool.{BoundedValue, Category, Pool, allows, share_household, volunteer}

@@ -1,5 +1,5 @@
-//! Conflicts: quotas of a pool that can't be met together. The definitions are in `specs/`. Stands on `define_pools` and `laws_basic`, on
-//! `define_additions` for standings, and on `define_searches` for a law on households. Used by `quota_conflicts`, which finds and checks
+//! Conflicts: quotas of a pool that can't be met together. The definitions are in `specs/`. Stands on `define_pools`, on
+//! `define_proofs` for standings, and on `define_searches` for a law on households. Used by `quota_conflicts`, which finds and checks
 //! conflicts; by `define_cost_bounds` and `loosening_by_proof`, which weigh quotas; and by the meaning of `why`.
 //!
 //! The functions have no body: their contracts are laws over the definitions, and worked examples. The promise that matters most is
@@ -12,7 +12,7 @@ ghost use Rattle.define_pools.specs.declared.Standing.{Standing as SeenStanding}
 ghost use Rattle.define_pools.specs.declared.Standing.TheVariants.{Gone, Seated};
 ghost use Rattle.define_pools.specs.Pool.{Pool, panels};
 ghost use Rattle.define_pools.specs.WorkedExamples.{couple};
-ghost use Rattle.define_additions.specs.Leaves.{standings};
+ghost use Rattle.define_proofs.specs.Leaves.{standings};
 ghost use Rattle.define_conflicts.specs.ConflictText.{conflict_text};
 ghost use Rattle.define_conflicts.specs.LeastMisses.{asked, given, quotas_of};
 ghost use Rattle.define_conflicts.specs.OnlyQuotas.{only};

@@ -4,13 +4,13 @@ use Rattle.std.specs.Prelude.{count_by}
 use Rattle.std.specs.List.{AllByRecursion, list_all}
 use Rattle.std.proofs.lemmas.Bool.{cases_lt}
 use Rattle.std.proofs.Math.Nat.{mul-le-mul_left}
-use Rattle.laws_basic.proofs.Each.{each_from_list_all, each_map}
-use Rattle.laws_basic.proofs.Sums.{sum_by-is-total, total}
+use Rattle.define_pools.proofs.Each.{each_from_list_all, each_map}
+use Rattle.define_pools.proofs.Sums.{sum_by-is-total, total}
 use Rattle.define_pools.specs.declared.Standing.{Standing}
 use Rattle.define_pools.specs.declared.Standing.TheVariants.{Seated, Gone}
 use Rattle.define_pools.specs.Lists.{includes}
 use Rattle.define_pools.specs.Pool.{Pool, allows}
-use Rattle.define_additions.specs.Leaves.{standings}
+use Rattle.define_proofs.specs.Leaves.{standings}
 use Rattle.define_conflicts.specs.declared.Counted.{Counted}
 use Rattle.define_conflicts.specs.declared.Counted.TheVariants.{Everybody, WithValue, OfHousehold}
 use Rattle.define_conflicts.specs.declared.Quota.{Quota}

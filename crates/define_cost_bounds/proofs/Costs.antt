@@ -2,7 +2,7 @@
 use Rattle.std.proofs.Common.{◌≡◌, ℕ, suc, ◌+◌, ◌<◌, List, [], ◌∷◌, ◌++◌, length, get_or, refl, sym, ap, ap₂, ◌∙◌, arith}
 use Rattle.std.specs.Prelude.{sum_by}
 use Rattle.std.specs.List.{AllByRecursion, enumerate_from, flat_map}
-use Rattle.laws_basic.proofs.Sums.{sum_by-is-total, total, total_eq}
+use Rattle.define_pools.proofs.Sums.{sum_by-is-total, total, total_eq}
 use Rattle.define_pools.specs.Pool.{BoundedValue, Category, Pool, members_with}
 use Rattle.define_conflicts.specs.Quotas.{category_at, miss, misses, value_at}
 use Rattle.define_loosenings.specs.Teams.{missed_by, team_cost}

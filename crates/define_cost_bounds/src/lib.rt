@@ -11,7 +11,7 @@ ghost use Rattle.std.specs.List.{list_all};
 ghost use Rattle.define_pools.specs.declared.Standing.{Standing};
 ghost use Rattle.define_pools.specs.declared.Standing.TheVariants.{Gone, Seated};
 ghost use Rattle.define_pools.specs.Pool.{Pool};
-ghost use Rattle.define_additions.specs.Leaves.{standings};
+ghost use Rattle.define_proofs.specs.Leaves.{standings};
 ghost use Rattle.define_conflicts.specs.declared.WeightedQuota.{WeightedQuota};
 ghost use Rattle.define_conflicts.specs.LeastMisses.{asked, given, quotas_of};
 ghost use Rattle.define_cost_bounds.specs.CostBounds.{CostsAt, is_met_by_teams, value_quotas};

@@ -5,7 +5,7 @@ use Rattle.std.specs.Fmt.{decimal}
 use Rattle.std.specs.List.{AllByRecursion, list_all}
 use Rattle.std.specs.Option.{option_map}
 use Rattle.std.proofs.lemmas.Bool.{and_from, and_parts, cond_both, eqb-true, eq-eqb, leb-true, lt-ltb, ltb-true}
-use Rattle.laws_basic.proofs.Each.{each_map}
+use Rattle.define_pools.proofs.Each.{each_map}
 use Rattle.define_pools.specs.Pool.{Pool}
 use Rattle.define_lines.specs.Lines.{line_feed, tab, line_of, fields_of}
 use Rattle.define_lines.specs.Numbers.{number_up_to}
@@ -13,7 +13,7 @@ use Rattle.define_lines.proofs.LineLemmas.{Lacks, fields_of-line_of, line_of-fie
 use Rattle.define_lines.proofs.FieldLemmas.{IsField, decimal_field, line_lacks_feed, plain_field}
 use Rattle.define_lines.proofs.NumberLemmas.{bytes_are, bytes_same, number_again, number_spelled}
 use Rattle.define_bundles.specs.BundleReading.{numbers_up_to, with_number}
-use Rattle.define_proof_texts.specs.ProofText.{close_line, tree_line}
+use Rattle.define_proofs.specs.ProofText.{close_line, tree_line}
 use Rattle.define_covers.specs.Covers.{ByCap, ByClosed, ByHousehold, BySize, ByValue, Cause, FrontLine}
 use Rattle.define_covers.specs.CoverRanges.{is_cause, is_front_line, is_numbered, most_count, value_count}
 use Rattle.define_cover_texts.specs.CoverText.{cause_fields, front_line, most_trees}

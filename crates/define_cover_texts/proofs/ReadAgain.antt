@@ -13,7 +13,7 @@ use Rattle.define_lines.proofs.NumberLemmas.{bytes_same}
 use Rattle.define_bundles.specs.BundleReading as bundles
 use Rattle.define_bundles.specs.BundleText.{Bundle}
 use Rattle.define_bundles.proofs.ReadAgain as bundle_again
-use Rattle.define_proof_texts.specs.ProofText.{bundle_lines, close_line, tree_line}
+use Rattle.define_proofs.specs.ProofText.{bundle_lines, close_line, tree_line}
 use Rattle.define_covers.specs.Covers.{Cover, FrontLine}
 use Rattle.define_covers.specs.CoverRanges.{is_front_line, value_count}
 use Rattle.define_cover_texts.specs.CoverText.{IsCover, cover_line, cover_lines, cover_spelling, front_line, keep_ranges, most_trees, trees_from}

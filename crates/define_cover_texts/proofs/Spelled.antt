@@ -4,7 +4,7 @@ use Rattle.std.specs.Prelude.{bytes_eq, Ok}
 use Rattle.std.specs.List.{list_all}
 use Rattle.std.proofs.lemmas.Bool.{and_from, and_parts, le-leb, ltb-true, not-false}
 use Rattle.std.proofs.lemmas.List.{append-nil, map-append}
-use Rattle.laws_basic.proofs.Each.{list_all-push}
+use Rattle.define_pools.proofs.Each.{list_all-push}
 use Rattle.define_pools.specs.Building.{lowest_kind}
 use Rattle.define_pools.specs.Pool.{Pool}
 use Rattle.define_pools.proofs.BuildingLemmas.{no_kind}
@@ -14,7 +14,7 @@ use Rattle.define_lines.proofs.NumberLemmas.{bytes_are}
 use Rattle.define_bundles.specs.BundleReading as bundles
 use Rattle.define_bundles.specs.BundleText.{Bundle, IsBundle}
 use Rattle.define_bundles.proofs.Spelled as bundle_read
-use Rattle.define_proof_texts.specs.ProofText.{bundle_lines, tree_line}
+use Rattle.define_proofs.specs.ProofText.{bundle_lines, tree_line}
 use Rattle.define_covers.specs.Covers.{Cover, FrontLine}
 use Rattle.define_covers.specs.CoverRanges.{is_front_line}
 use Rattle.define_cover_texts.specs.CoverText.{IsCover, cover_line, cover_lines, cover_spelling, front_line, keep_ranges, lines_before_close, most_trees, tree_lines, trees_from}

@@ -10,7 +10,7 @@ use Rattle.define_lines.specs.Reading.{Reader, read_lines}
 use Rattle.define_bundles.specs.BundleReading as bundles
 use Rattle.define_bundles.specs.BundleReading.{numbers_up_to}
 use Rattle.define_bundles.specs.BundleText.{Bundle}
-use Rattle.define_proof_texts.specs.ProofText.{close_line, tree_line}
+use Rattle.define_proofs.specs.ProofText.{close_line, tree_line}
 use Rattle.define_covers.specs.Covers.{ByCap, ByClosed, ByHousehold, BySize, ByValue, Cause, Cover, FrontLine}
 use Rattle.define_covers.specs.CoverRanges.{is_front_line, most_count, value_count}
 use Rattle.define_cover_texts.specs.CoverText.{cover_line, most_trees}

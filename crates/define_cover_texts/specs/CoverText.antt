@@ -6,7 +6,7 @@ use Rattle.std.specs.List.{enumerate_from, list_all}
 use Rattle.define_pools.specs.Pool.{Pool}
 use Rattle.define_lines.specs.Lines.{line_of, text_of}
 use Rattle.define_bundles.specs.BundleText.{Bundle, IsBundle}
-use Rattle.define_proof_texts.specs.ProofText.{bundle_lines, close_line, tree_line}
+use Rattle.define_proofs.specs.ProofText.{bundle_lines, close_line, tree_line}
 use Rattle.define_covers.specs.Covers.{ByCap, ByClosed, ByHousehold, BySize, ByValue, Cause, Cover, FrontLine}
 use Rattle.define_covers.specs.CoverRanges.{is_front_line}
 

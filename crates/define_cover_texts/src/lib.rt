@@ -1,5 +1,5 @@
 //! The text of a cover, and the first fault of bytes that are no cover's text. The definitions are in `specs/`. Stands on `define_covers`,
-//! `define_bundles`, `define_proof_texts`, whose trees have the same first and last lines, and `define_lines`. Used by `cover_text`, which
+//! `define_bundles`, `define_proofs`, whose trees have the same first and last lines, and `define_lines`. Used by `cover_text`, which
 //! holds, reads and writes covers, and by the crates above it.
 //!
 //! The functions have no body. Their contracts are the promises: laws over the definitions, and worked examples.
@@ -11,7 +11,7 @@ ghost use Rattle.define_checks.specs.WorkedChecks.{refused};
 ghost use Rattle.define_lines.specs.Lines.{line_of, text_of};
 ghost use Rattle.define_pools.specs.Lists.{is_increasing};
 ghost use Rattle.define_pools.specs.WorkedExamples.{four};
-ghost use Rattle.define_proof_texts.specs.ProofText.{close_line, tree_line};
+ghost use Rattle.define_proofs.specs.ProofText.{close_line, tree_line};
 ghost use Rattle.define_covers.specs.Covers.{ByCap, ByClosed, ByHousehold, BySize, ByValue, Cover};
 ghost use Rattle.define_covers.specs.WorkedCovers.{at, either_cover, four_cover};
 ghost use Rattle.define_cover_texts.specs.CoverText.{IsCover, cover_lines, cover_spelling, lines_before_close};

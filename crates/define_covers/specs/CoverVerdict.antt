@@ -1,5 +1,5 @@
 -- The verdict on a cover: the reasons of a check, with 11 and 12, the reasons of a tree's lines, in the place of 8, which needs a search.
--- Builds on FrontOrder and Causes, on Caps and Reasons of `define_checks`, and on TreeLines and ProofVerdict of `define_additions`. An
+-- Builds on FrontOrder and Causes, on Caps and Reasons of `define_checks`, and on TreeLines and ProofVerdict of `define_proofs`. An
 -- auditor of covers reads this file.
 use Rattle.std.specs.Prelude.{ℕ, ◌+◌, if◌then◌else◌, List, [], ◌∷◌, ◌++◌, drop, length, map, slice_index_or, Option, Some, None}
 use Rattle.define_bundles.specs.BundleText.{Bundle, lines_before_done}
@@ -11,8 +11,8 @@ use Rattle.define_pools.specs.Lottery.{Lottery}
 use Rattle.define_pools.specs.Pool.{Pool}
 use Rattle.define_rows.specs.Row.{Row}
 use Rattle.define_searches.specs.Classes.{Classes}
-use Rattle.define_additions.specs.ProofVerdict.{line_reason, listed_reasons}
-use Rattle.define_additions.specs.TreeLines.{TreeFault, fault}
+use Rattle.define_proofs.specs.ProofVerdict.{line_reason, listed_reasons}
+use Rattle.define_proofs.specs.TreeLines.{TreeFault, fault}
 use Rattle.define_covers.specs.Causes.{applies}
 use Rattle.define_covers.specs.Covers.{Cover, FrontLine}
 use Rattle.define_covers.specs.FrontOrder.{continues, turned}

@@ -12,7 +12,7 @@ use Rattle.define_pools.specs.Pool.{Pool, everybody}
 use Rattle.define_rows.specs.Row.{Row}
 use Rattle.define_searches.specs.Classes.{Classes}
 use Rattle.define_searches.specs.Fronts.{is_live_above}
-use Rattle.define_additions.specs.CapsHold.{CapsHold}
+use Rattle.define_proofs.specs.CapsHold.{CapsHold}
 use Rattle.define_covers.specs.Causes.{applies}
 use Rattle.define_covers.specs.Covers.{Cause, Cover, FrontLine}
 use Rattle.define_covers.specs.CoverVerdict.{first_tree, later_trees, verdict}

@@ -5,7 +5,7 @@ use Rattle.std.specs.Char.{is_ascii_digit}
 use Rattle.std.specs.List.{range_with_len}
 use Rattle.std.proofs.lemmas.Bool.{ltb-true}
 use Rattle.std.proofs.lemmas.List.Sums.{sum-map}
-use Rattle.laws_basic.proofs.Found.{find-passes}
+use Rattle.define_pools.proofs.Found.{find-passes}
 use Rattle.define_pools.specs.Lottery.{Lottery, TotalAgrees}
 use Rattle.define_draws.specs.declared.Named.{Named}
 use Rattle.define_draws.specs.declared.DiceStop.{DiceStop}

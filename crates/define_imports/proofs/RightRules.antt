@@ -4,7 +4,7 @@ use Rattle.std.specs.List.{list_all}
 use Rattle.std.specs.Str.{bytes_eq}
 use Rattle.std.proofs.lemmas.Bool.{false≢true, and_parts, and_from, or_parts, not-false, not_from_false, leb-false, le-leb}
 use Rattle.std.proofs.lemmas.List.{length_push, map_push}
-use Rattle.laws_basic.proofs.Each.{list_all-push}
+use Rattle.define_pools.proofs.Each.{list_all-push}
 use Rattle.define_pools.specs.Lists.{includes_list, all_different}
 use Rattle.define_pools.specs.Pool.{BoundedValue, Category, are_bounds, is_category, is_name, is_value}
 use Rattle.define_pools.specs.Building.{category_names, value_names}

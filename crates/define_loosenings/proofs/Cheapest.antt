@@ -3,7 +3,7 @@ use Rattle.std.proofs.Common.{◌≡◌, ℕ, ◌≤◌, ◌<◌, Bool, true, fa
 use Rattle.std.specs.Prelude.{Contains}
 use Rattle.std.specs.List.{AllByRecursion}
 use Rattle.std.proofs.lemmas.Bool.{ltb-true, ltb-false}
-use Rattle.laws_basic.proofs.Each.{each_map, each_both}
+use Rattle.define_pools.proofs.Each.{each_map, each_both}
 use Rattle.define_searches.specs.Best.{comes_before}
 use Rattle.define_searches.proofs.Contained.{contains_first, contains_later}
 use Rattle.define_searches.proofs.Order.{Ordered, not_back}

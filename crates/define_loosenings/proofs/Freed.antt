@@ -5,8 +5,8 @@ use Rattle.std.specs.List.{list_all, enumerate_from, AllByRecursion}
 use Rattle.std.proofs.lemmas.Bool.{and_parts, and_from, eqb-true, le-leb, ltb-true}
 use Rattle.std.proofs.lemmas.List.Elements.{filter_agree}
 use Rattle.std.proofs.lemmas.List.Sums.{count_by-le-length}
-use Rattle.laws_basic.proofs.Each.{each_from_list_all, each_map}
-use Rattle.laws_basic.proofs.Sums.{sum_by-is-total, total}
+use Rattle.define_pools.proofs.Each.{each_from_list_all, each_map}
+use Rattle.define_pools.proofs.Sums.{sum_by-is-total, total}
 use Rattle.define_pools.specs.Pool.{BoundedValue, Category, Pool, Volunteer, volunteer, is_of_size, is_quota_panel, is_within, keeps_households, keeps_standings, members_with, meets_quotas}
 use Rattle.define_searches.specs.declared.Bounds.{Bounds}
 use Rattle.define_searches.specs.Classes.{Class, Classes, MakesClasses, bounds_of, class_by, classes_by, leaders}

@@ -2,7 +2,7 @@
 use Rattle.std.proofs.Common.{◌≡◌, ℕ, ◌≤◌, Bool, true, List, [], ◌∷◌, filter, Option, Some, None, refl, sym, ap, ◌∙◌, arith, subst}
 use Rattle.std.specs.Prelude.{◌↔◌, ◌≢◌, option_map}
 use Rattle.std.specs.List.{AllByRecursion}
-use Rattle.laws_basic.proofs.Each.{each_filter_passes}
+use Rattle.define_pools.proofs.Each.{each_filter_passes}
 use Rattle.define_pools.specs.Pool.{Pool, is_quota_panel, panels}
 use Rattle.define_pools.proofs.AllPanels.{each_panel}
 use Rattle.define_searches.specs.Classes.{MakesClasses, are_alike, classes_by, classes_of}

@@ -3,8 +3,8 @@ use Rattle.std.proofs.Common.{◌≡◌, ℕ, ◌+◌, ◌≤◌, Bool, true, �
 use Rattle.std.specs.List.{list_all, enumerate_from}
 use Rattle.std.proofs.lemmas.Bool.{and_parts, and_from, leb-true, le-leb}
 use Rattle.std.proofs.lemmas.List.Sums.{count_by-le-length}
-use Rattle.laws_basic.proofs.Each.{list_all_equal}
-use Rattle.laws_basic.proofs.Sums.{sum_by-is-total, total, total_ext}
+use Rattle.define_pools.proofs.Each.{list_all_equal}
+use Rattle.define_pools.proofs.Sums.{sum_by-is-total, total, total_ext}
 use Rattle.define_pools.specs.Lists.{all_different}
 use Rattle.define_pools.specs.Pool.{BoundedValue, Category, IsPool, Pool, Volunteer, are_bounds, has_values, is_category, is_name, is_quota_panel, is_value, is_within, meets_quotas, members_with, volunteer}
 use Rattle.define_loosenings.specs.Teams.{DifferInBounds, bounds_moved, distance, is_team, loosened, loosened_category, loosened_value, missed_by, names_of_values, team_cost, values_moved}

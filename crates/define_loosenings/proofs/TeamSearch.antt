@@ -5,8 +5,8 @@ use Rattle.std.proofs.lemmas.Bool.{and_parts, and_from, eqb-true, eq-eqb, leb-tr
 use Rattle.std.proofs.lemmas.List.{map-append, map-id, append-nil}
 use Rattle.std.proofs.lemmas.List.Elements.{filter-append}
 use Rattle.std.proofs.lemmas.List.Sums.{fold-append}
-use Rattle.laws_basic.proofs.Each.{each_map, each_mapped, each_filter, each_everywhere, list_all_implies}
-use Rattle.laws_basic.proofs.Sums.{sum_by-is-total, total_le}
+use Rattle.define_pools.proofs.Each.{each_map, each_mapped, each_filter, each_everywhere, list_all_implies}
+use Rattle.define_pools.proofs.Sums.{sum_by-is-total, total_le}
 use Rattle.define_searches.specs.declared.Bounds.{Bounds}
 use Rattle.define_searches.specs.Classes.{Class, Classes, IsSearchable}
 use Rattle.define_searches.specs.Compositions.{counts_of, all_counts, taken_of, has_value, is_of_household, takes_one_of, takes_one_a_household}

@@ -5,7 +5,7 @@ use Rattle.std.specs.Str.{is_utf8, chars}
 use Rattle.std.proofs.lemmas.Bool.{and_from, le-leb, lt-ltb}
 use Rattle.std.proofs.lemmas.List.FromFn.{length-map-range_with_len, length-range_with_len}
 use Rattle.std.proofs.lemmas.List.Sums.{count_by-le-length}
-use Rattle.laws_basic.proofs.Each.{each_range, list_all_from_each}
+use Rattle.define_pools.proofs.Each.{each_range, list_all_from_each}
 use Rattle.define_pools.specs.Lists.{is_increasing}
 use Rattle.define_pools.specs.Pool.{Volunteer, IsPool, is_category, is_household, is_name, is_quota_panel, has_values, members_with, meets_quotas, volunteer}
 use Rattle.define_pools.proofs.AllPanels.{quota_from}

@@ -14,9 +14,9 @@ use Rattle.std.proofs.lemmas.List.Folds.{list_all-map}
 use Rattle.std.proofs.lemmas.Slice.Eq.{bytes_eq-Decides}
 use Rattle.std.proofs.lemmas.Str.{IsUtf8-from_ascii, is_utf8-from_IsUtf8}
 use Rattle.std.proofs.lemmas.Str.Parse.{digit_from_value}
-use Rattle.laws_basic.proofs.Each.{each_everywhere, each_range, list_all_from_each}
-use Rattle.laws_basic.proofs.Lists.{map-map}
-use Rattle.laws_basic.proofs.Sums.{sum_by-is-total, total-zero}
+use Rattle.define_pools.proofs.Each.{each_everywhere, each_range, list_all_from_each}
+use Rattle.define_pools.proofs.Lists.{map-map}
+use Rattle.define_pools.proofs.Sums.{sum_by-is-total, total-zero}
 use Rattle.define_pools.specs.Building.{ids}
 use Rattle.define_pools.specs.Lists.{all_different, includes, includes_list}
 use Rattle.define_pools.specs.Pool.{Volunteer, allows, is_name, keeps_name_limits, has_values, keeps_households, members_with, share_household, volunteer}

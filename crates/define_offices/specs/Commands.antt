@@ -3,7 +3,7 @@ use Rattle.std.specs.Prelude.{ℕ, List, Option}
 use Rattle.define_pools.specs.Pool.{Category}
 use Rattle.define_bundles.specs.BundleText.{Bundle}
 use Rattle.define_runs.specs.Run.{Ending, Limits}
-use Rattle.define_additions.specs.ProofVerdict.{Proof}
+use Rattle.define_proofs.specs.ProofVerdict.{Proof}
 use Rattle.define_checks.specs.Reasons as reasons
 use Rattle.define_offices.specs.declared.Part.{Part}
 use Rattle.define_offices.specs.declared.Phase.{Phase}

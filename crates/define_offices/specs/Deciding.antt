@@ -14,10 +14,10 @@ use Rattle.define_draws.specs.declared.DiceStop.TheVariants as dice
 use Rattle.define_draws.specs.Draw as draws
 use Rattle.define_draws.specs.Draw.{drawn_with}
 use Rattle.define_draws.specs.Seal.{is_seal, seal_of}
-use Rattle.define_pool_texts.specs.PoolText.{spelling}
+use Rattle.define_bundles.specs.PoolText.{spelling}
 use Rattle.define_checks.specs.Reasons as reasons
 use Rattle.define_checks.specs.Reasons.{Verdict}
-use Rattle.define_additions.specs.ProofVerdict.{OfLottery, OfNoPanel, Proof, verdict}
+use Rattle.define_proofs.specs.ProofVerdict.{OfLottery, OfNoPanel, Proof, verdict}
 use Rattle.define_runs.specs.Run as run
 use Rattle.define_runs.specs.Run.{Ending}
 use Rattle.define_offices.specs.declared.Part.TheVariants as part

@@ -8,7 +8,7 @@ use Rattle.define_pools.specs.Lottery.{TotalAgrees, LeximinGreatest}
 use Rattle.define_pools.specs.Pool.{Category, is_category, is_household, is_name, is_size}
 use Rattle.define_bundles.specs.BundleText.{Bundle, IsBundle}
 use Rattle.define_draws.specs.Dice.{name_ticket}
-use Rattle.define_proof_texts.specs.ProofText.{IsProof}
+use Rattle.define_proofs.specs.ProofText.{IsProof}
 use Rattle.define_runs.specs.Keeps.{AreLimits}
 use Rattle.define_offices.specs.Tables.{Charter, Entry, Round, Open, Solved, Sealed, Drawn, Tables, bundle_of, round_at}
 use Rattle.define_offices.specs.Commands.{Given, Command, SetCharter, SetRules, Register, Solve, Keep, Seal, Draw, Drop, NextRound, Show, Withdraw}

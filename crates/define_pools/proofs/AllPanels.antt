@@ -2,7 +2,7 @@
 use Rattle.std.proofs.Common.{◌≡◌, ℕ, zero, suc, ◌+◌, ◌≤◌, ◌<◌, true, ◌&&◌, eqb, ltb, List, [], ◌∷◌, map, length, sym, ⊎_elim, arith, subst}
 use Rattle.std.specs.List.{list_all, AllByRecursion, range_with_len}
 use Rattle.std.proofs.lemmas.Bool.{and_from, and_parts, cases_eq, eq-eqb, eqb-true, ltb-true}
-use Rattle.laws_basic.proofs.Each.{each_from_list_all, each_from_filter, each_map, each_left, each_of_map, each_right}
+use Rattle.define_pools.proofs.Each.{each_from_list_all, each_from_filter, each_map, each_left, each_of_map, each_right}
 use Rattle.define_pools.specs.Lists.{choices, is_increasing}
 use Rattle.define_pools.specs.Pool.{Pool, everybody, is_quota_panel, panels, keeps_standings, keeps_households, meets_quotas}
 

@@ -9,8 +9,8 @@ use Rattle.std.proofs.lemmas.List.{length_push, map_push, nil_from_length}
 use Rattle.std.proofs.lemmas.List.Folds.{list_any-append}
 use Rattle.define_pools.specs.declared.Standing.{Standing}
 use Rattle.define_pools.specs.declared.Standing.TheVariants.{Open}
-pub use Rattle.laws_basic.proofs.Each.{list_all-push as list_all_push}
-use Rattle.laws_basic.proofs.Each.{list_all-push}
+pub use Rattle.define_pools.proofs.Each.{list_all-push as list_all_push}
+use Rattle.define_pools.proofs.Each.{list_all-push}
 use Rattle.define_pools.specs.Lists.{includes_list, all_different}
 use Rattle.define_pools.specs.Pool.{BoundedValue, Category, Volunteer, Pool, keeps_name_limits, is_name, is_size, are_bounds, is_value, is_category, has_values, is_household, IsPool}
 use Rattle.define_pools.specs.Building.{category_names, value_names, ids, last_values, with_value, place_of, places_of, are_known, empty_pool, size_kind, category_added, category_kind, value_added, value_kind, volunteer_added, volunteer_kind, with_standing, standing_set, with_household, household_set, household_kind}

@@ -6,9 +6,9 @@ use Rattle.std.specs.List.{AllByRecursion}
 use Rattle.std.proofs.lemmas.Bool.{and_from, or_cases, cases_Bool, eqb-true, leb-true, ltb-true, false≢true, not_from_false}
 use Rattle.std.proofs.lemmas.Bool.Decides.{Decides-int_eq}
 use borrow.Author.Differences.{up, down, sum_is_lem, le-true, true_is_le, true_is_lt}
-use Rattle.laws_basic.proofs.Tests.{implied}
-use Rattle.laws_basic.proofs.Sums.{total, sum_by-is-total, total_le, total_same, total_eq, total_ext}
-use Rattle.laws_basic.proofs.Each.{each_from_list_all, each_from_filter, each_map, each_both, each_everywhere}
+use Rattle.define_pools.proofs.Tests.{implied}
+use Rattle.define_pools.proofs.Sums.{total, sum_by-is-total, total_le, total_same, total_eq, total_ext}
+use Rattle.define_pools.proofs.Each.{each_from_list_all, each_from_filter, each_map, each_both, each_everywhere}
 use Rattle.define_pools.specs.Lists.{includes, rising}
 use Rattle.define_pools.specs.Pool.{Pool, everybody, panels, is_quota_panel}
 use Rattle.define_pools.specs.Lottery.{LotteryRow, Lottery, IsLottery, LeximinGreatest, count, counts, is_above}

@@ -1,4 +1,9 @@
+pub mod Each
+pub mod Found
+pub mod Integers
+pub mod Lists
 pub mod Sums
+pub mod Tests
 pub mod Orders
 pub mod Weights
 pub mod OneStage

@@ -1,8 +1,8 @@
 -- One stage, in numbers. Its cap bounds the weighted sums of two lotteries, so those whom it settles have equal chances in both.
 use Rattle.std.proofs.Common.{◌≡◌, ℕ, ◌+◌, ◌*◌, ◌≤◌, ◌<◌, Bool, true, false, List, [], ◌∷◌, refl, sym, ap, ◌∙◌, ⊎_elim, arith, mul-le-mul_right, mul-le-mul_left, le_of_mul-le-mul_right, le_antisymm, le_of_eq, mul_comm, eq-zero-or-pos}
 use Rattle.std.specs.List.{AllByRecursion}
-use Rattle.laws_basic.proofs.Sums.{total, total_le, total_same, total-add}
-use Rattle.laws_basic.proofs.Each.{each_map, each_both}
+use Rattle.define_pools.proofs.Sums.{total, total_le, total_same, total-add}
+use Rattle.define_pools.proofs.Each.{each_map, each_both}
 use Rattle.define_pools.proofs.Orders.{Known}
 
 pub cancel : (a b k : ℕ) → 0 < k → a * k ≡ b * k → a ≡ b

@@ -2,8 +2,8 @@
 use Rattle.std.proofs.Common.{◌≡◌, ℕ, zero, suc, ◌+◌, ◌*◌, ◌≤◌, ◌<◌, Bool, true, false, cond, leb, ltb, eqb, List, [], ◌∷◌, map, refl, sym, ap, ◌∙◌, ⊎_elim, true≢false, arith, le_refl, le_of_lt, le_of_eq, mul-le-mul_right}
 use Rattle.std.specs.List.{AllByRecursion}
 use Rattle.std.proofs.lemmas.Bool.{leb-true, leb-false, le-leb, lt-leb, cases_lt, le-ltb, eqb-true}
-use Rattle.laws_basic.proofs.Sums.{total, total_same, total_eq}
-use Rattle.laws_basic.proofs.Each.{each_map, each_both}
+use Rattle.define_pools.proofs.Sums.{total, total_same, total_eq}
+use Rattle.define_pools.proofs.Each.{each_map, each_both}
 use Rattle.define_pools.specs.Lists.{put_in_order, rising}
 use Rattle.define_pools.specs.Lottery.{first_is_greater}
 

@@ -2,7 +2,7 @@
 use Rattle.std.proofs.Common.{◌≡◌, ℕ, zero, suc, ◌+◌, ◌*◌, ◌≤◌, ◌<◌, Bool, true, false, cond, ◌||◌, eqb, ltb, List, [], ◌∷◌, refl, sym, ap, ◌∙◌, arith, true≢false}
 use Rattle.std.specs.List.{list_all, AllByRecursion, range_with_len}
 use Rattle.std.proofs.lemmas.Bool.{and_parts, eqb-true, ne_eqb, eq-eqb, ltb-true}
-use Rattle.laws_basic.proofs.Sums.{total, total_ext, total-add, total-scaled, total-zero}
+use Rattle.define_pools.proofs.Sums.{total, total_ext, total-add, total-scaled, total-zero}
 use Rattle.define_pools.specs.Lists.{includes, is_increasing}
 use Rattle.define_pools.specs.Lottery.{LotteryRow}
 

@@ -1,5 +1,5 @@
 -- Building a pool step by step: what each step adds, and the kinds of fault that a step may have, by their numbers in the text of a pool.
--- If several kinds apply, the fault has the lowest. Builds on Lists and Pool. `pool_model` builds pools this way, and `define_pool_texts`
+-- If several kinds apply, the fault has the lowest. Builds on Lists and Pool. `pool_model` builds pools this way, and `define_bundles`
 -- uses the kinds. The definitions of bundles, proofs, imports and offices use parts of it, as `lowest_kind` and `category_names`.
 use Rattle.std.specs.Prelude.{ℕ, zero, suc, ◌+◌, ◌==◌, nat_lt, nat_le, if◌then◌else◌, Bool, true, not, ◌&&◌, ◌||◌, List, [], ◌∷◌, ◌++◌, map, length, bytes_eq, Option, Some, None, unwrap_or, option_map}
 use Rattle.define_pools.specs.declared.Standing.{Standing}

@@ -5,7 +5,7 @@ use Rattle.std.specs.List.{range_with_len}
 use Rattle.std.proofs.Math.ListN.{get_or-map}
 use Rattle.std.proofs.lemmas.List.{get_or_read, map-append, map_more}
 use Rattle.std.proofs.lemmas.List.FromFn.{get_or-map-range_with_len, map-range_with_len_more}
-use Rattle.laws_basic.proofs.Lists.{filter_passed, filter_taken}
+use Rattle.define_pools.proofs.Lists.{filter_passed, filter_taken}
 use Rattle.frac128.specs.Fractions.{lowest_of}
 use Rattle.define_pools.specs.declared.Standing.{Standing}
 use Rattle.define_pools.specs.declared.Standing.TheVariants.{Gone}

@@ -8,7 +8,7 @@ use Rattle.frac128.specs.Fractions.{Fraction, fraction_text, lowest_of}
 use Rattle.define_pools.specs.Lottery.{Lottery, count}
 use Rattle.define_pools.specs.Pool.{BoundedValue, Category, Pool, Volunteer, allows, everybody, members_with, volunteer}
 use Rattle.define_lines.specs.Lines.{line_of, text_of}
-use Rattle.define_pool_texts.specs.PoolText.{end_line}
+use Rattle.define_bundles.specs.PoolText.{end_line}
 use Rattle.define_bundles.specs.BundleText.{Bundle, total_line}
 use Rattle.define_draws.specs.Draw as draws
 use Rattle.define_made_pools.specs.Summary.{field_line, number_line}

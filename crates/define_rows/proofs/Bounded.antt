@@ -2,7 +2,7 @@
 use Rattle.std.proofs.Common.{◌≡◌, ◌≢◌, ℕ, zero, suc, ◌<◌, Bool, true, false, cond, List, [], ◌∷◌, length, get_or, ℤ, pos, ◌*ℤ◌, ◌≤ℤ◌, ◌<ℤ◌, refl, sym, ap, ◌∙◌, subst, arith, inl, inr, ◌⊎◌}
 use Rattle.std.proofs.lemmas.Int.{ints}
 use Rattle.std.proofs.lemmas.Bool.{cases_eq}
-use Rattle.laws_basic.proofs.Integers.{mul-zero, le-unscaled, product-not_negative, product-not_positive, factor-not_negative, factor-positive, other-zero}
+use Rattle.define_pools.proofs.Integers.{mul-zero, le-unscaled, product-not_negative, product-not_positive, factor-not_negative, factor-positive, other-zero}
 use Rattle.define_rows.specs.declared.Var.{Var}
 use Rattle.define_rows.specs.declared.Var.TheVariants.{Slack, Stage, Column}
 use Rattle.define_rows.specs.Row.{Row}

@@ -6,11 +6,11 @@ use Rattle.std.specs.Option.{option_map, option_and_then}
 use Rattle.std.specs.List.{AllByRecursion, list_all, range_with_len}
 use Rattle.std.proofs.lemmas.Int.{ints}
 use Rattle.std.proofs.lemmas.Bool.{and_parts}
-use Rattle.laws_basic.proofs.Integers.{lt-tested}
-use Rattle.laws_basic.proofs.Found.{find-each, find-passes}
-use Rattle.laws_basic.proofs.Each.{each_append, each_range, each_mapped, range_each, each_left, each_of_map, each_from_list_all}
-pub use Rattle.laws_basic.proofs.Each.{list_all_from_each as all_from_each, each_from_list_all as each_from_all}
-pub use Rattle.laws_basic.proofs.Found.{find-none}
+use Rattle.define_pools.proofs.Integers.{lt-tested}
+use Rattle.define_pools.proofs.Found.{find-each, find-passes}
+use Rattle.define_pools.proofs.Each.{each_append, each_range, each_mapped, range_each, each_left, each_of_map, each_from_list_all}
+pub use Rattle.define_pools.proofs.Each.{list_all_from_each as all_from_each, each_from_list_all as each_from_all}
+pub use Rattle.define_pools.proofs.Found.{find-none}
 use Rattle.define_rows.specs.declared.Var.{Var}
 use Rattle.define_rows.specs.declared.Var.TheVariants.{Slack, Stage, Column}
 use Rattle.define_rows.specs.Table.{Table, coefficient_at, row_at, basic_at, row_numbers, variables, comes_before}

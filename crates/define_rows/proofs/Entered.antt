@@ -8,9 +8,9 @@ use Rattle.std.proofs.lemmas.List.{get_or-map, get_or_past, length-map}
 use Rattle.std.proofs.lemmas.List.Quantifiers.{position-Some}
 use Rattle.std.proofs.lemmas.List.Sums.{sum_by-cons}
 use Rattle.std.proofs.lemmas.List.Elements.{All-from_recursion}
-use Rattle.laws_basic.proofs.Each.{each_from_list_all}
-use Rattle.laws_basic.proofs.Found.{find-passes, find-each}
-use Rattle.laws_basic.proofs.Integers.{mul-zero, lt-tested, eq-tested}
+use Rattle.define_pools.proofs.Each.{each_from_list_all}
+use Rattle.define_pools.proofs.Found.{find-passes, find-each}
+use Rattle.define_pools.proofs.Integers.{mul-zero, lt-tested, eq-tested}
 use Rattle.define_rows.specs.declared.Var.{Var}
 use Rattle.define_rows.specs.declared.Var.TheVariants.{Slack, Stage, Column}
 use Rattle.define_rows.specs.Row.{sum_of_products}

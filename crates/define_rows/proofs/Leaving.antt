@@ -5,9 +5,9 @@ use Rattle.std.specs.Prelude.{int_lt}
 use Rattle.std.specs.Option.{option_map, option_and_then}
 use Rattle.std.proofs.lemmas.Int.{ints}
 use Rattle.std.proofs.lemmas.Bool.{cases_eq}
-use Rattle.laws_basic.proofs.Integers.{lt-tested}
-use Rattle.laws_basic.proofs.Each.{list_all_from_each}
-use Rattle.laws_basic.proofs.Found.{find-none}
+use Rattle.define_pools.proofs.Integers.{lt-tested}
+use Rattle.define_pools.proofs.Each.{list_all_from_each}
+use Rattle.define_pools.proofs.Found.{find-none}
 use Rattle.define_rows.specs.declared.Var.{Var}
 use Rattle.define_rows.specs.Table.{Table, coefficient_at, row_at, basic_at, row_numbers}
 use Rattle.define_rows.specs.Choice.{may_leave, leaves_before, is_least, leaving, entering, choice}

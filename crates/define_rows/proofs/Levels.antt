@@ -8,8 +8,8 @@ use Rattle.std.proofs.Math.Nat.{eq_of_mul-eq-mul_right, mul-div_cancel', dvd_tra
 use Rattle.std.proofs.lemmas.Int.{ints}
 use Rattle.std.proofs.lemmas.List.Sums.{sum_by-cons}
 use Rattle.std.proofs.lemmas.List.Elements.{recursion_from_All}
-use Rattle.laws_basic.proofs.Lists.{all_pass}
-use Rattle.laws_basic.proofs.Integers.{mul_comm, neg-mul, mul-zero, as_natural, same_pos}
+use Rattle.define_pools.proofs.Lists.{all_pass}
+use Rattle.define_pools.proofs.Integers.{mul_comm, neg-mul, mul-zero, as_natural, same_pos}
 use Rattle.frac128.specs.Fractions.{lowest_of}
 use Rattle.define_rows.specs.declared.Var.{Var}
 use Rattle.define_rows.specs.declared.Var.TheVariants.{Slack, Stage, Column}

@@ -7,8 +7,8 @@ use Rattle.std.specs.Option.{option_and_then}
 use Rattle.std.proofs.Math.Nat.{mul-div_cancel'}
 use Rattle.std.proofs.lemmas.Int.{ints}
 use Rattle.std.proofs.lemmas.List.Elements.{All-from_get_or}
-use Rattle.laws_basic.proofs.Found.{position-None}
-use Rattle.laws_basic.proofs.Integers.{mul_comm, mul_assoc, mul-left_comm, mul-zero, one-mul, same-unscaled, as_natural, same_pos, zero-mul}
+use Rattle.define_pools.proofs.Found.{position-None}
+use Rattle.define_pools.proofs.Integers.{mul_comm, mul_assoc, mul-left_comm, mul-zero, one-mul, same-unscaled, as_natural, same_pos, zero-mul}
 use Rattle.frac128.specs.Divisors.{gcd_of}
 use Rattle.frac128.specs.Fractions.{lowest_of}
 use Rattle.frac128.proofs.DivisorLaws.{IsGcd-gcd_of}

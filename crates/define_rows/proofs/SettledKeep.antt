@@ -6,7 +6,7 @@ use Rattle.std.proofs.lemmas.Bool.{cases_lt, not-true, not-false}
 use Rattle.std.proofs.lemmas.List.{get_or_append_left, get_or_push, get_or_past, get_or_default, get_or-map, get_or-replicate, length_push, length-map, length-replicate}
 use Rattle.std.proofs.lemmas.List.Sums.{sum_by-cons}
 use Rattle.std.proofs.Math.Bool.{or-true}
-use Rattle.laws_basic.proofs.Integers.{tested-lt}
+use Rattle.define_pools.proofs.Integers.{tested-lt}
 use Rattle.define_rows.specs.declared.Var.{Var}
 use Rattle.define_rows.specs.Row.{Row, entry}
 use Rattle.define_rows.specs.Table.{Table, row_at}

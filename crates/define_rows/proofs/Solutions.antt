@@ -7,8 +7,8 @@ use Rattle.std.proofs.lemmas.Int.{ints}
 use Rattle.std.proofs.lemmas.Bool.{cases_eq, eq-eqb}
 use Rattle.std.proofs.lemmas.List.Elements.{All-from_recursion, recursion_from_All}
 use Rattle.std.proofs.lemmas.List.Kept.{AllPairs-cons}
-use Rattle.laws_basic.proofs.Integers.{tested-lt}
-use Rattle.laws_basic.proofs.Found.{position-None}
+use Rattle.define_pools.proofs.Integers.{tested-lt}
+use Rattle.define_pools.proofs.Found.{position-None}
 use Rattle.define_rows.specs.declared.Var.{Var}
 use Rattle.define_rows.specs.declared.Var.TheVariants.{Slack, Stage, Column}
 use Rattle.define_rows.specs.Table.{Table, coefficient_at, row_at, basic_at, is_same}

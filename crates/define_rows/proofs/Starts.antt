@@ -10,8 +10,8 @@ use Rattle.std.proofs.lemmas.List.Elements.{All-set, All-replicate, recursion_fr
 use Rattle.std.proofs.lemmas.List.Sums.{sum_by-cons}
 use Rattle.std.proofs.lemmas.List.FromFn.{length-range_with_len, get_or-range_with_len}
 use Rattle.std.proofs.lemmas.Nat.Gcd.{dvd_antisymm, dvd_of_mod-eq-zero}
-use Rattle.laws_basic.proofs.Lists.{length-enumerate_from, get_or-enumerate_from}
-use Rattle.laws_basic.proofs.Integers.{mul_comm, neg-mul, mul-zero, one-mul}
+use Rattle.define_pools.proofs.Lists.{length-enumerate_from, get_or-enumerate_from}
+use Rattle.define_pools.proofs.Integers.{mul_comm, neg-mul, mul-zero, one-mul}
 use Rattle.frac128.specs.Divisors.{gcd_of_list}
 use Rattle.frac128.proofs.DivisorLaws.{gcd_of_list-divides}
 use Rattle.define_rows.specs.declared.Var.TheVariants.{Slack, Column}

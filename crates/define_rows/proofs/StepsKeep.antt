@@ -8,9 +8,9 @@ use Rattle.std.proofs.lemmas.Bool.Decides.{Decides-int_eq}
 use Rattle.std.proofs.lemmas.List.{get_or_append_left, get_or_push, get_or_past, get_or_default, get_or-map, length_push, length-map}
 use Rattle.std.proofs.lemmas.List.Elements.{All-push, recursion_from_All}
 use Rattle.std.proofs.lemmas.List.Sums.{sum_by-cons}
-use Rattle.laws_basic.proofs.Each.{list_all_from_each}
-use Rattle.laws_basic.proofs.Found.{find-none}
-use Rattle.laws_basic.proofs.Integers.{product-not_positive}
+use Rattle.define_pools.proofs.Each.{list_all_from_each}
+use Rattle.define_pools.proofs.Found.{find-none}
+use Rattle.define_pools.proofs.Integers.{product-not_positive}
 use Rattle.define_rows.specs.declared.Var.{Var}
 use Rattle.define_rows.specs.declared.Var.TheVariants.{Slack, Stage}
 use Rattle.define_rows.specs.Row.{entry, sum_of_products}

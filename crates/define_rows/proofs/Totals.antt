@@ -4,7 +4,7 @@ use Rattle.std.specs.Prelude.{sum_by, filter_map}
 use Rattle.std.specs.List.{range_with_len, cons_option}
 use Rattle.std.proofs.lemmas.Int.{ints}
 use Rattle.std.proofs.lemmas.List.Sums.{sum_by-cons}
-use Rattle.laws_basic.proofs.Integers.{mul-add, mul-zero}
+use Rattle.define_pools.proofs.Integers.{mul-add, mul-zero}
 use Rattle.define_rows.specs.declared.Var.{Var}
 use Rattle.define_rows.specs.Row.{Row}
 use Rattle.define_rows.specs.Table.{Table, coefficient}

@@ -6,8 +6,8 @@ use Rattle.std.proofs.lemmas.Bool.{cases_lt}
 use Rattle.std.proofs.lemmas.List.{get_or_append_left, get_or_push, map-append, take-append-le, length-map, take_all}
 use Rattle.std.proofs.lemmas.List.Elements.{All-cons, All-nil, All-push, All-from_recursion, recursion_from_All}
 use Rattle.std.proofs.lemmas.List.Sums.{sum-map}
-use Rattle.laws_basic.proofs.Lists.{map_same}
-use Rattle.laws_basic.proofs.Each.{each_mapped}
+use Rattle.define_pools.proofs.Lists.{map_same}
+use Rattle.define_pools.proofs.Each.{each_mapped}
 use Rattle.define_rows.specs.declared.Pass.{Pass}
 use Rattle.define_rows.specs.declared.Var.{Var}
 use Rattle.define_rows.specs.Choice.{choice}

@@ -6,8 +6,8 @@ use Rattle.std.specs.List.{AllByRecursion, AllPairs}
 use Rattle.std.proofs.lemmas.List.Elements.{All-from_recursion, recursion_from_All}
 use Rattle.std.proofs.lemmas.Slice.Eq.{bytes_eq-Decides}
 use Rattle.std.proofs.lemmas.Bool.{false_from_ne_true}
-use Rattle.laws_basic.proofs.Sums.{total, sum_by-is-total}
-use Rattle.laws_basic.proofs.Each.{each_map, each_mapped, each_of_map}
+use Rattle.define_pools.proofs.Sums.{total, sum_by-is-total}
+use Rattle.define_pools.proofs.Each.{each_map, each_mapped, each_of_map}
 use Rattle.frac128.specs.Divisors.{gcd_of}
 use Rattle.frac128.specs.Fractions.{Fraction, lowest_of}
 use Rattle.frac128.proofs.DivisorLaws.{beyond-positive}

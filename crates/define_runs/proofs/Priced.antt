@@ -7,8 +7,8 @@ use Rattle.std.proofs.lemmas.Int.{ints}
 use Rattle.std.proofs.lemmas.Bool.Decides.{Decides-int_eq}
 use Rattle.std.proofs.lemmas.List.{get_or_push}
 use Rattle.std.proofs.lemmas.List.Elements.{All-from_recursion, recursion_from_All}
-use Rattle.laws_basic.proofs.Found.{find-none}
-use Rattle.laws_basic.proofs.Each.{list_all_from_each, each_from_list_all, each_of_map, each_right}
+use Rattle.define_pools.proofs.Found.{find-none}
+use Rattle.define_pools.proofs.Each.{list_all_from_each, each_from_list_all, each_of_map, each_right}
 use Rattle.define_rows.specs.declared.Var.{Var}
 use Rattle.define_rows.specs.declared.Var.TheVariants.{Slack, Stage, Column}
 use Rattle.define_rows.specs.Choice.{is_eligible, basic_row, entering_from, entering, choice}

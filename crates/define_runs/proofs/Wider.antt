@@ -7,7 +7,7 @@ use Rattle.std.specs.Ordering.{int_eq}
 use Rattle.std.proofs.lemmas.Bool.{le-leb}
 use Rattle.std.proofs.Math.Pow.{pow_mono}
 use Rattle.frac128.specs.Divisors.{gcd_of}
-use Rattle.laws_basic.proofs.Each.{list_all_equal}
+use Rattle.define_pools.proofs.Each.{list_all_equal}
 use Rattle.define_rows.specs.declared.Op.{Op}
 use Rattle.define_rows.specs.declared.Op.TheVariants.{Mul, Sub, Add}
 use Rattle.define_rows.specs.declared.Pass.{Pass}

@@ -3,7 +3,7 @@ use Rattle.std.proofs.Common.{◌≡◌, ℕ, Bool, true, false, cond, List, [],
 use Rattle.std.specs.Prelude.{int_le, int_lt, Contains, unwrap_or, ◌↔◌}
 use Rattle.std.specs.List.{AllByRecursion}
 use borrow.Author.Differences.{lt-true, lt-false, true_is_le, true_is_lt}
-use Rattle.laws_basic.proofs.Each.{each_map, each_append}
+use Rattle.define_pools.proofs.Each.{each_map, each_append}
 use Rattle.define_rows.specs.Row.{Row}
 use Rattle.define_searches.specs.Best.{IsBest, Qualifies, comes_before}
 use Rattle.define_searches.specs.Classes.{Classes}

@@ -7,7 +7,7 @@ use Rattle.std.proofs.lemmas.List.{length-drop, append-nil}
 use Rattle.std.proofs.lemmas.List.Elements.{filter-append}
 use Rattle.std.proofs.lemmas.List.Sums.{fold-append}
 use borrow.Author.Differences.{sum_is_lem, same_in, le-true, lt-true, true_is_le, true_is_lt}
-use Rattle.laws_basic.proofs.Each.{each_map, each_mapped, each_filter}
+use Rattle.define_pools.proofs.Each.{each_map, each_mapped, each_filter}
 use Rattle.define_rows.specs.Row.{Row}
 use Rattle.define_searches.specs.Classes.{Class, Classes, IsSearchable}
 use Rattle.define_searches.specs.Compositions.{counts_of, all_counts, taken_of, is_composition, compositions, weight_in, attains, first_greatest, price}

@@ -2,8 +2,8 @@
 use Rattle.std.proofs.Common.{◌≡◌, ℕ, zero, suc, ◌+◌, ◌*◌, ◌≤◌, ◌<◌, Bool, true, false, cond, not, ◌||◌, eqb, List, [], ◌∷◌, refl, sym, ap, ◌∙◌, ⊎_elim, arith, subst, le_of_eq}
 use Rattle.std.specs.List.{list_any, AllByRecursion, range_with_len}
 use Rattle.std.proofs.lemmas.Bool.{cases_Bool, cases_lt, eqb-true, eq-eqb, false≢true}
-use Rattle.laws_basic.proofs.Each.{each_filter, each_map, each_range}
-use Rattle.laws_basic.proofs.Sums.{total, total_eq, total_ext, total-add, total-scaled, total-zero, one_if, total-filter}
+use Rattle.define_pools.proofs.Each.{each_filter, each_map, each_range}
+use Rattle.define_pools.proofs.Sums.{total, total_eq, total_ext, total-add, total-scaled, total-zero, one_if, total-filter}
 use Rattle.define_searches.specs.Classes.{leaders, IsEquivalenceTest}
 use Rattle.define_pools.proofs.Weights.{one_member}
 

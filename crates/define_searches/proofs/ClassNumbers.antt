@@ -5,7 +5,7 @@ use Rattle.std.proofs.lemmas.Bool.{false≢true}
 use Rattle.std.proofs.lemmas.List.{get_or-map, length-map}
 use Rattle.std.proofs.lemmas.List.Elements.{All-from_recursion}
 use Rattle.std.proofs.lemmas.List.Recursion.{is_position_or_len}
-use Rattle.laws_basic.proofs.Sums.{total, one_if}
+use Rattle.define_pools.proofs.Sums.{total, one_if}
 use Rattle.define_pools.specs.Lists.{includes}
 use Rattle.define_pools.specs.Pool.{Pool}
 use Rattle.define_searches.specs.Classes.{Class, MakesClasses, class_by, class_number, class_of, classes_by, leaders}

@@ -2,7 +2,7 @@
 use Rattle.std.proofs.Common.{◌≡◌, ℕ, ◌≤◌, ◌<◌, Bool, true, ltb, List, length, sym, ◌∙◌, subst}
 use Rattle.std.specs.List.{list_all, Contains}
 use Rattle.std.proofs.lemmas.Bool.{ltb-true}
-use Rattle.laws_basic.proofs.Each.{each_from_list_all, each_map}
+use Rattle.define_pools.proofs.Each.{each_from_list_all, each_map}
 use Rattle.define_pools.specs.Lists.{is_increasing}
 use Rattle.define_pools.specs.Pool.{Pool, volunteer, is_quota_panel}
 use Rattle.define_searches.specs.Classes.{MakesClasses, class_of, classes_by, leaders, least_taken, most_taken}

@@ -6,8 +6,8 @@ use Rattle.std.proofs.lemmas.Bool.{and_parts, and_from, eqb-true, eq-eqb, leb-tr
 use Rattle.std.proofs.lemmas.List.{map-append, map-id, append-nil}
 use Rattle.std.proofs.lemmas.List.Elements.{filter-append}
 use Rattle.std.proofs.Math.Seq.{drop-append_seam}
-use Rattle.laws_basic.proofs.Each.{each_map, each_mapped, each_everywhere, none_pass, list_all_implies}
-use Rattle.laws_basic.proofs.Sums.{sum_by-is-total, total}
+use Rattle.define_pools.proofs.Each.{each_map, each_mapped, each_everywhere, none_pass, list_all_implies}
+use Rattle.define_pools.proofs.Sums.{sum_by-is-total, total}
 use Rattle.define_searches.specs.Classes.{Class, Classes, IsSearchable}
 use Rattle.define_searches.specs.Compositions.{counts_of, all_counts, taken_of, has_value, is_of_household, lies_within, meets_bounds, takes_one_of, takes_one_a_household, is_composition, compositions, first_composition}
 use Rattle.define_searches.specs.Fronts.{later_than, most_given, taken_by, size_reachable, value_reachable, values_reachable, is_reachable}

@@ -3,9 +3,9 @@ use Rattle.std.proofs.Common.{◌≡◌, ℕ, zero, suc, ◌+◌, ◌*◌, ◌�
 use Rattle.std.specs.Prelude.{int_le, replicate}
 use Rattle.std.specs.List.{AllByRecursion}
 use borrow.Author.Differences.{up, down, sum_is_lem, le-true, le-false}
-use Rattle.laws_basic.proofs.Each.{each_map}
-use Rattle.laws_basic.proofs.Integers.{product-parts}
-use Rattle.laws_basic.proofs.Sums.{total}
+use Rattle.define_pools.proofs.Each.{each_map}
+use Rattle.define_pools.proofs.Integers.{product-parts}
+use Rattle.define_pools.proofs.Sums.{total}
 use Rattle.define_searches.specs.Classes.{Class}
 use Rattle.define_searches.specs.Compositions.{taken_of, weight_in}
 use Rattle.define_searches.specs.Fronts.{put_falling, falling, units, sum_of, greatest_sum}

@@ -4,9 +4,9 @@ use Rattle.std.specs.Prelude.{is_some, bytes_eq}
 use Rattle.std.specs.List.{find, list_all, AllByRecursion, range_with_len}
 use Rattle.std.proofs.lemmas.Bool.{cases_lt, eqb-true, eq-eqb, leb-true, le-leb, false≢true}
 use Rattle.std.proofs.lemmas.Slice.Eq.{bytes_eq-Decides}
-use Rattle.laws_basic.proofs.Each.{each_everywhere, each_from_list_all, each_map, each_range, list_all_from_each}
-use Rattle.laws_basic.proofs.Found.{find-each, find-none, find-passes}
-use Rattle.laws_basic.proofs.Sums.{total, total_eq, total_ext, total_le, total-zero, one_if, count_by-total}
+use Rattle.define_pools.proofs.Each.{each_everywhere, each_from_list_all, each_map, each_range, list_all_from_each}
+use Rattle.define_pools.proofs.Found.{find-each, find-none, find-passes}
+use Rattle.define_pools.proofs.Sums.{total, total_eq, total_ext, total_le, total-zero, one_if, count_by-total}
 use Rattle.define_pools.specs.Lists.{includes, is_increasing}
 use Rattle.define_pools.specs.Pool.{Pool, Volunteer, volunteer, is_same_household, share_household, keeps_households}
 use Rattle.define_pools.proofs.Weights.{total_panel}

@@ -3,9 +3,9 @@ use Rattle.std.proofs.Common.{◌≡◌, ℕ, ◌+◌, ◌-◌, ◌≤◌, ◌<�
 use Rattle.std.specs.Prelude.{is_some}
 use Rattle.std.specs.List.{list_all, list_any, AllByRecursion, range_with_len, enumerate_from}
 use Rattle.std.proofs.lemmas.Bool.{and_parts, cases_Bool, eqb-true, eq-eqb, ne_eqb, leb-true, ltb-true, false≢true}
-use Rattle.laws_basic.proofs.Sums.{total, total_same, total-ones, one_if, length-filter-total, count_by-total}
-use Rattle.laws_basic.proofs.Lists.{map_same}
-use Rattle.laws_basic.proofs.Each.{each_both, each_everywhere, each_from_filter, each_from_list_all, each_map, each_mapped, list_all-enumerated, list_all_equal, range_each}
+use Rattle.define_pools.proofs.Sums.{total, total_same, total-ones, one_if, length-filter-total, count_by-total}
+use Rattle.define_pools.proofs.Lists.{map_same}
+use Rattle.define_pools.proofs.Each.{each_both, each_everywhere, each_from_filter, each_from_list_all, each_map, each_mapped, list_all-enumerated, list_all_equal, range_each}
 use Rattle.define_pools.specs.declared.Standing.{Standing}
 use Rattle.define_pools.specs.declared.Standing.TheVariants.{Open, Seated, Gone}
 use Rattle.define_pools.specs.Lists.{includes, is_increasing}

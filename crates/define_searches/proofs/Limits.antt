@@ -5,8 +5,8 @@ use Rattle.std.specs.List.{All, AllByRecursion, list_all, list_any, range_with_l
 use Rattle.std.proofs.lemmas.Bool.{and_parts, leb-true, ltb-true, false≢true}
 use Rattle.std.proofs.lemmas.List.{length-map}
 use Rattle.std.proofs.lemmas.List.Elements.{All-from_recursion}
-use Rattle.laws_basic.proofs.Each.{each_map, each_from_list_all, each_mapped, each_range, each_filter}
-use Rattle.laws_basic.proofs.Sums.{total, sum_by-is-total, length-filter-total}
+use Rattle.define_pools.proofs.Each.{each_map, each_from_list_all, each_mapped, each_range, each_filter}
+use Rattle.define_pools.proofs.Sums.{total, sum_by-is-total, length-filter-total}
 use Rattle.define_pools.specs.declared.Standing.{Standing}
 use Rattle.define_pools.specs.declared.Standing.TheVariants.{Open, Seated, Gone}
 use Rattle.define_pools.specs.Lists.{all_different}

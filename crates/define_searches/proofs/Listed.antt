@@ -1,7 +1,7 @@
 -- Properties of the elements of a list that joins one list for each count, from the greatest count down.
 use Rattle.std.proofs.Common.{ℕ, zero, suc, ◌+◌, ◌≤◌, List, [], refl, arith, le_of_eq}
 use Rattle.std.specs.List.{flat_map, AllByRecursion}
-use Rattle.laws_basic.proofs.Each.{each_append}
+use Rattle.define_pools.proofs.Each.{each_append}
 use Rattle.define_searches.specs.Compositions.{counts_down}
 
 -- if P holds of each element of `F c` for each count `c`, it holds of each element of the joined lists

@@ -2,7 +2,7 @@
 use Rattle.std.proofs.Common.{◌≡◌, ℕ, zero, suc, ◌+◌, ◌-◌, ◌<◌, Bool, true, false, cond, ◌&&◌, eqb, ltb, List, [], ◌∷◌, ◌++◌, map, filter, refl, arith, inl, inr, ◌⊎◌}
 use Rattle.std.specs.List.{flat_map, AllByRecursion}
 use Rattle.std.proofs.lemmas.Bool.{and_parts, eq-eqb, eqb-true, lt-ltb, ltb-true, le-ltb, or_cases}
-use Rattle.laws_basic.proofs.Each.{each_map, each_append, each_everywhere, each_filter, each_mapped}
+use Rattle.define_pools.proofs.Each.{each_map, each_append, each_everywhere, each_filter, each_mapped}
 use Rattle.define_searches.specs.Best.{comes_before}
 use Rattle.define_searches.specs.Classes.{Class, Classes}
 use Rattle.define_searches.specs.Compositions.{all_counts, compositions, counts_down, is_composition}

@@ -4,10 +4,10 @@ use Rattle.std.specs.Prelude.{int_le, int_lt, unwrap_or, Option, Some, None}
 use Rattle.std.specs.List.{list_all, AllByRecursion, range_with_len, flat_map, enumerate_from}
 use Rattle.std.proofs.lemmas.Bool.{and_from, cases_lt, eq-eqb, ltb-true, le-leb, false≢true}
 use borrow.Author.Differences.{up, down, sum_is_lem, same_in, true_is_le, lt-false}
-use Rattle.laws_basic.proofs.Sums.{total, total_le, total-zero, one_if, length-filter-total, count_by-total, total-ones}
-use Rattle.laws_basic.proofs.Integers.{product-parts}
-use Rattle.laws_basic.proofs.Each.{each_left, each_right, each_of_map, each_range, each_everywhere, list_all_from_each, list_all_equal, each_map, each_from_list_all, each_from_filter, each_filter_passes, enumerated-each}
-use Rattle.laws_basic.proofs.Tests.{implies}
+use Rattle.define_pools.proofs.Sums.{total, total_le, total-zero, one_if, length-filter-total, count_by-total, total-ones}
+use Rattle.define_pools.proofs.Integers.{product-parts}
+use Rattle.define_pools.proofs.Each.{each_left, each_right, each_of_map, each_range, each_everywhere, list_all_from_each, list_all_equal, each_map, each_from_list_all, each_from_filter, each_filter_passes, enumerated-each}
+use Rattle.define_pools.proofs.Tests.{implies}
 use Rattle.define_pools.specs.declared.Standing.{Standing}
 use Rattle.define_pools.specs.declared.Standing.TheVariants.{Open, Seated, Gone}
 use Rattle.define_pools.specs.Lists.{includes, choices}

@@ -1,8 +1,8 @@
 -- Each volunteer of a pool is in exactly one of the pool's classes.
 use Rattle.std.proofs.Common.{◌≡◌, ℕ, ◌<◌, Bool, true, List, [], ◌∷◌, map, length, cond, refl, sym, ◌∙◌, subst, arith}
 use Rattle.std.specs.List.{AllByRecursion, range_with_len}
-use Rattle.laws_basic.proofs.Each.{each_everywhere, each_filter, each_mapped, each_range}
-use Rattle.laws_basic.proofs.Sums.{sum_by-is-total, total, one_if}
+use Rattle.define_pools.proofs.Each.{each_everywhere, each_filter, each_mapped, each_range}
+use Rattle.define_pools.proofs.Sums.{sum_by-is-total, total, one_if}
 use Rattle.define_pools.specs.Lists.{includes, is_increasing}
 use Rattle.define_pools.specs.Pool.{Pool}
 use Rattle.define_searches.specs.Classes.{Class, MakesClasses, PartVolunteers, class_of, class_by, classes_by, leaders, volunteer_count}

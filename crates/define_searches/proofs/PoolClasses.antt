@@ -6,10 +6,10 @@ use Rattle.std.proofs.lemmas.Bool.{cases_Bool, eq-eqb, ne_eqb, false≢true, le-
 use Rattle.std.proofs.lemmas.List.Elements.{filter_agree}
 use Rattle.std.proofs.Math.Bool.{and-false, or-false}
 use Rattle.std.proofs.lemmas.List.Folds.{list_all-map}
-use Rattle.laws_basic.proofs.Tests.{ltb-more}
-use Rattle.laws_basic.proofs.Each.{each_map, each_mapped, each_filter, each_everywhere, each_range, list_all_equal}
-use Rattle.laws_basic.proofs.Sums.{total, total_eq, total_ext, sum_by-is-total, one_if, length-filter-total, count_by-total}
-use Rattle.laws_basic.proofs.Lists.{filter_range_same}
+use Rattle.define_pools.proofs.Tests.{ltb-more}
+use Rattle.define_pools.proofs.Each.{each_map, each_mapped, each_filter, each_everywhere, each_range, list_all_equal}
+use Rattle.define_pools.proofs.Sums.{total, total_eq, total_ext, sum_by-is-total, one_if, length-filter-total, count_by-total}
+use Rattle.define_pools.proofs.Lists.{filter_range_same}
 use Rattle.define_pools.specs.Lists.{includes, is_increasing}
 use Rattle.define_pools.specs.Pool.{Pool, volunteer, is_within, is_quota_panel, panels}
 use Rattle.define_pools.proofs.AllPanels.{each_panel}

@@ -6,7 +6,7 @@ use Rattle.std.proofs.lemmas.List.{take_all}
 use Rattle.std.proofs.lemmas.List.Sums.{sum-map, sum_by_more, sum_by_push}
 use Rattle.std.proofs.lemmas.Bool.{cases_lt}
 use Rattle.std.proofs.Math.Nat.{mul-le-mul_right}
-use Rattle.laws_basic.proofs.Lists.{range-more}
+use Rattle.define_pools.proofs.Lists.{range-more}
 
 -- the sum of `f` at the places below `n`
 abbrev pub below : (ℕ → ℕ) → ℕ → ℕ

@@ -5,7 +5,7 @@ use Rattle.std.specs.Prelude.{count_by}
 use Rattle.std.proofs.lemmas.Bool.{cases_lt, cases_order, eq-eqb, eqb-true, le-leb, le-ltb, leb-true, lt-leb, lt-ltb, ltb-true, ne_eqb}
 use Rattle.std.proofs.lemmas.List.{take-take, take_all}
 use Rattle.std.proofs.lemmas.List.Sums.{sum_by-cons, sum_by-drop_more, sum_by-le-sum_by, sum_by-take-drop, sum_by-take-le, sum_by_more}
-use Rattle.laws_basic.proofs.Sums.{one_if}
+use Rattle.define_pools.proofs.Sums.{one_if}
 use Rattle.define_short_draws.specs.Short.{is_among_first, rows_before}
 use Rattle.define_short_draws.proofs.ByPlace.{below}
 

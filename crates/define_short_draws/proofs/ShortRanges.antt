@@ -3,7 +3,7 @@ use Rattle.std.proofs.Common.{◌≡◌, ℕ, ◌^◌, ◌≤◌, Bool, true, �
 use Rattle.std.specs.List.{list_all, sum_by}
 use Rattle.std.proofs.lemmas.Bool.{and_from, and_parts, le-leb, leb-true, lt-ltb}
 use Rattle.std.proofs.lemmas.List.Sums.{sum_by-cons}
-use Rattle.laws_basic.proofs.Each.{list_all_implies}
+use Rattle.define_pools.proofs.Each.{list_all_implies}
 use Rattle.define_bundles.specs.Ranges.{IsInRanges, is_group, is_row, is_weight}
 use Rattle.define_draws.specs.Tickets.{weights_of}
 use Rattle.define_pools.specs.Certificate.{Answer}

@@ -7,7 +7,7 @@ use Rattle.std.proofs.lemmas.List.{get_or-map, length-map}
 use Rattle.std.proofs.lemmas.List.Sums.{count_by-le-length, sum-map, sum_by-cons}
 use Rattle.std.proofs.lemmas.Nat.{div-add-mod', mod_below}
 use Rattle.std.proofs.Math.Nat.{mul-le-mul_right}
-use Rattle.laws_basic.proofs.Sums.{one_if}
+use Rattle.define_pools.proofs.Sums.{one_if}
 use Rattle.define_draws.proofs.TicketLemmas.{sum-cons}
 use Rattle.define_short_draws.specs.Short.{is_among_first, remainder, rows_before, tickets_at, tickets_by_weight, tickets_left, whole_tickets}
 use Rattle.define_short_draws.specs.Shares.{distance_from_share}

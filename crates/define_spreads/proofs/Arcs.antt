@@ -3,7 +3,7 @@ use Rattle.std.proofs.Common.{◌≡◌, ℕ, zero, suc, ◌+◌, ◌-◌, ◌*�
 use Rattle.std.specs.List.{list_all, AllByRecursion}
 use Rattle.std.proofs.lemmas.Bool.{and_parts, cases_lt, ltb-true, ne_eqb}
 use Rattle.std.proofs.Math.Nat.{div-eq_of_lt-le, div-mul-le_self, lt-div-mul-add, mul-div_cancel}
-use Rattle.laws_basic.proofs.Sums.{total}
+use Rattle.define_pools.proofs.Sums.{total}
 use Rattle.define_pools.specs.Lists.{includes, is_increasing}
 use Rattle.define_spreads.specs.Spreading.{arcs_between}
 use Rattle.define_spreads.proofs.Windows.{sum_below}

@@ -6,8 +6,8 @@ use Rattle.std.proofs.lemmas.Bool.{and_parts, leb-true, ltb-true}
 use Rattle.std.proofs.lemmas.List.Elements.{All-from_recursion, recursion_from_All}
 use Rattle.std.proofs.lemmas.Nat.Gcd.{dvd_refl, dvd_trans}
 use Rattle.std.proofs.Math.Nat.{mul-pos, dvd-mul_right}
-use Rattle.laws_basic.proofs.Sums.{total}
-use Rattle.laws_basic.proofs.Each.{each_map}
+use Rattle.define_pools.proofs.Sums.{total}
+use Rattle.define_pools.proofs.Each.{each_map}
 use Rattle.frac128.specs.Divisors.{lcm_of, gcd_of, IsLeastCommonMultiple}
 use Rattle.frac128.specs.Fractions.{Fraction}
 use Rattle.frac128.proofs.DivisorLaws.{IsLeastCommonMultiple-lcm_of, beyond-positive}

@@ -4,7 +4,7 @@ use Rattle.std.specs.List.{AllByRecursion, flat_map, list_all}
 use Rattle.std.proofs.lemmas.Bool.{and_from, and_parts, cases_eq, eqb-true, eq-eqb, ne_eqb, lt-ltb, ltb-true, le-leb, false≢true}
 use Rattle.std.proofs.lemmas.List.Concat.{flat_map-cons}
 use Rattle.std.proofs.Math.Bool.{or-true, or_assoc}
-use Rattle.laws_basic.proofs.Each.{each_map, list_all_from_each}
+use Rattle.define_pools.proofs.Each.{each_map, list_all_from_each}
 use Rattle.define_pools.specs.Lists.{includes, is_increasing, put_in_order, rising}
 use Rattle.define_pools.proofs.Orders.{Rises, Rises-rising}
 use Rattle.define_searches.specs.Classes.{Classes}

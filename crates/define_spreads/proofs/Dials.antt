@@ -6,7 +6,7 @@ use Rattle.std.proofs.lemmas.Bool.{and_parts, cases_eq, eqb-true, eq-eqb, ltb-tr
 use Rattle.std.proofs.lemmas.Nat.Gcd.{dvd_refl, dvd_trans}
 use Rattle.std.proofs.Math.Nat.{div-mul_cancel, mul-div-mul_right, mul-div_cancel, mul-lt-mul_of_pos_right}
 use Rattle.std.proofs.Math.Bool.{or-true}
-use Rattle.laws_basic.proofs.Each.{each_map, each_append, each_mapped, each_range, each_flat_map}
+use Rattle.define_pools.proofs.Each.{each_map, each_append, each_mapped, each_range, each_flat_map}
 use Rattle.frac128.specs.Divisors.{lcm_of, IsLeastCommonMultiple}
 use Rattle.frac128.proofs.DivisorLaws.{IsLeastCommonMultiple-lcm_of}
 use Rattle.define_pools.specs.Lists.{includes}

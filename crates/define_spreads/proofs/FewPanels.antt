@@ -6,7 +6,7 @@ use Rattle.std.proofs.Math.Nat.{zero-div}
 use Rattle.std.proofs.lemmas.List.{length-map}
 use Rattle.std.proofs.lemmas.List.Concat.{flat_map-cons}
 use Rattle.std.proofs.lemmas.List.FromFn.{length-range_with_len}
-use Rattle.laws_basic.proofs.Sums.{total, sum_by-is-total}
+use Rattle.define_pools.proofs.Sums.{total, sum_by-is-total}
 use Rattle.define_pools.specs.Lists.{includes, rising}
 use Rattle.frac128.specs.Fractions.{Fraction}
 use Rattle.define_searches.specs.Classes.{Class, Classes, volunteer_count}

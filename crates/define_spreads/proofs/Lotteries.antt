@@ -10,9 +10,9 @@ use Rattle.std.proofs.lemmas.List.Elements.{recursion_from_All}
 use Rattle.std.proofs.lemmas.Slice.Eq.{bytes_eq-Decides}
 use Rattle.std.proofs.Math.Nat.{mul-pos, mul-div_assoc, mul-div_cancel', mul-div_cancel_left}
 use Rattle.std.proofs.lemmas.List.{map-append}
-use Rattle.laws_basic.proofs.Each.{each_both, each_map, each_append, each_mapped, each_filter, each_range, each_of_map, each_everywhere, list_all_from_each, each_flat_map}
-use Rattle.laws_basic.proofs.Lists.{map-map}
-use Rattle.laws_basic.proofs.Sums.{total, total_eq, total_ext, total-filter, total-scaled, one_if, sum_by-is-total}
+use Rattle.define_pools.proofs.Each.{each_both, each_map, each_append, each_mapped, each_filter, each_range, each_of_map, each_everywhere, list_all_from_each, each_flat_map}
+use Rattle.define_pools.proofs.Lists.{map-map}
+use Rattle.define_pools.proofs.Sums.{total, total_eq, total_ext, total-filter, total-scaled, one_if, sum_by-is-total}
 use Rattle.frac128.specs.Fractions.{Fraction}
 use Rattle.define_pools.specs.Lists.{all_different, includes, includes_list, is_increasing}
 use Rattle.define_pools.specs.Lottery.{LotteryRow, Lottery, IsLottery, count}

@@ -6,8 +6,8 @@ use Rattle.std.proofs.lemmas.Bool.{and_from, cases_Bool, cases_lt, lt-ltb, ne_eq
 use Rattle.std.proofs.lemmas.List.{take_all}
 use Rattle.std.proofs.Math.Nat.{div-le_of_le-mul, div-lt_iff_lt-mul, mul-div_cancel}
 use Rattle.std.proofs.Math.Bool.{or-false}
-use Rattle.laws_basic.proofs.Sums.{total, total_eq, total_ext, total-filter, total-scaled, one_if, count_by-total}
-use Rattle.laws_basic.proofs.Each.{each_map, each_append, each_mapped, each_filter, each_range, each_slice_get}
+use Rattle.define_pools.proofs.Sums.{total, total_eq, total_ext, total-filter, total-scaled, one_if, count_by-total}
+use Rattle.define_pools.proofs.Each.{each_map, each_append, each_mapped, each_filter, each_range, each_slice_get}
 use Rattle.define_pools.specs.Lists.{includes, is_increasing}
 use Rattle.define_searches.specs.Classes.{Class, Classes, PartVolunteers, volunteer_count}
 use Rattle.define_searches.specs.Compositions.{all_counts, compositions, composition_of, is_composition}

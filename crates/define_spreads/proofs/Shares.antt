@@ -4,8 +4,8 @@ use Rattle.std.specs.Int.{◌∣◌}
 use Rattle.std.specs.List.{AllByRecursion, Contains}
 use Rattle.std.proofs.lemmas.List.Elements.{All-from_recursion, recursion_from_All}
 use Rattle.std.proofs.Math.Nat.{mul-div_cancel', eq_of_mul-eq-mul_right}
-use Rattle.laws_basic.proofs.Sums.{total, sum_by-is-total}
-use Rattle.laws_basic.proofs.Each.{each_map, each_everywhere, each_mapped}
+use Rattle.define_pools.proofs.Sums.{total, sum_by-is-total}
+use Rattle.define_pools.proofs.Each.{each_map, each_everywhere, each_mapped}
 use Rattle.frac128.specs.Divisors.{gcd_of}
 use Rattle.frac128.specs.Fractions.{lowest_of}
 use Rattle.frac128.proofs.DivisorLaws.{beyond-positive}

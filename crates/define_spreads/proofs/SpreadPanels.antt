@@ -1,7 +1,7 @@
 -- If P holds of each panel whose composition is that of a part, it holds of each panel of the lottery that is spread.
 use Rattle.std.proofs.Common.{◌≡◌, ℕ, Bool, true, ltb, List, map, length, Ok, sym, ap, subst}
 use Rattle.std.specs.List.{flat_map, list_all, AllByRecursion}
-use Rattle.laws_basic.proofs.Each.{each_both, each_map, each_mapped, each_of_map, each_flat_map}
+use Rattle.define_pools.proofs.Each.{each_both, each_map, each_mapped, each_of_map, each_flat_map}
 use Rattle.frac128.specs.Fractions.{Fraction}
 use Rattle.define_pools.specs.Lottery.{LotteryRow, Lottery}
 use Rattle.define_pools.specs.Pool.{Pool}

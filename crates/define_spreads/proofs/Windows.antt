@@ -5,7 +5,7 @@ use Rattle.std.specs.List.{AllByRecursion, list_all, range_with_len}
 use Rattle.std.proofs.lemmas.Bool.{and_parts, cases_lt, eq-eqb, eqb-true, ne_eqb, lt-ltb, le-ltb, ltb-true}
 use Rattle.std.proofs.lemmas.List.{length-take, take-append-le, take-append-drop, take_all}
 use Rattle.std.proofs.Math.Seq.{take-add, take-append-add}
-use Rattle.laws_basic.proofs.Sums.{total, total-add, total-zero, one_if}
+use Rattle.define_pools.proofs.Sums.{total, total-add, total-zero, one_if}
 use Rattle.define_pools.specs.Lists.{includes, is_increasing}
 use Rattle.define_pools.proofs.Weights.{one_member}
 use Rattle.define_spreads.specs.Spreading.{turned}

@@ -6,7 +6,7 @@ use Rattle.std.proofs.lemmas.Bool.{cases_eq, eq-eqb, false_from_ne_true, eqb-tru
 use Rattle.std.proofs.lemmas.List.{append-nil, length-take-le, take-append-drop}
 use Rattle.std.proofs.lemmas.List.Elements.{filter-append}
 use borrow.Author.Differences.{lt-true, true_is_lt}
-use Rattle.laws_basic.proofs.Each.{each_map, each_filter, each_from_filter, each_right}
+use Rattle.define_pools.proofs.Each.{each_map, each_filter, each_from_filter, each_right}
 use Rattle.define_rows.specs.Row.{Row}
 use Rattle.define_searches.specs.Classes.{Class, Classes, IsSearchable}
 use Rattle.define_searches.specs.Compositions.{all_counts, attains, compositions, counts_down, first_greatest, is_composition, weight_in}

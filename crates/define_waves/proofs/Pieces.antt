@@ -9,7 +9,7 @@ use Rattle.std.proofs.lemmas.List.FromFn.{length-range_with_len}
 use Rattle.std.proofs.lemmas.List.Sums.{fold-append, prefix_len-le-length}
 use Rattle.std.proofs.lemmas.List.Elements.{recursion_from_All}
 use borrow.Author.Differences.{lt-true, lt-false}
-use Rattle.laws_basic.proofs.Each.{each_map, each_append, each_everywhere, each_left, each_mapped}
+use Rattle.define_pools.proofs.Each.{each_map, each_append, each_everywhere, each_left, each_mapped}
 use Rattle.define_rows.specs.Row.{Row}
 use Rattle.define_searches.specs.Classes.{Class, Classes, IsSearchable}
 use Rattle.define_searches.specs.Compositions.{counts_of, counts_down, weight_in}

@@ -7,7 +7,7 @@ use Rattle.std.proofs.lemmas.List.{drop-drop, drop-take, take-append-drop, take-
 use Rattle.std.proofs.Math.Nat.{mul-add, mul-suc}
 use Rattle.std.proofs.lemmas.List.Sums.{fold-append}
 use borrow.Author.Differences.{lt-true, true_is_lt}
-use Rattle.laws_basic.proofs.Each.{each_everywhere, each_left, each_right}
+use Rattle.define_pools.proofs.Each.{each_everywhere, each_left, each_right}
 use Rattle.define_rows.specs.Row.{Row}
 use Rattle.define_searches.specs.Classes.{Class, Classes, IsSearchable}
 use Rattle.define_searches.specs.Compositions.{compositions, weight_in, attains, first_greatest, price}

@@ -2,9 +2,9 @@
 use Rattle.std.proofs.Common.{◌≡◌, ◌≢◌, ℕ, zero, suc, ◌+◌, ◌-◌, ◌<◌, ◌≤◌, Bool, true, false, cond, not, ◌&&◌, ◌||◌, List, [], ◌∷◌, ◌++◌, map, length, Option, Some, None, pos, ◌≤ℤ◌, refl, sym, ap, ◌∙◌, subst, arith, inl, inr, ⊎_elim}
 use Rattle.std.specs.List.{find, list_all, range_with_len}
 use Rattle.std.proofs.lemmas.Bool.{cases_eq, and_parts}
-use Rattle.laws_basic.proofs.Integers.{lt-tested}
-use Rattle.laws_basic.proofs.Each.{each_from_list_all}
-use Rattle.laws_basic.proofs.Found.{find_range-none, find_range-first}
+use Rattle.define_pools.proofs.Integers.{lt-tested}
+use Rattle.define_pools.proofs.Each.{each_from_list_all}
+use Rattle.define_pools.proofs.Found.{find_range-none, find_range-first}
 use Rattle.define_rows.specs.declared.Var.{Var}
 use Rattle.define_rows.specs.declared.Var.TheVariants.{Slack}
 use Rattle.define_rows.specs.Table.{Table, coefficient_at, row_at, basic_at, row_numbers}

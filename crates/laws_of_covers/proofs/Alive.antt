@@ -7,8 +7,8 @@ use Rattle.std.proofs.lemmas.Grind.{reverse_onto}
 use Rattle.std.proofs.lemmas.List.{length-reverse}
 use Rattle.std.proofs.lemmas.List.Folds.{list_all-append}
 use borrow.Author.Differences.{le-false, lt-false, true_is_le, true_is_lt}
-use Rattle.laws_basic.proofs.Each.{each_left, each_map, each_of_map, each_right, list_all_from_each, range_each}
-use Rattle.laws_basic.proofs.Found.{find-none}
+use Rattle.define_pools.proofs.Each.{each_left, each_map, each_of_map, each_right, list_all_from_each, range_each}
+use Rattle.define_pools.proofs.Found.{find-none}
 use Rattle.define_rows.specs.Row.{Row}
 use Rattle.define_searches.specs.Classes.{Classes}
 use Rattle.define_searches.specs.Compositions.{takes_one_a_household}

@@ -4,7 +4,7 @@ use Rattle.std.proofs.Common.{◌≡◌, ℕ, ◌+◌, Bool, true, false, cond, 
 use Rattle.std.specs.Prelude.{int_lt}
 use Rattle.std.specs.List.{AllByRecursion, find, list_all}
 use Rattle.std.proofs.lemmas.Bool.{and_from, and_parts, false≢true, false_from_ne_true}
-use Rattle.laws_basic.proofs.Each.{each_filter, each_map}
+use Rattle.define_pools.proofs.Each.{each_filter, each_map}
 use Rattle.define_pools.specs.Certificate.{Stage, is_capped}
 use Rattle.define_pools.specs.Pool.{Pool}
 use Rattle.define_rows.specs.Row.{Row}
@@ -16,7 +16,7 @@ use Rattle.define_searches.proofs.PoolClasses.{classes_in_order}
 use Rattle.define_checks.specs.Caps.{alike_at, classes_at, composition_above, first_above, stage_row}
 use Rattle.define_checks.proofs.PassedCaps.{capped_where_none}
 use Rattle.define_checks.proofs.StageRows.{rows_have_entries}
-use Rattle.define_additions.specs.TreeLines.{fault}
+use Rattle.define_proofs.specs.TreeLines.{fault}
 use Rattle.laws_of_fronts.proofs.Tracking.{split_at}
 use Rattle.define_covers.specs.Causes.{applies}
 use Rattle.define_covers.specs.Covers.{FrontLine}

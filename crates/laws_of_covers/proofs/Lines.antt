@@ -3,7 +3,7 @@ use Rattle.std.proofs.Common.{◌≡◌, ℕ, ◌+◌, ◌<◌, true, false, con
 use Rattle.std.proofs.lemmas.List.{drop_more}
 use Rattle.define_rows.specs.Row.{Row}
 use Rattle.define_searches.specs.Classes.{Classes}
-use Rattle.define_additions.specs.TreeLines.{TreeFault, fault}
+use Rattle.define_proofs.specs.TreeLines.{TreeFault, fault}
 use Rattle.define_covers.specs.Causes.{applies}
 use Rattle.define_covers.specs.Covers.{FrontLine}
 use Rattle.define_covers.specs.CoverVerdict.{fault_from}

@@ -4,7 +4,7 @@ use Rattle.std.proofs.Common.{◌≡◌, ℕ, ◌-◌, ◌≤◌, ◌<◌, true,
 use Rattle.std.specs.Prelude.{bytes_eq}
 use Rattle.std.specs.List.{AllByRecursion}
 use Rattle.std.proofs.lemmas.Bool.{and_parts, eqb-true, leb-true, lt-ltb, ltb-true, ltb-false, false≢true}
-use Rattle.laws_basic.proofs.Each.{each_map, each_mapped}
+use Rattle.define_pools.proofs.Each.{each_map, each_mapped}
 use Rattle.define_searches.specs.Classes.{Class}
 use Rattle.define_searches.specs.Compositions.{all_counts}
 use Rattle.define_searches.proofs.FirstSearch.{Gives, InOrder}

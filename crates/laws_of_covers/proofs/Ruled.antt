@@ -6,7 +6,7 @@ use Rattle.std.proofs.lemmas.Bool.{and_parts, false≢true, false_from_ne_true}
 use Rattle.std.proofs.lemmas.Grind.{reverse_onto}
 use Rattle.std.proofs.Math.Bool.{and-false}
 use borrow.Author.Differences.{le-true, lt-true}
-use Rattle.laws_basic.proofs.Each.{each_flat_map, each_from_list_all, each_map, each_mapped, list_all-push}
+use Rattle.define_pools.proofs.Each.{each_flat_map, each_from_list_all, each_map, each_mapped, list_all-push}
 use Rattle.define_rows.specs.Row.{Row}
 use Rattle.define_searches.specs.Classes.{Classes}
 use Rattle.define_searches.specs.Compositions.{takes_one_a_household}

@@ -1,8 +1,8 @@
 -- A check of a cover goes on from stage to stage.
 use Rattle.std.proofs.Common.{◌≡◌, ◌+◌, List, [], ◌∷◌, ◌++◌, length, Option, Some, None, refl, ap, ◌∙◌}
 use Rattle.define_checks.specs.Reasons.{Refusal, Refused, Valid, Verdict, first_reason, lottery_reasons, reasons_before_cap}
-use Rattle.define_additions.specs.ProofSteps.{or_next}
-use Rattle.define_additions.specs.ProofVerdict.{listed_reasons}
+use Rattle.define_proofs.specs.ProofSteps.{or_next}
+use Rattle.define_proofs.specs.ProofVerdict.{listed_reasons}
 use Rattle.define_covers.specs.CoverVerdict.{first_tree, later_trees, lines_before_tree, reasons_from, tree_reasons}
 use Rattle.laws_of_covers.specs.CoverSteps.{BeginsWithLottery, GoesOnByStages}
 

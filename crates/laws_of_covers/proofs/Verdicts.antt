@@ -1,6 +1,6 @@
 -- A cover is valid exactly if its certificate meets all but its caps and the trees cover the stages; then the certificate holds.
 use Rattle.std.proofs.Common.{◌≡◌, ℕ, ◌+◌, true, List, [], ◌∷◌, ◌++◌, length, Option, Some, None, refl, ap}
-use Rattle.laws_basic.proofs.Each.{each_append, each_left, each_right}
+use Rattle.define_pools.proofs.Each.{each_append, each_left, each_right}
 use Rattle.define_bundles.specs.Ranges.{IsInRanges}
 use Rattle.define_checks.specs.Reasons as check
 use Rattle.define_checks.specs.Reasons.{Refusal, Valid, cap_reasons, first_reason, lottery_reasons, reason, reasons_before_cap}
@@ -11,9 +11,9 @@ use Rattle.define_pools.specs.Certificate.{Answer, Certifies, Stage, StageHolds,
 use Rattle.define_pools.specs.Lottery.{LeximinGreatest, Lottery}
 use Rattle.define_pools.specs.Pool.{Pool}
 use Rattle.define_pools.proofs.Greatest.{greatest_from_Certifies}
-use Rattle.define_additions.specs.CapsHold.{CapsHold}
-use Rattle.define_additions.specs.ProofVerdict.{line_reason, listed_reasons}
-use Rattle.define_additions.specs.TreeLines.{TreeFault}
+use Rattle.define_proofs.specs.CapsHold.{CapsHold}
+use Rattle.define_proofs.specs.ProofVerdict.{line_reason, listed_reasons}
+use Rattle.define_proofs.specs.TreeLines.{TreeFault}
 use Rattle.define_covers.specs.Covers.{Cover, FrontLine}
 use Rattle.define_covers.specs.CoverVerdict.{first_tree, later_trees, lines_before_tree, reasons, reasons_from, stage_reasons, tree_fault, tree_reasons, verdict}
 use Rattle.define_covers.specs.CoversHold.{AllButCap, CapsAreLeft, CertifiesButCaps, StagesMeetAllButCaps, TreesCover, TreesCoverCaps, ValidIsCertified, ValidWhereCovered}

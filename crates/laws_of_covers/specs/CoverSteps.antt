@@ -1,12 +1,12 @@
 -- The order in which a cover is checked, stage by stage, as laws. Builds on CoverVerdict of `define_covers`, and on ProofSteps of
--- `define_additions`. `cover_cert` checks in this order.
+-- `define_proofs`. `cover_cert` checks in this order.
 use Rattle.std.specs.Prelude.{◌≡◌, ℕ, ◌+◌, List, [], ◌∷◌, length}
 use Rattle.define_checks.specs.Reasons.{Verdict, first_reason, lottery_reasons, reasons_before_cap}
 use Rattle.define_pools.specs.Certificate.{Stage}
 use Rattle.define_pools.specs.Lottery.{Lottery}
 use Rattle.define_pools.specs.Pool.{Pool}
-use Rattle.define_additions.specs.ProofSteps.{or_next}
-use Rattle.define_additions.specs.ProofVerdict.{listed_reasons}
+use Rattle.define_proofs.specs.ProofSteps.{or_next}
+use Rattle.define_proofs.specs.ProofVerdict.{listed_reasons}
 use Rattle.define_covers.specs.Covers.{Cover, FrontLine}
 use Rattle.define_covers.specs.CoverVerdict.{first_tree, later_trees, lines_before_tree, reasons_from, tree_reasons, verdict}
 

@@ -4,7 +4,7 @@ use Rattle.std.specs.List.{list_any, range_with_len}
 use Rattle.std.proofs.lemmas.List.{map-append}
 use Rattle.std.proofs.Math.Bool.{or-false}
 use Rattle.std.proofs.lemmas.List.Folds.{list_any-append}
-use Rattle.laws_basic.proofs.Lists.{numbers_more, filter_taken, filter_passed}
+use Rattle.define_pools.proofs.Lists.{numbers_more, filter_taken, filter_passed}
 
 pub any_next : (p : ℕ → Bool) (i : ℕ) → list_any p (range_with_len 0 (i + 1)) ≡ (list_any p (range_with_len 0 i) || p i)
 any_next p i = ap (list_any p) (numbers_more i) ∙ list_any-append p (range_with_len 0 i) (i ∷ []) ∙ ap (λ b. list_any p (range_with_len 0 i) || b) (or-false (p i))

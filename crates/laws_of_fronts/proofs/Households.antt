@@ -3,7 +3,7 @@ use Rattle.std.proofs.Common.{◌≡◌, ℕ, ◌+◌, ◌≤◌, Bool, true, fa
 use Rattle.std.specs.Prelude.{slice_index}
 use Rattle.std.proofs.lemmas.Bool.{eqb-true, eq-eqb, false≢true, false_from_ne_true}
 use Rattle.std.proofs.lemmas.List.Elements.{All-get_or, All-from_recursion}
-use Rattle.laws_basic.proofs.Each.{each_from_list_all, list_all_implies}
+use Rattle.define_pools.proofs.Each.{each_from_list_all, list_all_implies}
 use Rattle.define_searches.specs.Classes.{Class, Classes, IsKnownHousehold, KeepsLimits, volunteer_count}
 use Rattle.define_searches.specs.Compositions.{taken_of, is_of_household, takes_one_of, takes_one_a_household}
 use Rattle.define_searches.specs.Fronts.{is_reachable, taken_by}

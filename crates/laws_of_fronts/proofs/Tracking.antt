@@ -7,7 +7,7 @@ use Rattle.std.proofs.lemmas.Bool.{eq-eqb, leb-true, and_parts}
 use Rattle.std.proofs.lemmas.List.{get_or-replicate, length-replicate, drop_more, take-append-drop, length-take-le}
 use Rattle.std.proofs.lemmas.List.Elements.{All-get_or, recursion_from_All}
 use Rattle.std.proofs.lemmas.List.Sums.{get_or-le-sum_by, sum_by-take-drop, sum_by-take-le}
-use Rattle.laws_basic.proofs.Sums.{sum_by-is-total, total}
+use Rattle.define_pools.proofs.Sums.{sum_by-is-total, total}
 use Rattle.define_searches.specs.declared.Bounds.{Bounds}
 use Rattle.define_searches.specs.Classes.{Class, Classes, HasPlaces, KeepsLimits, volunteer_count}
 use Rattle.define_searches.specs.Compositions.{taken_of, has_value, is_of_household, takes_one_a_household}

@@ -11,8 +11,8 @@ use Rattle.std.proofs.lemmas.Grind.{get_or-set_at}
 use Rattle.std.proofs.lemmas.Int.{ints, clamps}
 use Rattle.std.proofs.lemmas.List.Elements.{recursion_from_All}
 use borrow.Author.Differences.{le-true, le-false}
-use Rattle.laws_basic.proofs.Each.{each_map}
-use Rattle.laws_basic.proofs.Sums.{total}
+use Rattle.define_pools.proofs.Each.{each_map}
+use Rattle.define_pools.proofs.Sums.{total}
 use Rattle.define_rows.specs.Row.{sum_of_sizes}
 use Rattle.define_rows.proofs.SumLaws.{abs_sum_le}
 use Rattle.define_searches.specs.Classes.{Class, Classes, KeepsLimits}

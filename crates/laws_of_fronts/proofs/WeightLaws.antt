@@ -9,7 +9,7 @@ use Rattle.std.proofs.lemmas.Grind.{get_or-set_at}
 use Rattle.std.proofs.lemmas.Nat.{mul-add-lt}
 use Rattle.std.proofs.lemmas.List.Elements.{recursion_from_All}
 use Rattle.std.proofs.Math.Seq.{take-length}
-use Rattle.laws_basic.proofs.Sums.{sum_by-is-total}
+use Rattle.define_pools.proofs.Sums.{sum_by-is-total}
 use Rattle.define_rows.specs.Row.{Row, sum_of_sizes}
 use Rattle.define_rows.proofs.SumLaws.{abs_sum_le}
 use Rattle.define_searches.specs.Classes.{Class, Classes, KeepsLimits}

@@ -7,7 +7,7 @@ use Rattle.std.proofs.lemmas.List.Quantifiers.{all_pairs_push}
 use Rattle.std.proofs.lemmas.List.Sums.{sum_by_push}
 use Rattle.std.proofs.lemmas.List.Elements.{All-nil, All-push, All-from_recursion, recursion_from_All}
 use Rattle.define_pools.specs.Lottery.{Lottery}
-use Rattle.laws_basic.proofs.Each.{each_left, each_right}
+use Rattle.define_pools.proofs.Each.{each_left, each_right}
 use Rattle.define_rows.specs.declared.Var.{Var}
 use Rattle.define_rows.specs.Choice.{choice}
 use Rattle.define_rows.specs.InOrder.{IsInOrder}

@@ -4,7 +4,7 @@ use Rattle.std.specs.List.{list_all}
 use Rattle.std.specs.Str.{bytes_eq}
 use Rattle.std.proofs.lemmas.Bool.{and_from, and_parts, eqb-true, false≢true}
 use Rattle.std.proofs.lemmas.Slice.Eq.{bytes_eq-Decides}
-use Rattle.laws_basic.proofs.Each.{list_all-push}
+use Rattle.define_pools.proofs.Each.{list_all-push}
 use Rattle.define_pools.specs.Building.{are_known, value_names}
 use Rattle.define_pools.specs.Lists.{includes_list}
 use Rattle.define_pools.specs.Pool.{BoundedValue, Category}

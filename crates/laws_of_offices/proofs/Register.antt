@@ -4,7 +4,7 @@ use Rattle.std.specs.List.{list_all}
 use Rattle.std.specs.Str.{bytes_eq}
 use Rattle.std.proofs.lemmas.Bool.{and_from, and_parts, false≢true, le-leb, leb-false}
 use Rattle.std.proofs.lemmas.List.{append_assoc, append-nil, length_push, map_push}
-use Rattle.laws_basic.proofs.Each.{list_all-push}
+use Rattle.define_pools.proofs.Each.{list_all-push}
 use Rattle.define_pools.specs.Lists.{all_different, includes_list}
 use Rattle.define_pools.specs.Pool.{Category, is_household, is_name}
 use Rattle.define_pools.proofs.BuildingLemmas.{all_different_push}

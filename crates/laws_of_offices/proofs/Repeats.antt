@@ -9,7 +9,7 @@ use Rattle.define_lines.specs.Lines.{text_of}
 use Rattle.define_pools.specs.Lists.{includes_list}
 use Rattle.define_pools.specs.Pool.{Pool}
 use Rattle.define_bundles.specs.BundleText.{Bundle}
-use Rattle.define_additions.specs.ProofVerdict.{Proof}
+use Rattle.define_proofs.specs.ProofVerdict.{Proof}
 use Rattle.define_draws.specs.Dice.{name_ticket}
 use Rattle.define_draws.specs.Draw as draws
 use Rattle.define_draws.specs.Draw.{draw, drawn_with}

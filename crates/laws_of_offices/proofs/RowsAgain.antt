@@ -6,8 +6,8 @@ use Rattle.std.proofs.lemmas.Bool.{and_from, and_parts, false≢true}
 use Rattle.std.proofs.lemmas.List.{append_assoc}
 use Rattle.std.proofs.lemmas.List.Folds.{find-append}
 use Rattle.std.proofs.lemmas.Slice.Eq.{bytes_eq-Decides}
-use Rattle.laws_basic.proofs.Each.{each_from_list_all, each_map, list_all_from_each}
-use Rattle.laws_basic.proofs.Found.{find-each}
+use Rattle.define_pools.proofs.Each.{each_from_list_all, each_map, list_all_from_each}
+use Rattle.define_pools.proofs.Found.{find-each}
 use Rattle.define_pools.specs.Pool.{Category}
 use Rattle.define_draws.specs.Seal.{seal_of}
 use Rattle.define_offices.specs.Tables.{Entry, Round, Tables, is_enrolling, last_phase, same_household, same_names}

@@ -5,15 +5,15 @@ use Rattle.std.proofs.lemmas.Bool.{false≢true}
 use Rattle.std.proofs.lemmas.Slice.Eq.{bytes_eq-Decides}
 use Rattle.define_pools.specs.Certificate.{Answer, Certifies}
 use Rattle.define_pools.specs.Pool.{IsPool, Pool, panels}
-use Rattle.define_pool_texts.specs.PoolReading.{read}
-use Rattle.define_pool_texts.specs.PoolText.{spelling}
-use Rattle.define_pool_texts.proofs.ReadAgain.{spelled_is_read}
+use Rattle.define_bundles.specs.PoolReading.{read}
+use Rattle.define_bundles.specs.PoolText.{spelling}
+use Rattle.define_bundles.proofs.PoolReadAgain.{spelled_is_read}
 use Rattle.define_bundles.specs.BundleText.{Bundle}
 use Rattle.define_bundles.specs.Ranges.{IsInRanges}
 use Rattle.define_checks.specs.Reasons.{Verdict, Valid, Refused}
-use Rattle.define_additions.specs.ProofVerdict.{OfLottery, OfNoPanel, Proof, verdict}
-use Rattle.define_additions.proofs.Verdicts.{certified_where_valid, no_panel_where_valid}
-use Rattle.define_proof_texts.specs.ProofText.{IsProof}
+use Rattle.define_proofs.specs.ProofVerdict.{OfLottery, OfNoPanel, Proof, verdict}
+use Rattle.define_proofs.proofs.Verdicts.{certified_where_valid, no_panel_where_valid}
+use Rattle.define_proofs.specs.ProofText.{IsProof}
 use Rattle.define_draws.specs.Seal.{seal_of}
 use Rattle.define_searches.specs.Classes.{are_alike}
 use Rattle.define_searches.proofs.AlikeClasses.{alike_makes}

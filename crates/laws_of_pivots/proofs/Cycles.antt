@@ -4,8 +4,8 @@ use Rattle.std.proofs.Common.{◌≡◌, ◌≢◌, ℕ, zero, suc, ◌+◌, ◌
 use Rattle.std.specs.Prelude.{unsigned_abs}
 use Rattle.std.proofs.lemmas.Int.{ints, by_lt_z}
 use Rattle.std.proofs.lemmas.Bool.{cases_eq, cases_lt}
-use Rattle.laws_basic.proofs.Integers.{abs-positive}
-use Rattle.laws_basic.proofs.Found.{position-None}
+use Rattle.define_pools.proofs.Integers.{abs-positive}
+use Rattle.define_pools.proofs.Found.{position-None}
 use Rattle.define_rows.specs.declared.Var.{Var}
 use Rattle.define_rows.specs.declared.Var.TheVariants.{Slack}
 use Rattle.define_rows.specs.Table.{Table, coefficient, coefficient_at, row_at, basic_at, is_same, stage_variable}

@@ -7,9 +7,9 @@ use Rattle.std.specs.List.{list_all}
 use Rattle.std.proofs.lemmas.Int.{ints, by_lt_z}
 use Rattle.std.proofs.lemmas.Bool.{cases_eq, and_parts}
 use Rattle.std.proofs.lemmas.Bool.Decides.{Decides-int_eq}
-use Rattle.laws_basic.proofs.Integers.{mul_comm, mul_assoc, mul-left_comm, mul-neg, zero-mul, same-unscaled, product-positive, product-not_negative, product-not_positive, factor-positive, factor-not_negative, tested-lt, as_natural}
-use Rattle.laws_basic.proofs.Each.{each_from_list_all}
-use Rattle.laws_basic.proofs.Found.{find-passes}
+use Rattle.define_pools.proofs.Integers.{mul_comm, mul_assoc, mul-left_comm, mul-neg, zero-mul, same-unscaled, product-positive, product-not_negative, product-not_positive, factor-positive, factor-not_negative, tested-lt, as_natural}
+use Rattle.define_pools.proofs.Each.{each_from_list_all}
+use Rattle.define_pools.proofs.Found.{find-passes}
 use Rattle.define_rows.specs.declared.Var.{Var}
 use Rattle.define_rows.specs.Table.{Table, coefficient, coefficient_at, row_at, basic_at, row_numbers, stage_variable, comes_before}
 use Rattle.define_rows.specs.Choice.{may_leave, leaves_before, is_least, leaving, entering}

@@ -6,7 +6,7 @@ use Rattle.std.proofs.lemmas.List.{get_or-map, length-map}
 use Rattle.std.proofs.lemmas.List.Elements.{recursion_from_All, All-from_get_or}
 use Rattle.std.proofs.lemmas.Map.Keys.{IsDistinct-from_apart}
 use Rattle.std.proofs.lemmas.Map.Steps.{length-le_from_distinct_below}
-use Rattle.laws_basic.proofs.Each.{each_mapped}
+use Rattle.define_pools.proofs.Each.{each_mapped}
 use Rattle.define_rows.specs.declared.Var.{Var}
 use Rattle.define_rows.specs.Table.{Table}
 use Rattle.define_rows.specs.InOrder.{IsKnown, IsInOrder}

@@ -4,7 +4,7 @@ use Rattle.std.specs.List.{AllByRecursion}
 use Rattle.std.proofs.lemmas.Bool.{cond_both}
 use Rattle.std.proofs.lemmas.Grind.{reverse_onto}
 use Rattle.std.proofs.lemmas.List.{append_assoc}
-use Rattle.laws_basic.proofs.Each.{each_append, each_left, each_map, each_right}
+use Rattle.define_pools.proofs.Each.{each_append, each_left, each_map, each_right}
 use Rattle.define_checks.specs.Caps.{classes_at, stage_row}
 use Rattle.define_checks.specs.Reasons as check
 use Rattle.define_checks.specs.Reasons.{Refusal, Refused, cap_reasons, first_reason, lottery_reasons, reason, reasons_before_cap}
@@ -15,8 +15,8 @@ use Rattle.define_pools.specs.Lottery.{Lottery}
 use Rattle.define_pools.specs.Pool.{Pool}
 use Rattle.define_rows.specs.Row.{Row}
 use Rattle.define_searches.specs.Classes.{Classes}
-use Rattle.define_additions.specs.ProofVerdict.{line_reason, listed_reasons}
-use Rattle.define_additions.specs.TreeLines.{TreeFault, fault}
+use Rattle.define_proofs.specs.ProofVerdict.{line_reason, listed_reasons}
+use Rattle.define_proofs.specs.TreeLines.{TreeFault, fault}
 use Rattle.define_covers.specs.Causes.{applies}
 use Rattle.define_covers.specs.Covers.{Cover, FrontLine}
 use Rattle.define_covers.specs.CoverVerdict.{fault_from, first_tree, later_trees, lines_before_tree, reasons, reasons_from, stage_reasons, tree_fault, tree_reasons, verdict}

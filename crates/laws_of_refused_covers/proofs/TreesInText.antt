@@ -3,7 +3,7 @@ use Rattle.std.proofs.Common.{◌≡◌, ℕ, zero, suc, ◌+◌, ◌-◌, ◌�
 use Rattle.std.proofs.lemmas.List.{append_assoc, length-map, length-reverse}
 use Rattle.define_checks.specs.Reasons.{Refusal, Refused}
 use Rattle.define_bundles.specs.BundleText.{done_line, lines_before_done}
-use Rattle.define_proof_texts.specs.ProofText.{bundle_lines, close_line}
+use Rattle.define_proofs.specs.ProofText.{bundle_lines, close_line}
 use Rattle.define_covers.specs.Covers.{Cover, FrontLine}
 use Rattle.define_covers.specs.CoverVerdict.{lines_before_tree, verdict}
 use Rattle.define_cover_texts.specs.CoverText.{IsCover, cover_lines, front_line, trees_from}

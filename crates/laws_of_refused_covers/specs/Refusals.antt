@@ -3,8 +3,8 @@
 use Rattle.std.specs.Prelude.{◌≡◌, ◌⊎◌, ℕ, ◌+◌, ◌-◌, ◌<◌, ◌≤◌, List, [], ◌∷◌, ◌++◌, drop, length, map, reverse, slice_index_or, take}
 use Rattle.define_checks.specs.Reasons.{Refusal}
 use Rattle.define_pools.specs.Certificate.{Certifies, Stage}
-use Rattle.define_additions.specs.TreeLines.{fault}
-use Rattle.define_proof_texts.specs.ProofText.{close_line}
+use Rattle.define_proofs.specs.TreeLines.{fault}
+use Rattle.define_proofs.specs.ProofText.{close_line}
 use Rattle.define_covers.specs.Covers.{Cover, FrontLine}
 use Rattle.define_covers.specs.CoverVerdict.{lines_before_tree, tree_fault}
 use Rattle.define_cover_texts.specs.CoverText.{cover_lines, front_line, trees_from}

@@ -4,7 +4,7 @@ use Rattle.std.specs.Prelude.{int_le}
 use Rattle.std.specs.List.{list_all, range_with_len}
 use Rattle.std.proofs.lemmas.Int.{ints}
 use Rattle.std.proofs.lemmas.List.Sums.{count_by-le-length}
-use Rattle.laws_basic.proofs.Lists.{map-map}
+use Rattle.define_pools.proofs.Lists.{map-map}
 use Rattle.define_pools.specs.Certificate.{Answer, Certifies, StagesHold, is_settled}
 use Rattle.define_pools.specs.Pool.{IsPool, Pool, everybody}
 use Rattle.define_rows.specs.Levels.{HasLevels}

@@ -6,8 +6,8 @@ use Rattle.std.proofs.lemmas.List.{get_or-map}
 use Rattle.std.proofs.lemmas.List.Elements.{All-from_recursion, recursion_from_All}
 use Rattle.std.proofs.lemmas.Option.{slice_get-get_or}
 use Rattle.std.proofs.Math.Nat.{mul-div_cancel_left}
-use Rattle.laws_basic.proofs.Sums.{total, sum_by-is-total}
-use Rattle.laws_basic.proofs.Each.{each_map}
+use Rattle.define_pools.proofs.Sums.{total, sum_by-is-total}
+use Rattle.define_pools.proofs.Each.{each_map}
 use Rattle.frac128.specs.Fractions.{Fraction, lowest_of}
 use Rattle.define_pools.specs.Certificate.{panel_weight}
 use Rattle.define_pools.specs.Lottery.{Lottery, count}

@@ -6,8 +6,8 @@ use Rattle.std.proofs.lemmas.Bool.{cases_lt, false≢true, or_right}
 use Rattle.std.proofs.lemmas.Int.{ints}
 use Rattle.std.proofs.lemmas.List.{get_or_past}
 use Rattle.std.proofs.lemmas.List.Sums.{count_by-le-length}
-use Rattle.laws_basic.proofs.Lists.{all_pass}
-use Rattle.laws_basic.proofs.Each.{each_range, list_all_from_each}
+use Rattle.define_pools.proofs.Lists.{all_pass}
+use Rattle.define_pools.proofs.Each.{each_range, list_all_from_each}
 use Rattle.define_pools.specs.Certificate.{is_positive, is_settled}
 use Rattle.define_pools.specs.Pool.{Pool, everybody}
 use Rattle.define_rows.specs.InOrder.{settled_count}

@@ -2,7 +2,7 @@
 use Rattle.std.proofs.Common.{◌≡◌, ℕ, ◌<◌, Bool, true, ltb, List, length, sym, ap, ◌∙◌}
 use Rattle.std.specs.List.{list_all}
 use Rattle.std.proofs.lemmas.Bool.{ltb-true}
-use Rattle.laws_basic.proofs.Each.{each_from_list_all, each_map}
+use Rattle.define_pools.proofs.Each.{each_from_list_all, each_map}
 use Rattle.define_pools.specs.Certificate.{panel_weight, weight_of}
 use Rattle.define_pools.specs.Pool.{Pool}
 use Rattle.define_rows.specs.Row.{Row}

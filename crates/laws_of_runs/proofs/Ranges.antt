@@ -4,9 +4,9 @@ use Rattle.std.specs.Prelude.{unsigned_abs}
 use Rattle.std.specs.List.{AllByRecursion, list_all, range_with_len}
 use Rattle.std.proofs.lemmas.Bool.{and_from, eq-eqb, false≢true, le-leb, leb-true, lt-ltb, and_parts}
 use Rattle.std.proofs.Math.Pow.{pow_mono}
-use Rattle.laws_basic.proofs.Sums.{length-filter-total, sum_by-is-total, total, total_ext}
-use Rattle.laws_basic.proofs.Lists.{map-map}
-use Rattle.laws_basic.proofs.Each.{each_both, each_from_list_all, each_map, each_mapped, each_range, list_all_from_each}
+use Rattle.define_pools.proofs.Sums.{length-filter-total, sum_by-is-total, total, total_ext}
+use Rattle.define_pools.proofs.Lists.{map-map}
+use Rattle.define_pools.proofs.Each.{each_both, each_from_list_all, each_map, each_mapped, each_range, list_all_from_each}
 use Rattle.define_bundles.specs.Ranges.{IsInRanges, is_group, is_row, is_stage, is_weight, reach}
 use Rattle.define_pools.specs.Certificate.{Answer, Stage, StagesHold, is_settled, weight_of}
 use Rattle.define_pools.specs.Lists.{is_increasing}

@@ -5,7 +5,7 @@ use Rattle.std.specs.Ordering.{int_eq}
 use Rattle.std.specs.List.{AllByRecursion, range_with_len}
 use Rattle.std.proofs.lemmas.Bool.{eq-eqb, le-leb, lt-ltb, cases_lt, not-true, not_from_false}
 use Rattle.std.proofs.lemmas.Bool.Decides.{Decides-int_eq}
-use Rattle.laws_basic.proofs.Each.{each_map, each_filter, each_range, list_all_from_each}
+use Rattle.define_pools.proofs.Each.{each_map, each_filter, each_range, list_all_from_each}
 use Rattle.define_pools.specs.Pool.{Pool, everybody}
 use Rattle.define_pools.specs.Lottery.{Lottery, count}
 use Rattle.define_pools.specs.Certificate.{Stage, StageHolds, is_capped, is_positive, is_settled, panel_weight, settling, unsettled, weight_of}

@@ -1,5 +1,5 @@
-//! Laws of the run: what its endings show about the pool. Stands on `define_runs` and the definitions below it, on the ranges of a bundle
-//! (`define_bundles`), and on `laws_basic`. Used by `leximin_run`, whose promises rest on these laws, by the commands `lottery` and `make`,
+//! Laws of the run: what its endings show about the pool. Stands on `define_runs` and the definitions below it, and on the ranges of a bundle
+//! (`define_bundles`). Used by `leximin_run`, whose promises rest on these laws, by the commands `lottery` and `make`,
 //! by the laws of the office, and by the proofs of `command_office`.
 //!
 //! The functions have no body. Their contracts are the laws, and the promises of this crate.

@@ -2,10 +2,10 @@
 
 ghost use Rattle.std.specs.Prelude.{◌≡◌, [], ◌∷◌, ◌++◌, ◌+◌, ◌-◌, ◌^◌, codes, length, Ok, Err, pos, negsuc};
 ghost use Rattle.define_pools.specs.WorkedExamples.{four, after_dropout, row, stage};
-ghost use Rattle.define_pool_texts.specs.PoolText.{spelling};
-ghost use Rattle.define_pool_texts.specs.PoolReading.{read};
+ghost use Rattle.define_bundles.specs.PoolText.{spelling};
+ghost use Rattle.define_bundles.specs.PoolReading.{read};
 ghost use Rattle.define_bundles.specs.Ranges.{IsInRanges};
-ghost use Rattle.define_pool_texts.specs.WorkedExamples.{housed};
+ghost use Rattle.define_bundles.specs.WorkedPoolTexts.{housed};
 ghost use Rattle.define_bundles.specs.BundleText.{bundle_text};
 ghost use Rattle.define_bundles.specs.BundleReading.{read_bundle};
 ghost use Rattle.laws_worked.specs.Bundles.{answer_of, four_text, head, head_with_value, housed_answer, housed_bundle_text, housed_text, lines_of_four, printed_answer, printed_text, single};

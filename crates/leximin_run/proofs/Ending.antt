@@ -3,7 +3,7 @@ use Rattle.std.proofs.Common.{◌≡◌, ◌<◌, ◌≤◌, false, cond, ltb, L
 use Rattle.std.specs.List.{All}
 use Rattle.std.proofs.lemmas.Bool.{le-ltb}
 use Rattle.std.proofs.lemmas.List.Elements.{All-from_recursion, recursion_from_All}
-use Rattle.laws_basic.proofs.Each.{each_mapped}
+use Rattle.define_pools.proofs.Each.{each_mapped}
 use Rattle.define_legs.specs.declared.Leg.{Leg}
 use Rattle.define_legs.specs.Legs.{EndsWithLegs}
 use Rattle.define_pools.specs.Lottery.{Lottery}

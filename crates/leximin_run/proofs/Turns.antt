@@ -6,7 +6,7 @@ use Rattle.std.proofs.lemmas.Bool.{le-ltb, lt-ltb}
 use Rattle.std.proofs.lemmas.Nat.{pow_pos}
 use Rattle.std.proofs.lemmas.List.{length-map, map-append}
 use Rattle.std.proofs.lemmas.List.Elements.{recursion_from_All}
-use Rattle.laws_basic.proofs.Each.{each_map, each_mapped}
+use Rattle.define_pools.proofs.Each.{each_map, each_mapped}
 use Rattle.define_rows.specs.declared.Var.{Var}
 use Rattle.define_rows.specs.Choice.{choice}
 use Rattle.define_rows.specs.InOrder.{settled_count}

@@ -3,7 +3,7 @@ use Rattle.std.proofs.Common.{◌≡◌, ℕ, ◌+◌, ◌≤◌, ◌<◌, List,
 use Rattle.std.specs.List.{enumerate_from, flat_map}
 use Rattle.std.proofs.lemmas.Grind.{flat_map-append}
 use Rattle.std.proofs.lemmas.List.{append-nil, take_all, take_more}
-use Rattle.laws_basic.proofs.Lists.{get_or-enumerate_from, length-enumerate_from}
+use Rattle.define_pools.proofs.Lists.{get_or-enumerate_from, length-enumerate_from}
 
 -- taking one more element appends the list that `f` returns for it
 pub one_more_list : {X Y : Type 0} (f : ℕ × X → List Y) (xs : List X) (k : ℕ) (d : X) → k < length xs →

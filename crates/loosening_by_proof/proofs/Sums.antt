@@ -4,7 +4,7 @@ use Rattle.std.specs.List.{enumerate_from}
 use Rattle.std.specs.Option.{IfSome, SomeIff}
 use Rattle.std.proofs.lemmas.List.{take_all}
 use Rattle.std.proofs.lemmas.List.Sums.{sum_by_more}
-use Rattle.laws_basic.proofs.Lists.{get_or-enumerate_from, length-enumerate_from}
+use Rattle.define_pools.proofs.Lists.{get_or-enumerate_from, length-enumerate_from}
 
 -- taking one more element adds its value to the sum
 pub one_more : {X : Type 0} (f : ℕ × X → ℕ) (xs : List X) (k : ℕ) (d : X) → k < length xs →

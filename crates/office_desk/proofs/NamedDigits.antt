@@ -6,7 +6,7 @@ use Rattle.std.specs.Str.{IsAscii, IsUtf8}
 use Rattle.std.proofs.lemmas.Bool.{false≢true, ltb-false, ltb-true, not-false}
 use Rattle.std.proofs.lemmas.List.{get_or_past}
 use Rattle.std.proofs.lemmas.Str.{IsUtf8-from_ascii}
-use Rattle.laws_basic.proofs.Found.{position-None}
+use Rattle.define_pools.proofs.Found.{position-None}
 use Rattle.define_draws.specs.Dice.{name_ticket, named_but}
 use Rattle.office_desk.proofs.Digits.{digit_in_range}
 

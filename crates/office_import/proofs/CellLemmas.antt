@@ -7,7 +7,7 @@ use Rattle.std.proofs.lemmas.Str.{digit_value_digit}
 use Rattle.std.specs.Int.{IsInRange}
 use Rattle.std.proofs.lemmas.Bool.{false≢true, and_parts, leb-true}
 use Rattle.std.proofs.lemmas.List.Quantifiers.{position-Some}
-use Rattle.laws_basic.proofs.Found.{position-None}
+use Rattle.define_pools.proofs.Found.{position-None}
 use Rattle.std.proofs.lemmas.List.{length-reverse, reverse-append, reverse-reverse}
 use Rattle.csv.specs.Records.{field_at}
 use Rattle.define_imports.specs.Cells.{is_blank, trim_front}

@@ -3,7 +3,7 @@ use Rattle.std.proofs.Common.{◌≡◌, ℕ, suc, ◌+◌, ◌<◌, Bool, true,
 use Rattle.std.specs.List.{range_with_len}
 use Rattle.std.proofs.lemmas.List.{append-nil, get_or_read}
 use Rattle.std.proofs.lemmas.List.Elements.{filter-append}
-use Rattle.laws_basic.proofs.Lists.{range-more}
+use Rattle.define_pools.proofs.Lists.{range-more}
 use Rattle.define_pools.specs.declared.Standing.TheVariants.{Gone}
 use Rattle.define_pools.specs.Lists.{includes_list}
 use Rattle.define_pools.specs.Pool.{Volunteer, volunteer}

@@ -7,7 +7,7 @@ use Rattle.std.proofs.lemmas.Bool.Decides.{nat_tests}
 use Rattle.std.proofs.lemmas.Int.Digits.{digits_more, digits_value-lt, digits_value_more}
 use Rattle.std.proofs.lemmas.List.{length-take-le}
 use Rattle.std.proofs.Math.Nat.{pow-le-pow_right}
-use Rattle.laws_basic.proofs.Each.{passes_at}
+use Rattle.define_pools.proofs.Each.{passes_at}
 use Rattle.define_desk.specs.Requests.{is_number}
 
 -- the text spells a number: it has 1 to 18 bytes, and each is a digit

@@ -4,7 +4,7 @@ use Rattle.std.proofs.Common.{◌≡◌, ◌≤◌, ◌<◌, ◌+◌, ℕ, zero,
 use Rattle.std.specs.List.{position}
 use Rattle.std.specs.Str.{bytes_eq}
 use Rattle.std.proofs.lemmas.List.Quantifiers.{position-Some}
-use Rattle.laws_basic.proofs.Found.{position-None}
+use Rattle.define_pools.proofs.Found.{position-None}
 use Rattle.define_offices.specs.declared.Phase.{Phase}
 use Rattle.define_offices.specs.declared.Phase.TheVariants as phase
 use Rattle.define_offices.specs.Deciding.{is_last_open, place_of_hash}

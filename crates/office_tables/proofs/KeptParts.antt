@@ -8,7 +8,7 @@ use Rattle.std.proofs.lemmas.Bool.{and_from, and_parts}
 use Rattle.std.proofs.lemmas.List.{get_or_default, length-drop, take-append-drop, take_all}
 use Rattle.std.proofs.lemmas.List.Folds.{list_any-append, list_any_more}
 use Rattle.std.proofs.lemmas.Slice.Eq.{bytes_eq-Decides}
-use Rattle.laws_basic.proofs.Each.{below_at}
+use Rattle.define_pools.proofs.Each.{below_at}
 use Rattle.define_pools.specs.Building.{ids}
 use Rattle.define_pools.specs.Lists.{all_different, includes_list}
 use Rattle.define_pools.specs.Pool.{Pool, Volunteer, volunteer}

@@ -9,7 +9,7 @@ use Rattle.std.proofs.lemmas.List.{append-nil, drop_more, length-take-le}
 use Rattle.std.proofs.lemmas.List.FromFn.{get_or-range_with_len, length-range_with_len}
 use Rattle.std.proofs.lemmas.List.Sums.{fold-append, position_or_len_is}
 use Rattle.std.proofs.lemmas.Nat.{mul-le}
-use Rattle.laws_basic.proofs.Each.{each_append, each_filter, each_map, each_mapped}
+use Rattle.define_pools.proofs.Each.{each_append, each_filter, each_map, each_mapped}
 use Rattle.define_rows.specs.Row.{Row}
 use Rattle.define_searches.specs.Classes.{Class, Classes, KeepsLimits}
 use Rattle.define_searches.specs.Compositions.{counts_of}

@@ -4,7 +4,7 @@ use Rattle.std.specs.Prelude.{slice_get, slice_index, IfOk, Vec, vec_items}
 use Rattle.std.specs.declared.alloc.Global.{Global}
 use Rattle.std.specs.List.{AllByRecursion}
 use Rattle.std.proofs.lemmas.List.Elements.{recursion_from_All}
-use Rattle.laws_basic.proofs.Each.{each_append}
+use Rattle.define_pools.proofs.Each.{each_append}
 use Rattle.define_rows.specs.Row.{Row, reach}
 use Rattle.define_searches.specs.Classes.{Class, Classes, KeepsLimits}
 use Rattle.define_searches.specs.Fronts.{HaveEntries, HaveReach, sizes_of}

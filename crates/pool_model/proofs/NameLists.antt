@@ -3,7 +3,7 @@ use Rattle.std.proofs.Common.{◌≡◌, ℕ, suc, ◌+◌, Bool, true, false, c
 use Rattle.std.specs.List.{list_all, list_any, zip, position_or_len}
 use Rattle.std.specs.Str.{bytes_eq}
 use Rattle.std.proofs.lemmas.Bool.{lt-ltb}
-use Rattle.laws_basic.proofs.Tests.{ltb-more}
+use Rattle.define_pools.proofs.Tests.{ltb-more}
 use Rattle.define_pools.specs.Lists.{includes_list}
 use Rattle.define_pools.specs.Pool.{BoundedValue, Category}
 use Rattle.define_pools.specs.Building.{value_names, place_of, places_of, are_known}

@@ -4,7 +4,7 @@ use Rattle.std.specs.Prelude.{sum_by, unsigned_abs}
 use Rattle.std.specs.List.{list_all}
 use Rattle.std.proofs.lemmas.Bool.{and_parts, ltb-true, leb-true, le-leb}
 use Rattle.std.proofs.lemmas.List.Sums.{sum_by-cons, sum_by-take-le}
-use Rattle.laws_basic.proofs.Integers.{abs-add}
+use Rattle.define_pools.proofs.Integers.{abs-add}
 use Rattle.define_pools.specs.Lists.{is_increasing}
 use Rattle.define_pools.specs.Certificate.{Stage, weight_of, panel_weight}
 

@@ -5,11 +5,11 @@ use Rattle.std.specs.List.{AllByRecursion}
 use Rattle.std.specs.Str.{IsUtf8, is_utf8}
 use Rattle.std.proofs.lemmas.Str.{IsUtf8-from_is_utf8}
 use Rattle.define_pools.specs.Pool.{Pool}
-use Rattle.laws_basic.proofs.Each.{each_map}
+use Rattle.define_pools.proofs.Each.{each_map}
 use Rattle.define_lines.specs.Lines.{fields_of}
-use Rattle.define_pool_texts.specs.declared.Passed.{Passed}
-use Rattle.define_pool_texts.specs.PoolReading.{Entry, Word, CategoryWord, ValueWord, VolunteerWord, HouseholdWord, StandingWord, EndWord, words, word_among, entry_of_word, entry_behind, entry_of, entry_kind, line_kind, Inside}
-use Rattle.define_pool_texts.proofs.LowestKinds.{kind_or, encoding_kind, line_kind_of}
+use Rattle.define_bundles.specs.declared.Passed.{Passed}
+use Rattle.define_bundles.specs.PoolReading.{Entry, Word, CategoryWord, ValueWord, VolunteerWord, HouseholdWord, StandingWord, EndWord, words, word_among, entry_of_word, entry_behind, entry_of, entry_kind, line_kind, Inside}
+use Rattle.define_bundles.proofs.LowestKinds.{kind_or, encoding_kind, line_kind_of}
 use Rattle.define_lines.proofs.LineLemmas.{each_field_is_utf8, line_of-fields_of}
 use Rattle.pool_text.specs.Entries.{IsText}
 

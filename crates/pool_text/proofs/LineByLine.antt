@@ -6,8 +6,8 @@ use Rattle.define_lines.proofs.LineByLine as reading
 use Rattle.pool_model.specs.declared.building.BuildStop.{BuildStop}
 use Rattle.pool_model.specs.declared.building.BuildStop.TheVariants.{Kind, OutOfMemory}
 use Rattle.pool_text.specs.Answers.{Reads, Tells, IsRightBefore, stopped}
-use Rattle.define_pool_texts.specs.declared.Passed.{Passed}
-use Rattle.define_pool_texts.specs.PoolReading.{Progress, Begun, Versioned, Inside, Ended, Entry, OfCategory, OfValue, OfVolunteer, OfHousehold, OfStanding, TheEnd, Unknown, entry_of, after_entry, line_kind, after_line, at_last, reader}
+use Rattle.define_bundles.specs.declared.Passed.{Passed}
+use Rattle.define_bundles.specs.PoolReading.{Progress, Begun, Versioned, Inside, Ended, Entry, OfCategory, OfValue, OfVolunteer, OfHousehold, OfStanding, TheEnd, Unknown, entry_of, after_entry, line_kind, after_line, at_last, reader}
 use Rattle.define_pools.specs.Pool.{Pool}
 use Rattle.pool_text.specs.declared.faults.ReadPool.{ReadPool}
 use Rattle.pool_text.specs.declared.faults.ReadPool.TheVariants.{OutOfMemory as Unread}

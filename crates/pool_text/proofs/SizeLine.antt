@@ -9,7 +9,7 @@ use Rattle.define_lines.specs.Numbers.{number_up_to}
 use Rattle.define_lines.proofs.LineLemmas.{fields_of-line_of, line_of-fields_of}
 use Rattle.define_lines.proofs.FieldLemmas.{plain_field, decimal_field}
 use Rattle.define_lines.proofs.NumberLemmas.{bytes_are, number_spelled}
-use Rattle.define_pool_texts.specs.PoolReading.{size_of}
+use Rattle.define_bundles.specs.PoolReading.{size_of}
 
 -- a field that has a TAB spells no number
 no_number : (field : List ℕ) (fields : List (List ℕ)) → fields_of field ≡ fields → (length fields ≡ 1 → ⊥) → number_up_to 200 field ≡ None

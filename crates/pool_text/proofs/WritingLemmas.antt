@@ -5,7 +5,7 @@ use Rattle.std.proofs.lemmas.List.{append-nil}
 use Rattle.std.specs.List.{flat_map}
 use Rattle.define_pools.specs.Pool.{Category, Pool, has_values, has_households}
 use Rattle.define_pools.specs.Building.{value_names}
-use Rattle.define_pool_texts.specs.PoolText.{version_line, size_line, category_lines, names_at, volunteer_line, household_lines, standing_lines, end_line, lines_before_end, spelling}
+use Rattle.define_bundles.specs.PoolText.{version_line, size_line, category_lines, names_at, volunteer_line, household_lines, standing_lines, end_line, lines_before_end, spelling}
 use Rattle.define_lines.specs.Lines.{tab, tabbed, text_of}
 use Rattle.define_lines.proofs.LineLemmas.{text_of-append}
 

@@ -1,7 +1,7 @@
 -- The code's entries in the form of the definitions.
 use Rattle.std.specs.Prelude.{map}
 use Rattle.std.specs.Str.{IsUtf8}
-use Rattle.define_pool_texts.specs.PoolReading as words
+use Rattle.define_bundles.specs.PoolReading as words
 use Rattle.pool_text.specs.declared.entries.Entry.{Entry}
 use Rattle.pool_text.specs.declared.entries.Entry.TheVariants.{Category, Value, Volunteer, Household, Standing, End, Unknown}
 

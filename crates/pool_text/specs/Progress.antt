@@ -1,8 +1,8 @@
 -- The code's progress in the form of the definitions. The contracts of this crate's readers, and of those of bundles and proofs, cite it.
 use Rattle.std.specs.Prelude.{ℕ, Option, Some, None}
 use Rattle.define_pools.specs.Pool.{Pool}
-use Rattle.define_pool_texts.specs.PoolReading as words
-use Rattle.define_pool_texts.specs.declared.Passed.{Passed}
+use Rattle.define_bundles.specs.PoolReading as words
+use Rattle.define_bundles.specs.declared.Passed.{Passed}
 use Rattle.pool_text.specs.declared.progress.Progress.{Progress}
 use Rattle.pool_text.specs.declared.progress.Progress.TheVariants.{Begun, Versioned, Inside, Ended}
 

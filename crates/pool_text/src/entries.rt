@@ -4,11 +4,11 @@ ghost use Rattle.std.specs.Prelude.{◌≡◌, ◌<◌, ◌+◌, length, map, If
 ghost use Rattle.define_pools.specs.Building.{household_kind as name_kind, household_set, standing_set};
 ghost use Rattle.std.specs.Str.{IsUtf8, is_utf8};
 ghost use Rattle.pool_text.specs.Answers.{Tells};
-ghost use Rattle.define_pool_texts.specs.PoolReading.{Inside, line_kind, after_line, after_entry, ValueWord, StandingWord, entry_of_word, entry_of as entry_in, entry_kind as kind_in, number_of as number_in, bound_of as bound_in, awaits_household as awaits, is_ahead as is_number_ahead};
+ghost use Rattle.define_bundles.specs.PoolReading.{Inside, line_kind, after_line, after_entry, ValueWord, StandingWord, entry_of_word, entry_of as entry_in, entry_kind as kind_in, number_of as number_in, bound_of as bound_in, awaits_household as awaits, is_ahead as is_number_ahead};
 ghost use Rattle.pool_text.specs.Entries.{said, IsText};
 ghost use Rattle.pool_text.specs.Progress.{with_pool};
 
-use define_pool_texts::Passed;
+use define_bundles::Passed;
 use pool_model::{BuildStop, Pool, Standing, Volunteer, household_kind};
 use std::alloc::{AllocError, Global};
 use std::str;

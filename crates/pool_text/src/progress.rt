@@ -4,11 +4,11 @@ ghost use Rattle.std.specs.Prelude.{◌≡◌, ◌≤◌, Err, IfOk};
 ghost use Rattle.pool_model.specs.declared.building.BuildStop.TheVariants.{OutOfMemory};
 ghost use Rattle.pool_text.specs.Answers.{Tells};
 ghost use Rattle.define_lines.specs.Lines.{fields_of as fields_in};
-ghost use Rattle.define_pool_texts.specs.PoolReading.{line_kind, after_line, size_of as size_in};
+ghost use Rattle.define_bundles.specs.PoolReading.{line_kind, after_line, size_of as size_in};
 ghost use Rattle.pool_text.specs.Progress.{seen, line_due};
 
 use crate::entries::{FORM, read_entry};
-use define_pool_texts::Passed;
+use define_bundles::Passed;
 use pool_model::{BuildStop, Pool};
 use std::alloc::Global;
 use text_lines::number_up_to;

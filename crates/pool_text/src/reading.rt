@@ -2,8 +2,8 @@
 
 ghost use Rattle.std.specs.Prelude.{◌≡◌, ◌≢◌, ◌<◌, length, Ok, Err, IfOk};
 ghost use Rattle.define_pools.specs.Pool.{Pool as Words, IsPool};
-ghost use Rattle.define_pool_texts.specs.PoolText.{spelling};
-ghost use Rattle.define_pool_texts.specs.PoolReading.{read, at_last};
+ghost use Rattle.define_bundles.specs.PoolText.{spelling};
+ghost use Rattle.define_bundles.specs.PoolReading.{read, at_last};
 ghost use Rattle.pool_text.specs.Answers.{Reads, IsRightBefore, stopped};
 ghost use Rattle.pool_text.specs.declared.faults.ReadPool.TheVariants.{OutOfMemory};
 ghost use Rattle.define_lines.specs.Lines.{pieces_of};

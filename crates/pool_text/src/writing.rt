@@ -5,8 +5,8 @@ ghost use Rattle.define_pools.specs.Building.{value_names};
 ghost use Rattle.std.specs.List.{flat_map, list_all};
 ghost use Rattle.define_pools.specs.Pool.{has_values};
 ghost use Rattle.define_lines.specs.Lines.{tabbed, text_of};
-ghost use Rattle.define_pool_texts.specs.PoolText.{version as version_words, household_line, household_lines, size_line, category_lines, value_line, names_at, volunteer_line, standing_line, standing_lines, spelling};
-ghost use Rattle.define_pool_texts.specs.PoolReading.{read};
+ghost use Rattle.define_bundles.specs.PoolText.{version as version_words, household_line, household_lines, size_line, category_lines, value_line, names_at, volunteer_line, standing_line, standing_lines, spelling};
+ghost use Rattle.define_bundles.specs.PoolReading.{read};
 
 use itoa::Buffer;
 use pool_model::{BoundedValue, Category, Pool, Standing, Volunteer, has_households};

@@ -1,7 +1,7 @@
--- What contracts see of a proof's parts and of a node: the proofs and tree lines of `define_additions`. The contracts of this crate and
+-- What contracts see of a proof's parts and of a node: the proofs and tree lines of `define_proofs`. The contracts of this crate and
 -- of those above cite `seen`.
-use Rattle.define_additions.specs.ProofVerdict as words
-use Rattle.define_additions.specs.TreeLines as lines
+use Rattle.define_proofs.specs.ProofVerdict as words
+use Rattle.define_proofs.specs.TreeLines as lines
 use Rattle.proof_model.specs.declared.proofs.Parts.{Parts}
 use Rattle.proof_model.specs.declared.proofs.Parts.TheVariants.{Lottery, NoPanel}
 use Rattle.proof_model.specs.declared.trees.Node.{Node}

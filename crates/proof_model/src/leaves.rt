@@ -1,4 +1,4 @@
-//! Leaves: a scale, and multipliers of constraints. Contracts see the records of `define_additions`. `trees`, `ranges` and the crates
+//! Leaves: a scale, and multipliers of constraints. Contracts see the records of `define_proofs`. `trees`, `ranges` and the crates
 //! above use them.
 
 ghost use Rattle.std.specs.Prelude.{◌≡◌};
@@ -13,7 +13,7 @@ pub struct Multiplier {
 }
 
 impl Model for Multiplier {
-    ghost use Rattle.define_additions.specs.Leaves.{Multiplier as Seen};
+    ghost use Rattle.define_proofs.specs.Leaves.{Multiplier as Seen};
 
     ghost Value = { Seen };
 
@@ -51,7 +51,7 @@ pub struct Leaf {
 }
 
 impl Model for Leaf {
-    ghost use Rattle.define_additions.specs.Leaves.{Leaf as Seen};
+    ghost use Rattle.define_proofs.specs.Leaves.{Leaf as Seen};
 
     ghost Value = { Seen };
 

@@ -2,8 +2,8 @@
 //! Stands on `ranges` and `trees`; readers, writers, the verifier and the run take and return `Proof`.
 
 ghost use Rattle.std.specs.Prelude.{◌≡◌, ◌↔◌, IfSome, IsSome, IsTrue};
-ghost use Rattle.define_additions.specs.ProofVerdict.{OfLottery, OfNoPanel};
-ghost use Rattle.define_proof_texts.specs.ProofText.{IsProof, IsLotteryProof, IsNoPanelProof};
+ghost use Rattle.define_proofs.specs.ProofVerdict.{OfLottery, OfNoPanel};
+ghost use Rattle.define_proofs.specs.ProofText.{IsProof, IsLotteryProof, IsNoPanelProof};
 ghost use Rattle.proof_model.specs.Parts.{seen};
 
 use crate::ranges::{are_tree_lines, are_trees};
@@ -32,8 +32,8 @@ pub struct Proof {
 }
 
 impl Model for Proof {
-    ghost use Rattle.define_additions.specs.ProofVerdict.{Proof as Seen};
-    ghost use Rattle.define_proof_texts.specs.ProofText.{IsProof};
+    ghost use Rattle.define_proofs.specs.ProofVerdict.{Proof as Seen};
+    ghost use Rattle.define_proofs.specs.ProofText.{IsProof};
     ghost use Rattle.proof_model.specs.Parts.{seen};
 
     ghost Value = { Seen };

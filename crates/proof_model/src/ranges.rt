@@ -3,7 +3,7 @@
 ghost use Rattle.std.specs.Prelude.{◌≡◌, ◌<◌, length, map, slice_index};
 ghost use Rattle.std.specs.List.{list_all};
 ghost use Rattle.define_pools.specs.Lists.{is_increasing};
-ghost use Rattle.define_additions.specs.TreeRanges.{is_leaf as keeps_leaf, is_multiplier as keeps_multiplier, is_tree_line as keeps_line};
+ghost use Rattle.define_proofs.specs.TreeRanges.{is_leaf as keeps_leaf, is_multiplier as keeps_multiplier, is_tree_line as keeps_line};
 
 use crate::leaves::{Leaf, Multiplier};
 use crate::trees::{Node, TreeLine, TreeLines};

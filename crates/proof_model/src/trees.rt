@@ -1,7 +1,7 @@
 //! Trees as lists of lines, one for each node. Stands on `leaves`; readers, writers and the verifier read the lines in order.
 
 ghost use Rattle.std.specs.Prelude.{◌≡◌, ◌++◌, ◌∷◌, [], OnOk, OnErr};
-ghost use Rattle.define_additions.specs.TreeLines.{OfLeaf, OfSplit};
+ghost use Rattle.define_proofs.specs.TreeLines.{OfLeaf, OfSplit};
 ghost use Rattle.proof_model.specs.Parts.{seen_node};
 
 use crate::leaves::Leaf as OneLeaf;
@@ -24,7 +24,7 @@ pub struct TreeLine {
 }
 
 impl Model for TreeLine {
-    ghost use Rattle.define_additions.specs.TreeLines.{TreeLine as Seen};
+    ghost use Rattle.define_proofs.specs.TreeLines.{TreeLine as Seen};
     ghost use Rattle.proof_model.specs.Parts.{seen_node};
 
     ghost Value = { Seen };
@@ -67,7 +67,7 @@ pub struct TreeLines {
 
 impl Model for TreeLines {
     ghost use Rattle.std.specs.Prelude.{List};
-    ghost use Rattle.define_additions.specs.TreeLines.{TreeLine as Seen};
+    ghost use Rattle.define_proofs.specs.TreeLines.{TreeLine as Seen};
 
     ghost Value = { List Seen };
 

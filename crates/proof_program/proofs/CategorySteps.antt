@@ -4,7 +4,7 @@ use Rattle.std.specs.List.{enumerate_from, flat_map}
 use Rattle.std.proofs.lemmas.List.{append-nil, take_more}
 use Rattle.std.proofs.lemmas.List.Concat.{flat_map-append}
 use Rattle.std.proofs.lemmas.List.FromFn.{length-enumerate_from}
-use Rattle.define_additions.specs.Constraints.{Constraint, category_constraints, size_constraint}
+use Rattle.define_proofs.specs.Constraints.{Constraint, category_constraints, size_constraint}
 use Rattle.define_pools.specs.Pool.{Category, Pool}
 use Rattle.proof_program.proofs.ListSteps.{numbered_at}
 

@@ -3,8 +3,8 @@ use Rattle.std.proofs.Common.{◌≡◌, ℕ, ◌<◌, Bool, true, false, not, �
 use Rattle.std.specs.Prelude.{slice_get, is_some}
 use Rattle.std.proofs.lemmas.Bool.{and_parts, eqb-true, false≢true}
 use Rattle.std.proofs.lemmas.Option.{slice_get-get_or}
-use Rattle.laws_basic.proofs.Each.{each_range}
-use Rattle.laws_basic.proofs.Lists.{map-map, map_same}
+use Rattle.define_pools.proofs.Each.{each_range}
+use Rattle.define_pools.proofs.Lists.{map-map, map_same}
 use Rattle.define_pools.specs.Pool.{Pool, everybody, volunteer}
 use Rattle.define_searches.specs.Classes.{Class, are_alike, are_equal, class_by, class_number, classes_of, leaders, shared_household, shares_household}
 use Rattle.define_searches.proofs.AlikeClasses.{alike_makes}

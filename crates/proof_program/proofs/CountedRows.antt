@@ -4,10 +4,10 @@ use Rattle.std.specs.Prelude.{int_lt, sum_by}
 use Rattle.std.specs.List.{All, AllByRecursion}
 use Rattle.std.proofs.lemmas.List.Elements.{recursion_from_All}
 use Rattle.std.proofs.lemmas.List.FromFn.{get_or-map-range_with_len}
-use Rattle.laws_basic.proofs.Integers.{one-mul, zero-mul}
-use Rattle.laws_basic.proofs.Sums as naturals
-use Rattle.define_additions.specs.Constraints.{coefficient}
-use Rattle.define_additions.proofs.SignedSums.{sum-is-total, total}
+use Rattle.define_pools.proofs.Integers.{one-mul, zero-mul}
+use Rattle.define_pools.proofs.Sums as naturals
+use Rattle.define_proofs.specs.Constraints.{coefficient}
+use Rattle.define_proofs.proofs.SignedSums.{sum-is-total, total}
 use Rattle.define_pools.specs.Pool.{Pool}
 use Rattle.proof_program.specs.declared.columns.Column.{Column}
 use Rattle.proof_program.specs.declared.demands.Demand.{Demand}

@@ -4,7 +4,7 @@ use Rattle.std.specs.List.{enumerate_from, range_with_len}
 use Rattle.std.proofs.lemmas.List.{append-nil, append_assoc, map_push, take_more}
 use Rattle.std.proofs.lemmas.List.Elements.{filter-append}
 use Rattle.std.proofs.lemmas.List.FromFn.{get_or-enumerate_from}
-use Rattle.laws_basic.proofs.Lists.{numbers_more}
+use Rattle.define_pools.proofs.Lists.{numbers_more}
 
 -- element `k` of a numbered list is `k` with element `k` of the list
 pub numbered_at : {X : Type 0} (xs : List X) (k : ℕ) (x : X) → k < length xs → x ≡ get_or xs k x → get_or (enumerate_from 0 xs) k (k, x) ≡ (k, x)

@@ -10,8 +10,8 @@ use Rattle.std.proofs.lemmas.List.Concat.{length-flat_map}
 use Rattle.std.proofs.lemmas.List.Elements.{All-from_recursion, recursion_from_All}
 use Rattle.std.proofs.lemmas.List.FromFn.{get_or-enumerate_from, length-enumerate_from, length-range_with_len}
 use Rattle.std.proofs.lemmas.List.Sums.{count_by-le-length, length-filter, sum_by-le}
-use Rattle.laws_basic.proofs.Each.{each_append, each_everywhere, each_from_list_all, each_map, each_mapped, each_of_map, each_flat_map}
-use Rattle.define_additions.specs.Constraints.{Constraint, category_constraints, coefficient, constraints, counting, first_members, household_constraint, size_constraint, value_constraint}
+use Rattle.define_pools.proofs.Each.{each_append, each_everywhere, each_from_list_all, each_map, each_mapped, each_of_map, each_flat_map}
+use Rattle.define_proofs.specs.Constraints.{Constraint, category_constraints, coefficient, constraints, counting, first_members, household_constraint, size_constraint, value_constraint}
 use Rattle.define_pools.specs.Pool.{BoundedValue, Category, IsPool, Pool, everybody, is_category, is_value, volunteer}
 use Rattle.define_searches.specs.Classes.{shared_household}
 use Rattle.define_searches.specs.Compositions.{is_of_household}

@@ -5,8 +5,8 @@ use Rattle.std.proofs.lemmas.Bool.{leb-true}
 use Rattle.std.proofs.lemmas.Int.{ints}
 use Rattle.std.proofs.lemmas.List.{length-map}
 use Rattle.std.proofs.lemmas.List.Elements.{All-from_recursion, All-map, recursion_from_All}
-use Rattle.laws_basic.proofs.Each.{each_filter, each_map, each_mapped}
-use Rattle.define_additions.specs.Constraints.{Constraint, coefficient, constraints}
+use Rattle.define_pools.proofs.Each.{each_filter, each_map, each_mapped}
+use Rattle.define_proofs.specs.Constraints.{Constraint, coefficient, constraints}
 use Rattle.define_pools.specs.Pool.{IsPool, Pool}
 use Rattle.proof_limits.specs.Spans.{Ends}
 use Rattle.proof_program.specs.declared.columns.Column.{Column}

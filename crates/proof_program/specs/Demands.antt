@@ -1,7 +1,7 @@
 -- Demands: constraints that are given by the volunteers whom they count.
 use Rattle.std.specs.Prelude.{◌≡◌, ℕ, ◌<◌, ◌≤◌, ◌==◌, Bool, true, List, map, length, slice_index, Option, None, Some}
 use Rattle.std.specs.List.{All}
-use Rattle.define_additions.specs.Constraints.{Constraint, counting}
+use Rattle.define_proofs.specs.Constraints.{Constraint, counting}
 use Rattle.define_pools.specs.Pool.{Pool, everybody, volunteer}
 use Rattle.define_searches.specs.Classes.{Class, shared_household}
 use Rattle.define_searches.specs.Compositions.{is_of_household}

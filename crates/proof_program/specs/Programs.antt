@@ -2,7 +2,7 @@
 -- can break.
 use Rattle.std.specs.Prelude.{◌≡◌, ℕ, ◌+◌, ◌<◌, ◌≤◌, nat_lt, if◌then◌else◌, Bool, ◌||◌, List, [], ◌∷◌, map, filter, length, slice_index, ℤ, pos, ◌*ℤ◌, ◌≤ℤ◌, int_lt}
 use Rattle.std.specs.List.{All, enumerate_from, flat_map}
-use Rattle.define_additions.specs.Constraints.{Constraint, category_constraints, coefficient, constraints, signed_sum, size_constraint}
+use Rattle.define_proofs.specs.Constraints.{Constraint, category_constraints, coefficient, constraints, signed_sum, size_constraint}
 use Rattle.define_pools.specs.Pool.{Pool, everybody, volunteer}
 use Rattle.proof_limits.specs.Spans.{Ends}
 use Rattle.proof_program.specs.declared.columns.Column.{Column}

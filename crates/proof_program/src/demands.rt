@@ -3,7 +3,7 @@
 
 ghost use Rattle.std.specs.Prelude.{◌≡◌, ◌<◌, ◌++◌, IfOk, OnOk, map, length, slice_get, slice_index};
 ghost use Rattle.std.specs.List.{enumerate_from};
-ghost use Rattle.define_additions.specs.Constraints.{first_members, household_constraint, value_constraint};
+ghost use Rattle.define_proofs.specs.Constraints.{first_members, household_constraint, value_constraint};
 ghost use Rattle.define_pools.specs.Pool.{everybody, volunteer as volunteer_of};
 ghost use Rattle.define_searches.specs.Classes.{class_number, classes_of, shared_household};
 ghost use Rattle.define_searches.specs.Compositions.{is_of_household as is_member};

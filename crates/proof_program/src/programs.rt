@@ -2,7 +2,7 @@
 
 ghost use Rattle.std.specs.Prelude.{◌≡◌, List, [], ◌<◌, ◌^◌, IfOk, map, length, slice_index, slice_index_or, pos, ◌≤ℤ◌};
 ghost use Rattle.std.specs.List.{All};
-ghost use Rattle.define_additions.specs.Constraints.{constraint_at, constraints};
+ghost use Rattle.define_proofs.specs.Constraints.{constraint_at, constraints};
 ghost use Rattle.define_pools.specs.Certificate.{Stage};
 ghost use Rattle.define_pools.specs.Pool.{Pool as SeenPool};
 ghost use Rattle.proof_program.specs.Demands.{AreColumns, IsColumn, NumberColumns, shared_households as households_of};

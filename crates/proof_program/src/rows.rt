@@ -3,7 +3,7 @@
 
 ghost use Rattle.std.specs.Prelude.{◌≡◌, ℕ, ◌≤◌, if◌then◌else◌, IfOk, map, length, pos, sum_by};
 ghost use Rattle.std.specs.List.{All};
-ghost use Rattle.define_additions.specs.Constraints.{coefficient};
+ghost use Rattle.define_proofs.specs.Constraints.{coefficient};
 ghost use Rattle.proof_program.specs.Demands.{AreColumns, AreDemands, HasBounds, constraint_of, is_counted, shared_households};
 ghost use Rattle.proof_program.specs.Programs.{can_break as breaks, row_of, rows_of};
 

@@ -1,7 +1,7 @@
 -- Which pool or bundle a proof is about, and why a run stops. The contracts of `runs` and `command_proofs` cite all of it, and
 -- `command_stores` cites `IsOfPool`.
 use Rattle.std.specs.Prelude.{◌≡◌}
-use Rattle.define_additions.specs.ProofVerdict.{OfLottery, OfNoPanel, Proof}
+use Rattle.define_proofs.specs.ProofVerdict.{OfLottery, OfNoPanel, Proof}
 use Rattle.define_bundles.specs.BundleText.{Bundle}
 use Rattle.define_pools.specs.Pool.{Pool}
 use Rattle.proof_limits.specs.Budgets.{Left}

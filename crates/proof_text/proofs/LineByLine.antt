@@ -6,12 +6,12 @@ use Rattle.define_lines.proofs.LineByLine as reading
 use Rattle.pool_model.specs.declared.building.BuildStop.{BuildStop}
 use Rattle.pool_model.specs.declared.building.BuildStop.TheVariants.{Kind, OutOfMemory}
 use Rattle.pool_text.specs.Answers.{Tells}
-use Rattle.define_proof_texts.specs.ProofReading.{Progress, Begun, Opened, InBundle, InPool, WithoutPanel, InTrees, InNoPanel, Closed, line_kind, reader}
-use Rattle.define_proof_texts.proofs.Spelled.{IsRight}
+use Rattle.define_proofs.specs.ProofReading.{Progress, Begun, Opened, InBundle, InPool, WithoutPanel, InTrees, InNoPanel, Closed, line_kind, reader}
+use Rattle.define_proofs.proofs.Spelled.{IsRight}
 use Rattle.text_lines.specs.declared.faults.TextStop.{TextStop}
 use Rattle.proof_text.specs.Answers.{Reads, stopped}
 use Rattle.proof_text.specs.Progress.{IsClosedRight}
-use Rattle.define_additions.specs.ProofVerdict.{Proof}
+use Rattle.define_proofs.specs.ProofVerdict.{Proof}
 
 -- if reading stops in a line, the stop is a right result for the whole text
 pub stops_at : (T : Type 0) (number : ℕ) (progress : Progress) (rest line later : List ℕ) → pieces_of rest ≡ line ∷ pieces_of later → (wanted : Result Proof Fault) →

@@ -3,9 +3,9 @@ use Rattle.std.proofs.Common.{◌≡◌, ℕ, ◌+◌, ◌*◌, ◌<◌, List, [
 use Rattle.std.proofs.lemmas.List.{drop_more}
 use Rattle.define_lines.specs.Numbers.{number_up_to, signed_up_to}
 use Rattle.define_bundles.specs.BundleReading.{with_number}
-use Rattle.define_additions.specs.Leaves.{Multiplier}
-use Rattle.define_additions.specs.TreeRanges.{last_constraint, number_limit}
-use Rattle.define_proof_texts.specs.ProofReading.{multiplier_of, multipliers_of}
+use Rattle.define_proofs.specs.Leaves.{Multiplier}
+use Rattle.define_proofs.specs.TreeRanges.{last_constraint, number_limit}
+use Rattle.define_proofs.specs.ProofReading.{multiplier_of, multipliers_of}
 
 -- the multipliers `done`, then the later ones; None if the later ones can't be read
 abbrev pub behind : List Multiplier → Option (List Multiplier) → Option (List Multiplier)

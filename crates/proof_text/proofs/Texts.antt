@@ -5,10 +5,10 @@ use Rattle.define_lines.specs.Lines.{text_of}
 use Rattle.define_pools.specs.Certificate.{Answer}
 use Rattle.define_pools.specs.Pool.{Pool}
 use Rattle.define_bundles.specs.BundleText.{pool_lines}
-use Rattle.define_additions.specs.ProofVerdict.{OfLottery, OfNoPanel}
-use Rattle.define_additions.specs.TreeLines.{TreeLine}
-use Rattle.define_proof_texts.specs.ProofText.{bundle_lines, lines_before_close, none_line, proof_line, tree_lines, trees_from}
-use Rattle.define_proof_texts.proofs.Spelled.{trees-push}
+use Rattle.define_proofs.specs.ProofVerdict.{OfLottery, OfNoPanel}
+use Rattle.define_proofs.specs.TreeLines.{TreeLine}
+use Rattle.define_proofs.specs.ProofText.{bundle_lines, lines_before_close, none_line, proof_line, tree_lines, trees_from}
+use Rattle.define_proofs.proofs.Spelled.{trees-push}
 use Rattle.define_lines.proofs.LineLemmas.{text_of-append}
 
 pub one_tree_more : (text : List ℕ) (trees : List (List TreeLine)) (i : ℕ) (d : List TreeLine) → i < length trees →

@@ -1,7 +1,7 @@
 -- The results that reading the text of a proof may have. The contracts of `reading` cite it.
 use Rattle.std.specs.Prelude.{◌≡◌, ℕ, Result, Ok, Err, ⊤}
 use Rattle.define_lines.specs.Lines.{Fault}
-use Rattle.define_additions.specs.ProofVerdict.{Proof}
+use Rattle.define_proofs.specs.ProofVerdict.{Proof}
 use Rattle.pool_model.specs.declared.building.BuildStop.{BuildStop}
 use Rattle.pool_model.specs.declared.building.BuildStop.TheVariants.{Kind, OutOfMemory as NoMemory}
 use Rattle.text_lines.specs.declared.faults.TextStop.{TextStop}

@@ -1,9 +1,9 @@
--- What contracts see of the progress of a reading and of a line in a tree: the values of `define_proof_texts`.
-use Rattle.define_additions.specs.ProofVerdict.{OfLottery, OfNoPanel}
+-- What contracts see of the progress of a reading and of a line in a tree: the values of `define_proofs`.
+use Rattle.define_proofs.specs.ProofVerdict.{OfLottery, OfNoPanel}
 use Rattle.bundle_text.specs.Progress as bundles
 use Rattle.pool_text.specs.Progress as pools
-use Rattle.define_proof_texts.specs.ProofReading as words
-use Rattle.define_proof_texts.specs.ProofText.{IsProof}
+use Rattle.define_proofs.specs.ProofReading as words
+use Rattle.define_proofs.specs.ProofText.{IsProof}
 use Rattle.proof_text.specs.declared.lines.LineInTree.{LineInTree}
 use Rattle.proof_text.specs.declared.lines.LineInTree.TheVariants.{Node, NextTree, Close, Unknown}
 use Rattle.proof_text.specs.declared.progress.Progress.{Progress}

@@ -1,5 +1,5 @@
 //! The text of a proof: reads it into a proof or its first fault, and writes it. Stands on `bundle_text` and `pool_text`, which read and
-//! write what comes before the trees, on `text_lines`, and on the values of `proof_model`. `define_proof_texts` defines the text. Used by
+//! write what comes before the trees, on `text_lines`, and on the values of `proof_model`. `define_proofs` defines the text. Used by
 //! the commands and the shell; `engine_tests` tests it. Promises: `read_proof` returns exactly the proof that the bytes spell or their
 //! first fault, and `write_proof` returns the proof's text. All other functions are helpers.
 #![tactic(auto)]

@@ -4,9 +4,9 @@
 ghost use Rattle.std.specs.Prelude.{◌≡◌, ◌<◌, ◌^◌, ◌==◌, nat_lt, ◌&&◌, if◌then◌else◌, map, IfOk, bytes_eq, option_map};
 ghost use Rattle.define_lines.specs.Numbers.{number_up_to as number_in, signed_up_to};
 ghost use Rattle.std.specs.Fmt.{decimal};
-ghost use Rattle.define_additions.specs.TreeRanges.{last_constraint, number_limit};
-ghost use Rattle.define_proof_texts.specs.ProofText.{most_trees, tree_line};
-ghost use Rattle.define_proof_texts.specs.ProofReading.{NextTree, TheClose, Unknown, leaf_said, line_in_tree as line_said, multiplier_of as multiplier_in, multipliers_of as multipliers_in, node_in_range, node_said, split_said};
+ghost use Rattle.define_proofs.specs.TreeRanges.{last_constraint, number_limit};
+ghost use Rattle.define_proofs.specs.ProofText.{most_trees, tree_line};
+ghost use Rattle.define_proofs.specs.ProofReading.{NextTree, TheClose, Unknown, leaf_said, line_in_tree as line_said, multiplier_of as multiplier_in, multipliers_of as multipliers_in, node_in_range, node_said, split_said};
 ghost use Rattle.proof_text.specs.Progress.{said};
 
 use itoa::Buffer;

@@ -5,7 +5,7 @@ ghost use Rattle.std.specs.Prelude.{◌≡◌, IfOk};
 ghost use Rattle.bundle_text.specs.Progress.{seen as bundle_seen};
 ghost use Rattle.pool_text.specs.Answers.{Tells};
 ghost use Rattle.pool_text.specs.Progress.{seen as pool_seen};
-ghost use Rattle.define_proof_texts.specs.ProofReading.{line_kind, after_line, Begun, Opened, InBundle, InPool, WithoutPanel, InTrees, InNoPanel};
+ghost use Rattle.define_proofs.specs.ProofReading.{line_kind, after_line, Begun, Opened, InBundle, InPool, WithoutPanel, InTrees, InNoPanel};
 ghost use Rattle.proof_text.specs.Progress.{seen};
 
 use crate::lines::{LineInTree, begins_tree, line_in_tree};

@@ -1,9 +1,9 @@
 //! Reading the text of a proof, line by line. Stands on `progress`. `read_proof` is the promise; the other functions are helpers.
 
 ghost use Rattle.std.specs.Prelude.{◌≡◌, Ok, IfOk};
-ghost use Rattle.define_additions.specs.ProofVerdict.{Proof as Words, OfLottery, OfNoPanel};
-ghost use Rattle.define_proof_texts.specs.ProofText.{IsProof, proof_spelling};
-ghost use Rattle.define_proof_texts.specs.ProofReading.{read_proof as read, at_last, missing_kind};
+ghost use Rattle.define_proofs.specs.ProofVerdict.{Proof as Words, OfLottery, OfNoPanel};
+ghost use Rattle.define_proofs.specs.ProofText.{IsProof, proof_spelling};
+ghost use Rattle.define_proofs.specs.ProofReading.{read_proof as read, at_last, missing_kind};
 ghost use Rattle.proof_text.specs.Answers.{Reads, stopped};
 ghost use Rattle.proof_text.specs.Progress.{seen, IsClosedRight};
 

@@ -5,10 +5,10 @@ ghost use Rattle.std.specs.Prelude.{◌≡◌, ◌++◌, ◌∷◌, [], map, Ok,
 ghost use Rattle.std.specs.Fmt.{decimal};
 ghost use Rattle.std.specs.List.{flat_map};
 ghost use Rattle.define_lines.specs.Lines.{line_of, tabbed, text_of};
-ghost use Rattle.define_additions.specs.ProofVerdict.{OfLottery, OfNoPanel};
+ghost use Rattle.define_proofs.specs.ProofVerdict.{OfLottery, OfNoPanel};
 ghost use Rattle.define_bundles.specs.BundleText.{pool_lines};
-ghost use Rattle.define_proof_texts.specs.ProofText.{bundle_lines, leaf_line, lines_before_close, multiplier_fields, node_line, proof_spelling, tree_lines, trees_from};
-ghost use Rattle.define_proof_texts.specs.ProofReading.{read_proof};
+ghost use Rattle.define_proofs.specs.ProofText.{bundle_lines, leaf_line, lines_before_close, multiplier_fields, node_line, proof_spelling, tree_lines, trees_from};
+ghost use Rattle.define_proofs.specs.ProofReading.{read_proof};
 ghost use Rattle.proof_model.specs.Parts.{seen};
 
 use bundle_text::{Bundle, write_bundle};

@@ -6,10 +6,10 @@ use Rattle.std.proofs.lemmas.List.{append-nil, append_assoc, length-append, leng
 use Rattle.std.proofs.lemmas.List.Edits.{insert-append_right}
 use Rattle.define_pools.specs.Certificate.{Stage}
 use Rattle.define_pools.specs.Pool.{IsPool, Pool}
-use Rattle.define_additions.specs.Constraints.{Constraint, category_constraints, first_members, household_constraint, size_constraint, stage_constraint}
-use Rattle.define_additions.specs.LeafSums.{is_in_reach, is_problem_in_reach, is_stage_in_reach}
-use Rattle.define_additions.specs.Leaves.{Problem}
-use Rattle.define_additions.proofs.Reaches.{all_in_reach}
+use Rattle.define_proofs.specs.Constraints.{Constraint, category_constraints, first_members, household_constraint, size_constraint, stage_constraint}
+use Rattle.define_proofs.specs.LeafSums.{is_in_reach, is_problem_in_reach, is_stage_in_reach}
+use Rattle.define_proofs.specs.Leaves.{Problem}
+use Rattle.define_proofs.proofs.Reaches.{all_in_reach}
 use Rattle.proof_verify.specs.Kept.{AreConstraintsOf, fixed_constraints}
 
 insert_first : {X : Type 0} (xs : List X) (y : X) → insert xs 0 y ≡ y ∷ xs

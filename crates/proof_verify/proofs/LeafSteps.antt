@@ -7,15 +7,15 @@ use Rattle.std.specs.Int.{w128}
 use Rattle.std.proofs.lemmas.Int.{fits_signed_from_abs, ints, to_z-of_z}
 use Rattle.std.proofs.lemmas.List.{take_all}
 use Rattle.std.proofs.lemmas.List.Sums.{fold_more}
-use Rattle.laws_basic.proofs.Each.{each_at, each_from_list_all}
-use Rattle.laws_basic.proofs.Lists.{get_or-enumerate_from, length-enumerate_from}
+use Rattle.define_pools.proofs.Each.{each_at, each_from_list_all}
+use Rattle.define_pools.proofs.Lists.{get_or-enumerate_from, length-enumerate_from}
 use Rattle.define_pools.specs.Certificate.{weight_of}
 use Rattle.define_pools.specs.declared.Standing.{Standing}
-use Rattle.define_additions.specs.Constraints.{signed_sum}
-use Rattle.define_additions.specs.LeafSums.{charges_and_rests, first_charges, first_multipliers, is_problem_in_reach}
-use Rattle.define_additions.specs.Leaves.{Leaf, Multiplier, Problem, charge, has_constraints, multiplied, rest, rest_charge, total_charge}
-use Rattle.define_additions.specs.TreeRanges.{is_leaf}
-use Rattle.define_additions.proofs.NarrowSums.{charges_narrow, products_narrow, rest_narrow, total_narrow}
+use Rattle.define_proofs.specs.Constraints.{signed_sum}
+use Rattle.define_proofs.specs.LeafSums.{charges_and_rests, first_charges, first_multipliers, is_problem_in_reach}
+use Rattle.define_proofs.specs.Leaves.{Leaf, Multiplier, Problem, charge, has_constraints, multiplied, rest, rest_charge, total_charge}
+use Rattle.define_proofs.specs.TreeRanges.{is_leaf}
+use Rattle.define_proofs.proofs.NarrowSums.{charges_narrow, products_narrow, rest_narrow, total_narrow}
 
 -- equal lists have the same element at place `k`
 pub at_item : {X : Type 0} (items xs : List X) (k : ℕ) (x : X) → items ≡ xs → k < length items → x ≡ get_or items k x → (k < length xs) × (x ≡ get_or xs k x)

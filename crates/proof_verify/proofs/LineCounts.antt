@@ -5,14 +5,14 @@ use Rattle.std.specs.declared.alloc.AllocError.{AllocError}
 use Rattle.std.specs.List.{flat_map}
 use Rattle.std.proofs.lemmas.Grind.{flat_map-append}
 use Rattle.std.proofs.lemmas.List.{append-nil, length-append, length-map, take_more}
-use Rattle.laws_basic.proofs.Sums.{count_by-total, one_if, total}
+use Rattle.define_pools.proofs.Sums.{count_by-total, one_if, total}
 use Rattle.define_pools.specs.declared.Standing.{Standing}
 use Rattle.define_pools.specs.declared.Standing.TheVariants.{Open, Seated, Gone}
 use Rattle.define_pools.specs.Certificate.{Answer}
 use Rattle.define_pools.specs.Pool.{Category, Pool, Volunteer}
 use Rattle.define_bundles.specs.BundleText.{answer_lines, lines_before_done, panel_line, pool_lines, stage_line}
-use Rattle.define_additions.specs.Trees.{is_open}
-use Rattle.define_pool_texts.specs.PoolText.{category_lines, end_line, household_line, household_lines, lines_before_end, standing_line, standing_lines, value_line, volunteer_line}
+use Rattle.define_proofs.specs.Trees.{is_open}
+use Rattle.define_bundles.specs.PoolText.{category_lines, end_line, household_line, household_lines, lines_before_end, standing_line, standing_lines, value_line, volunteer_line}
 
 -- one more category adds a line for itself and one for each of its values
 pub categories_more : (categories : List Category) (k : ℕ) (category : Category) → k < length categories → category ≡ get_or categories k category →

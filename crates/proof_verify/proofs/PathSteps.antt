@@ -5,10 +5,10 @@ use Rattle.std.proofs.lemmas.List.{drop_more, length-set, reverse-append}
 use Rattle.define_pools.specs.declared.Standing.{Standing}
 use Rattle.define_pools.specs.declared.Standing.TheVariants.{Open}
 use Rattle.define_pools.specs.Pool.{Pool}
-use Rattle.define_additions.specs.Leaves.{Problem, leaf_shows, standings}
-use Rattle.define_additions.specs.TreeLines.{Decision, OfLeaf, OfSplit, TreeFault, TreeLine, decided_standing, fault, fault_from, path_behind, standings_at}
-use Rattle.define_additions.specs.Trees.{is_undecided}
-use Rattle.define_additions.proofs.StepByStep.{undone}
+use Rattle.define_proofs.specs.Leaves.{Problem, leaf_shows, standings}
+use Rattle.define_proofs.specs.TreeLines.{Decision, OfLeaf, OfSplit, TreeFault, TreeLine, decided_standing, fault, fault_from, path_behind, standings_at}
+use Rattle.define_proofs.specs.Trees.{is_undecided}
+use Rattle.define_proofs.proofs.StepByStep.{undone}
 use Rattle.proof_verify.specs.Paths.{KeepsStandings, Path, each_undecided, reached}
 use Rattle.proof_verify.specs.Steps.{next}
 

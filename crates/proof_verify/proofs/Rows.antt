@@ -4,12 +4,12 @@ use Rattle.std.specs.List.{enumerate_from, flat_map, range_with_len}
 use Rattle.std.proofs.lemmas.Grind.{flat_map-append}
 use Rattle.std.proofs.lemmas.List.{append-nil, append_assoc, map_more, take_all, take_more}
 use Rattle.std.proofs.lemmas.List.FromFn.{get_or-map-range_with_len, length-map-range_with_len}
-use Rattle.laws_basic.proofs.Each.{each_everywhere, each_range}
-use Rattle.laws_basic.proofs.Lists.{filter_same, get_or-enumerate_from, length-enumerate_from, map-map, map_same}
+use Rattle.define_pools.proofs.Each.{each_everywhere, each_range}
+use Rattle.define_pools.proofs.Lists.{filter_same, get_or-enumerate_from, length-enumerate_from, map-map, map_same}
 use Rattle.define_pools.specs.Pool.{Pool, everybody}
 use Rattle.define_searches.specs.Classes.{shared_household}
 use Rattle.define_searches.specs.Compositions.{is_of_household}
-use Rattle.define_additions.specs.Constraints.{first_members, household_constraint}
+use Rattle.define_proofs.specs.Constraints.{first_members, household_constraint}
 use Rattle.proof_verify.specs.Kept.{household_row}
 use Rattle.proof_verify.proofs.LeafSteps.{at_item}
 

@@ -7,10 +7,10 @@ use Rattle.define_pools.specs.Certificate.{Answer, Certifies}
 use Rattle.define_pools.specs.Lottery.{LeximinGreatest}
 use Rattle.define_pools.specs.Pool.{Pool, panels}
 use Rattle.define_pools.proofs.Greatest.{greatest_from_Certifies}
-use Rattle.define_additions.specs.ProofVerdict.{OfLottery, OfNoPanel, Proof, verdict}
-use Rattle.define_additions.specs.TreeLines.{TreeLine}
-use Rattle.define_additions.proofs.Verdicts.{certified_where_valid, no_panel_where_valid}
-use Rattle.define_proof_texts.specs.ProofText.{IsProof}
+use Rattle.define_proofs.specs.ProofVerdict.{OfLottery, OfNoPanel, Proof, verdict}
+use Rattle.define_proofs.specs.TreeLines.{TreeLine}
+use Rattle.define_proofs.proofs.Verdicts.{certified_where_valid, no_panel_where_valid}
+use Rattle.define_proofs.specs.ProofText.{IsProof}
 
 module _ (proof same : Proof) (e : same ≡ proof) (is : IsProof proof) where
   pub greatest : (result : Result Verdict AllocError) → IfOk result (λ said. said ≡ verdict same) →

@@ -8,13 +8,13 @@ use Rattle.define_pools.specs.Pool.{Pool}
 use Rattle.define_bundles.specs.Ranges.{reach}
 use Rattle.define_checks.specs.Reasons.{Refused, Valid, Verdict, first_reason, nobody_unless, reason, reasons_before_cap}
 use Rattle.check_reasons.specs.Sayings.{holds}
-use Rattle.define_additions.specs.LeafSums.{is_stage_in_reach}
-use Rattle.define_additions.specs.Leaves.{stage_problem, standings}
-use Rattle.define_additions.specs.ProofSteps.{or_next, verdict_from}
-use Rattle.define_additions.specs.ProofVerdict.{first_tree, later_trees, line_reason, listed_reasons, tree_reasons}
-use Rattle.define_additions.specs.TreeLines.{TreeFault, TreeLine, tree_fault}
-use Rattle.define_additions.specs.TreeRanges.{number_limit}
-use Rattle.define_additions.proofs.StepByStep.{goes_on_by_stages}
+use Rattle.define_proofs.specs.LeafSums.{is_stage_in_reach}
+use Rattle.define_proofs.specs.Leaves.{stage_problem, standings}
+use Rattle.define_proofs.specs.ProofSteps.{or_next, verdict_from}
+use Rattle.define_proofs.specs.ProofVerdict.{first_tree, later_trees, line_reason, listed_reasons, tree_reasons}
+use Rattle.define_proofs.specs.TreeLines.{TreeFault, TreeLine, tree_fault}
+use Rattle.define_proofs.specs.TreeRanges.{number_limit}
+use Rattle.define_proofs.proofs.StepByStep.{goes_on_by_stages}
 
 pub is_valid : (verdict : Verdict) → holds verdict ≡ true → verdict ≡ Valid
 is_valid Valid e = refl

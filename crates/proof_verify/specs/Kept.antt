@@ -4,7 +4,7 @@ use Rattle.std.specs.List.{enumerate_from, flat_map}
 use Rattle.define_pools.specs.Certificate.{Stage}
 use Rattle.define_pools.specs.Pool.{Pool}
 use Rattle.define_searches.specs.Compositions.{is_of_household}
-use Rattle.define_additions.specs.Constraints.{Constraint, category_constraints, constraints, size_constraint}
+use Rattle.define_proofs.specs.Constraints.{Constraint, category_constraints, constraints, size_constraint}
 
 -- the constraints that come before those of stages: one for the size, and one for each value
 abbrev pub fixed_constraints : Pool → List Constraint

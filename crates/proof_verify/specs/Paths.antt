@@ -2,9 +2,9 @@
 use Rattle.std.specs.Prelude.{◌≡◌, Bool, true, ◌&&◌, IsTrue, List, [], ◌∷◌, Option, Some, None}
 use Rattle.define_pools.specs.declared.Standing.{Standing}
 use Rattle.define_pools.specs.Pool.{Pool}
-use Rattle.define_additions.specs.Leaves.{standings}
-use Rattle.define_additions.specs.TreeLines.{Decision, standings_at}
-use Rattle.define_additions.specs.Trees.{is_undecided}
+use Rattle.define_proofs.specs.Leaves.{standings}
+use Rattle.define_proofs.specs.TreeLines.{Decision, standings_at}
+use Rattle.define_proofs.specs.Trees.{is_undecided}
 
 -- decisions over a pool, the latest first
 pub record Path : Type 0 where

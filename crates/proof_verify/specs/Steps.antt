@@ -1,9 +1,9 @@
 -- The result of passing a line of a tree.
 use Rattle.std.specs.Prelude.{ℕ, if◌then◌else◌, Bool, true, false, List, ◌∷◌, Option, Some, None, Result, Ok, Err}
 use Rattle.define_pools.specs.declared.Standing.{Standing}
-use Rattle.define_additions.specs.Leaves.{Problem, leaf_shows}
-use Rattle.define_additions.specs.TreeLines.{Decision, OfLeaf, OfSplit, TreeLine, path_behind, standings_at}
-use Rattle.define_additions.specs.Trees.{is_undecided}
+use Rattle.define_proofs.specs.Leaves.{Problem, leaf_shows}
+use Rattle.define_proofs.specs.TreeLines.{Decision, OfLeaf, OfSplit, TreeLine, path_behind, standings_at}
+use Rattle.define_proofs.specs.Trees.{is_undecided}
 
 -- the path of the line after `line`, or None if the tree ends with `line`, or the reason why `line` is refused
 abbrev pub next : Problem → List Standing → Option (List Decision) → TreeLine → Result (Option (List Decision)) ℕ

@@ -3,7 +3,7 @@
 
 ghost use Rattle.std.specs.Prelude.{◌≡◌, ◌==◌, ◌++◌, ◌≤◌, ◌+◌, [], filter, IfOk, OnOk, if◌then◌else◌, insert, length, map, pos, slice_index, slice_index_or};
 ghost use Rattle.std.specs.List.{count_by, enumerate_from, find, flat_map, range_with_len};
-ghost use Rattle.define_additions.specs.Constraints.{category_constraints, coefficient as coefficient_of, first_members as first_members_of, household_constraint as household_constraint_of, size_constraint as size_constraint_of, stage_constraint as stage_constraint_of, value_constraint as value_constraint_of};
+ghost use Rattle.define_proofs.specs.Constraints.{category_constraints, coefficient as coefficient_of, first_members as first_members_of, household_constraint as household_constraint_of, size_constraint as size_constraint_of, stage_constraint as stage_constraint_of, value_constraint as value_constraint_of};
 ghost use Rattle.define_pools.specs.Pool.{share_household as are_of_one_household, volunteer};
 ghost use Rattle.define_searches.specs.Classes.{shared_household as shared};
 ghost use Rattle.define_searches.specs.Compositions.{is_of_household as is_of};
@@ -22,7 +22,7 @@ pub(crate) struct Constraint {
 }
 
 impl Model for Constraint {
-    ghost use Rattle.define_additions.specs.Constraints.{Constraint as Seen};
+    ghost use Rattle.define_proofs.specs.Constraints.{Constraint as Seen};
 
     ghost Value = { Seen };
 

@@ -3,10 +3,10 @@
 //! if the problem is within reach and the leaf keeps its ranges. Stands on `constraints`; `trees` calls `leaf_shows`.
 
 ghost use Rattle.std.specs.Prelude.{◌≡◌, ◌^◌, ◌<◌, ◌*ℤ◌, ◌+ℤ◌, IsTrue, length, pos, unsigned_abs};
-ghost use Rattle.define_additions.specs.Constraints.{constraint_at, signed_sum};
-ghost use Rattle.define_additions.specs.LeafSums.{is_problem_in_reach};
-ghost use Rattle.define_additions.specs.Leaves.{charge as charge_of, has_constraints as has_constraints_of, leaf_shows as shows, multiplied as multiplied_of, rest as rest_of, rest_charge as rest_charge_of, total_charge as total_charge_of};
-ghost use Rattle.define_additions.specs.TreeRanges.{is_leaf};
+ghost use Rattle.define_proofs.specs.Constraints.{constraint_at, signed_sum};
+ghost use Rattle.define_proofs.specs.LeafSums.{is_problem_in_reach};
+ghost use Rattle.define_proofs.specs.Leaves.{charge as charge_of, has_constraints as has_constraints_of, leaf_shows as shows, multiplied as multiplied_of, rest as rest_of, rest_charge as rest_charge_of, total_charge as total_charge_of};
+ghost use Rattle.define_proofs.specs.TreeRanges.{is_leaf};
 ghost use Rattle.define_pools.specs.Certificate.{weight_of as weight_of_one};
 
 use crate::constraints::Constraint;
@@ -22,7 +22,7 @@ pub(crate) struct Problem<'a> {
 }
 
 impl<'a> Model for Problem<'a> {
-    ghost use Rattle.define_additions.specs.Leaves.{Problem as Seen};
+    ghost use Rattle.define_proofs.specs.Leaves.{Problem as Seen};
 
     ghost Value = { Seen };
 

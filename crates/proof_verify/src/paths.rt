@@ -2,8 +2,8 @@
 //! `trees` walks through a tree along such a path.
 
 ghost use Rattle.std.specs.Prelude.{◌≡◌, [], IfOk, IsTrue, OnOk, map};
-ghost use Rattle.define_additions.specs.Trees.{is_open as is_open_one, is_undecided as is_undecided_of};
-ghost use Rattle.define_additions.specs.TreeLines.{decided_standing as decided, path_behind};
+ghost use Rattle.define_proofs.specs.Trees.{is_open as is_open_one, is_undecided as is_undecided_of};
+ghost use Rattle.define_proofs.specs.TreeLines.{decided_standing as decided, path_behind};
 ghost use Rattle.proof_verify.specs.Paths.{Undoes, reached, with_decision};
 ghost use Rattle.proof_verify.specs.Steps.{place};
 
@@ -19,7 +19,7 @@ pub(crate) struct Decision {
 }
 
 impl Model for Decision {
-    ghost use Rattle.define_additions.specs.TreeLines.{Decision as Seen};
+    ghost use Rattle.define_proofs.specs.TreeLines.{Decision as Seen};
 
     ghost Value = { Seen };
 

@@ -3,10 +3,10 @@
 
 ghost use Rattle.std.specs.Prelude.{◌≡◌, IfOk, IsTrue, OnOk, length, true, Ok, Err};
 ghost use Rattle.std.specs.List.{list_all};
-ghost use Rattle.define_additions.specs.LeafSums.{is_problem_in_reach};
-ghost use Rattle.define_additions.specs.Leaves.{standings};
-ghost use Rattle.define_additions.specs.TreeLines.{OfLeaf, OfSplit, tree_fault as fault_of};
-ghost use Rattle.define_additions.specs.TreeRanges.{is_leaf, is_tree_line};
+ghost use Rattle.define_proofs.specs.LeafSums.{is_problem_in_reach};
+ghost use Rattle.define_proofs.specs.Leaves.{standings};
+ghost use Rattle.define_proofs.specs.TreeLines.{OfLeaf, OfSplit, tree_fault as fault_of};
+ghost use Rattle.define_proofs.specs.TreeRanges.{is_leaf, is_tree_line};
 ghost use Rattle.proof_verify.specs.Steps.{next, place, seen_step};
 
 use crate::first_lines::after;
@@ -31,7 +31,7 @@ pub(crate) struct Fault {
 }
 
 impl Model for Fault {
-    ghost use Rattle.define_additions.specs.TreeLines.{TreeFault as Seen};
+    ghost use Rattle.define_proofs.specs.TreeLines.{TreeFault as Seen};
 
     ghost Value = { Seen };
 

@@ -4,18 +4,18 @@
 
 ghost use Rattle.std.specs.Prelude.{◌≡◌, ◌∷◌, [], IfOk, IsTrue, List, length, map, pos};
 ghost use Rattle.std.specs.List.{list_all};
-ghost use Rattle.define_additions.specs.LeafSums.{is_stage_in_reach};
-ghost use Rattle.define_additions.specs.Leaves.{no_panel as no_panel_of};
-ghost use Rattle.define_additions.specs.ProofSteps.{or_next, verdict_from};
-ghost use Rattle.define_additions.specs.ProofVerdict.{OfLottery, OfNoPanel, listed_reasons, tree_reasons, verdict as verdict_of};
-ghost use Rattle.define_additions.specs.TreeLines.{TreeLine as SeenLine};
-ghost use Rattle.define_additions.specs.TreeRanges.{is_tree_line};
+ghost use Rattle.define_proofs.specs.LeafSums.{is_stage_in_reach};
+ghost use Rattle.define_proofs.specs.Leaves.{no_panel as no_panel_of};
+ghost use Rattle.define_proofs.specs.ProofSteps.{or_next, verdict_from};
+ghost use Rattle.define_proofs.specs.ProofVerdict.{OfLottery, OfNoPanel, listed_reasons, tree_reasons, verdict as verdict_of};
+ghost use Rattle.define_proofs.specs.TreeLines.{TreeLine as SeenLine};
+ghost use Rattle.define_proofs.specs.TreeRanges.{is_tree_line};
 ghost use Rattle.define_bundles.specs.Ranges.{is_stage};
 ghost use Rattle.define_checks.specs.Reasons.{Refused, Valid, first_reason, reasons_before_cap};
 ghost use Rattle.define_pools.specs.Certificate.{Answer as SeenAnswer, Certifies};
 ghost use Rattle.define_pools.specs.Lottery.{LeximinGreatest};
 ghost use Rattle.define_pools.specs.Pool.{IsPool, Pool as SeenPool, panels};
-ghost use Rattle.define_proof_texts.specs.ProofText.{IsLotteryProof};
+ghost use Rattle.define_proofs.specs.ProofText.{IsLotteryProof};
 ghost use Rattle.proof_verify.specs.Kept.{AreConstraintsOf};
 
 use crate::constraints::Constraints;

@@ -3,7 +3,7 @@ use Rattle.std.proofs.Common.{◌≡◌, ℕ, ◌+◌, true, ◌&&◌, nat_lt, L
 use Rattle.std.specs.List.{enumerate_from, list_all}
 use Rattle.std.proofs.lemmas.Bool.{and_from}
 use Rattle.std.proofs.lemmas.List.{length-map}
-use Rattle.define_additions.specs.Leaves.{standings}
+use Rattle.define_proofs.specs.Leaves.{standings}
 use Rattle.define_pools.specs.Lists.{includes, is_increasing}
 use Rattle.define_pools.specs.Pool.{Pool, Volunteer, allows, keeps_standings}
 use Rattle.define_conflicts.specs.Quotas.{is_selection, keeps}

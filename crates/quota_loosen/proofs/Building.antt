@@ -5,7 +5,7 @@ use Rattle.std.specs.Str.{bytes_eq, is_utf8}
 use Rattle.std.proofs.lemmas.Bool.{and_parts, or_parts, ne_eqb, lt-leb, leb-true, not-true}
 use Rattle.std.proofs.lemmas.List.{length-take, map-append, take_more}
 use Rattle.std.proofs.lemmas.List.Folds.{list_any-append}
-use Rattle.laws_basic.proofs.Each.{passes_at}
+use Rattle.define_pools.proofs.Each.{passes_at}
 use Rattle.define_pools.specs.Lists.{includes_list, all_different}
 use Rattle.define_pools.specs.Pool.{BoundedValue, Category, Pool, is_name, is_value, is_category, are_bounds, keeps_name_limits}
 use Rattle.define_pools.specs.Building.{category_kind, category_names, last_values, value_added, value_kind, value_names, with_value}

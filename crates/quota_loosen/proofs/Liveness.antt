@@ -3,7 +3,7 @@
 use Rattle.std.proofs.Common.{suc, zero, ◌≡◌, ℕ, ◌+◌, ◌-◌, ◌*◌, ◌≤◌, ◌<◌, Bool, true, ◌&&◌, leb, List, [], ◌∷◌, length, drop, sum_by, get_or, refl, sym, ap, ◌∙◌, arith, subst}
 use Rattle.std.specs.Prelude.{slice_index, slice_index_or}
 use Rattle.std.specs.List.{enumerate_from, AllByRecursion}
-use Rattle.laws_basic.proofs.Sums.{sum_by-is-total, total}
+use Rattle.define_pools.proofs.Sums.{sum_by-is-total, total}
 use Rattle.define_searches.specs.declared.Bounds.{Bounds}
 use Rattle.define_searches.specs.Classes.{Class, Classes, KeepsLimits}
 use Rattle.define_searches.specs.Compositions.{has_value, taken_of}

@@ -2,7 +2,7 @@
 use Rattle.std.proofs.Common.{◌≡◌, ℕ, zero, suc, ◌+◌, ◌≤◌, ◌<◌, List, [], ◌∷◌, length, take, get_or, sum_by, refl, sym, ap, ◌∙◌, arith, subst, All}
 use Rattle.std.specs.Prelude.{slice_index, slice_index_or}
 use Rattle.std.specs.List.{enumerate_from}
-use Rattle.laws_basic.proofs.Sums.{sum_by-is-total, total}
+use Rattle.define_pools.proofs.Sums.{sum_by-is-total, total}
 
 totals_next : {X : Type 0} (f : ℕ × X → ℕ) (first : ℕ) (xs : List X) (i : ℕ) (d : X) → i < length xs →
     total f (enumerate_from first (take (i + 1) xs)) ≡ total f (enumerate_from first (take i xs)) + f (first + i, get_or xs i d)

@@ -6,7 +6,7 @@ use Rattle.std.proofs.lemmas.Bool.{and_from, and_parts, le-leb, leb-true}
 use Rattle.std.proofs.lemmas.List.{take_all}
 use Rattle.std.proofs.lemmas.List.FromFn.{get_or-map-range_with_len, length-map-range_with_len}
 use Rattle.std.proofs.lemmas.List.Sums.{sum_by-cons}
-use Rattle.laws_basic.proofs.Each.{each_at, each_from_list_all}
+use Rattle.define_pools.proofs.Each.{each_at, each_from_list_all}
 use Rattle.define_pools.specs.Lottery.{Lottery, LotteryRow, TotalAgrees}
 use Rattle.define_short_draws.specs.Short.{rows_with_tickets, shortened, tickets_at, tickets_by_weight}
 use Rattle.define_short_draws.proofs.Shortened.{agrees_shortened}

@@ -1,7 +1,7 @@
 -- Groups of digits: their size, their numbers, and which is the first that is accepted.
 use Rattle.std.proofs.Common.{◌≡◌, ℕ, suc, ◌+◌, ◌-◌, ◌*◌, ◌/◌, ◌^◌, ◌<◌, ◌≤◌, Bool, true, false, not, List, length, get_or, take, pos, sym, ap, ap₂, ◌∙◌, arith, Some, None, ⊎_elim}
 use Rattle.std.specs.Prelude.{position, Ok, Err}
-use Rattle.laws_basic.proofs.Found.{position-None, find_range-first, find_range-none}
+use Rattle.define_pools.proofs.Found.{position-None, find_range-first, find_range-none}
 use Rattle.define_draws.specs.declared.Named.{Named}
 use Rattle.define_draws.specs.declared.DiceStop.TheVariants.{MoreDigits}
 use Rattle.std.specs.Char.{digit_value, is_ascii_digit}

@@ -3,8 +3,8 @@ use Rattle.std.proofs.Common.{◌≡◌, ℕ, ◌*◌, true, ◌&&◌, eqb, ltb,
 use Rattle.std.specs.List.{list_all}
 use Rattle.std.proofs.lemmas.Bool.{and_parts, eqb-true}
 use Rattle.std.proofs.lemmas.List.Sums.{sum-map}
-use Rattle.laws_basic.proofs.Sums.{total, sum_by-is-total, total_eq, total_ext, total-scaled, total-ones}
-use Rattle.laws_basic.proofs.Each.{each_from_list_all, each_map}
+use Rattle.define_pools.proofs.Sums.{total, sum_by-is-total, total_eq, total_ext, total-scaled, total-ones}
+use Rattle.define_pools.proofs.Each.{each_from_list_all, each_map}
 use Rattle.define_pools.specs.Lists.{is_increasing}
 use Rattle.define_pools.specs.Pool.{Pool, everybody, is_of_size}
 use Rattle.define_pools.specs.Lottery.{LotteryRow, count}

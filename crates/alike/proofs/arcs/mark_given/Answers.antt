@@ -4,7 +4,7 @@ use Rattle.std.specs.List.{AllByRecursion}
 use Rattle.std.proofs.lemmas.Bool.{cases_lt}
 use Rattle.std.proofs.lemmas.List.Elements.{All-from_recursion}
 use Rattle.std.proofs.lemmas.Slice.Zip.{zip_turn, zip_end}
-use Rattle.laws_basic.proofs.Each.{each_at}
+use Rattle.define_pools.proofs.Each.{each_at}
 use Rattle.define_pools.specs.Lists.{includes}
 use Rattle.define_searches.specs.Classes.{Class, volunteer_count}
 use Rattle.define_spreads.specs.Spreading.{turned}

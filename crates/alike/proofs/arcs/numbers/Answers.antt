@@ -1,6 +1,6 @@
 use Rattle.std.proofs.Common.{◌≡◌, ◌+◌, ◌++◌, ◌∷◌, [], ℕ, Bool, true, false, List, filter, get_or, sym, ap, ◌∙◌}
 use Rattle.std.specs.List.{range_with_len}
-use Rattle.laws_basic.proofs.Lists.{filter_taken, filter_passed}
+use Rattle.define_pools.proofs.Lists.{filter_taken, filter_passed}
 use Rattle.alike.proofs.arcs.numbers.Goals as goal
 use Rattle.alike.proofs.arcs.numbers.Goals.{then-is_given+in_ok-push, else-is_given}
 

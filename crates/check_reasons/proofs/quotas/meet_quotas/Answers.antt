@@ -2,7 +2,7 @@ use Rattle.std.proofs.Common.{◌≡◌, ℕ, ◌+◌, ◌<◌, Bool, true, fals
 use Rattle.std.specs.List.{enumerate_from, list_all}
 use Rattle.std.proofs.lemmas.Bool.{cases_eq}
 use Rattle.std.proofs.lemmas.List.{get_or_default}
-use Rattle.laws_basic.proofs.Each.{list_all-enumerated}
+use Rattle.define_pools.proofs.Each.{list_all-enumerated}
 use Rattle.define_pools.specs.Pool.{Category, Volunteer, is_within, members_with, meets_quotas}
 use Rattle.check_reasons.proofs.Enumerated.{one_fails}
 use Rattle.check_reasons.proofs.quotas.meet_quotas.Goals as goal

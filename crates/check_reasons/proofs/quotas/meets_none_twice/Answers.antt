@@ -1,7 +1,7 @@
 use Rattle.std.proofs.Common.{◌≡◌, ℕ, ◌+◌, ◌<◌, Bool, true, false, List, length, map, get_or, set, take, sym, ap, ◌∙◌, arith, ltb}
 use Rattle.std.proofs.lemmas.List.{get_or-map, length-map, length-set}
 use Rattle.std.specs.List.{list_all}
-use Rattle.laws_basic.proofs.Each.{below_at}
+use Rattle.define_pools.proofs.Each.{below_at}
 use Rattle.define_pools.specs.Lists.{includes}
 use Rattle.check_reasons.specs.Households.{none_twice}
 use Rattle.check_reasons.proofs.Twice.{comes_once, comes_twice, marked_more}

@@ -1,6 +1,6 @@
 use Rattle.std.proofs.Common.{◌∙◌, ℕ, Bool, not, [], ◌∷◌, ◌++◌, List, Vec, Global, sym, ap}
 use Rattle.std.specs.List.{list_any, range_with_len}
-use Rattle.laws_basic.proofs.Lists.{filter_passed, filter_taken}
+use Rattle.define_pools.proofs.Lists.{filter_passed, filter_taken}
 use Rattle.check_search.specs.Likeness.{is_alike as alike}
 use Rattle.check_search.proofs.grouping.leaders.Goals.{then-leads+in_ok-push, else-leads}
 use Rattle.check_search.proofs.grouping.leaders.Goals as goal

@@ -1,5 +1,5 @@
 use Rattle.std.proofs.Common.{◌∙◌, ℕ, [], ◌∷◌, ◌++◌, List, Vec, Global, sym, ap}
-use Rattle.laws_basic.proofs.Lists.{filter_passed, filter_taken}
+use Rattle.define_pools.proofs.Lists.{filter_passed, filter_taken}
 use Rattle.check_search.specs.Likeness.{is_alike as alike}
 use Rattle.check_search.proofs.grouping.members.Goals.{then-are_alike+in_ok-push, else-are_alike}
 use Rattle.check_search.proofs.grouping.members.Goals as goal

@@ -1,7 +1,7 @@
 use Rattle.std.proofs.Common.{◌≡◌, ◌<◌, ◌∙◌, ◌++◌, ◌∷◌, [], ap, append_assoc, codes, get_or, length, map, take}
 use Rattle.std.proofs.lemmas.List.{take_all}
 use Rattle.std.proofs.lemmas.Result.{on_ok_weaker}
-use Rattle.laws_basic.proofs.Each.{below_at}
+use Rattle.define_pools.proofs.Each.{below_at}
 use Rattle.define_pools.specs.Pool.{volunteer}
 use Rattle.define_lines.specs.Lines.{line_feed, tabbed}
 use Rattle.define_lines.proofs.LineLemmas.{line_written}

@@ -1,11 +1,11 @@
 use Rattle.std.proofs.Common.{◌≡◌}
 use Rattle.define_bundles.specs.BundleReading.{read_bundle}
 use Rattle.define_bundles.specs.BundleText.{IsBundle, bundle_spelling}
-use Rattle.define_pool_texts.specs.PoolReading.{read}
-use Rattle.define_pool_texts.specs.PoolText.{spelling}
+use Rattle.define_bundles.specs.PoolReading.{read}
+use Rattle.define_bundles.specs.PoolText.{spelling}
 use Rattle.define_pools.specs.Pool.{IsPool}
-use Rattle.define_proof_texts.specs.ProofReading.{read_proof}
-use Rattle.define_proof_texts.specs.ProofText.{IsProof, proof_spelling}
+use Rattle.define_proofs.specs.ProofReading.{read_proof}
+use Rattle.define_proofs.specs.ProofText.{IsProof, proof_spelling}
 use Rattle.command_shell.specs.Formats.{begins_as_bundle}
 use Rattle.command_explain.specs.AnyTexts.{IsSomeBundle, IsSomePool, IsSomeProof, begins_as_proof, looked_as}
 use Rattle.command_explain.proofs.Looking.{decided, decided_by_word}

@@ -1,5 +1,5 @@
 use Rattle.std.proofs.Common.{◌<◌, ◌∙◌, get_or, length}
-use Rattle.laws_basic.proofs.Each.{below_at}
+use Rattle.define_pools.proofs.Each.{below_at}
 use Rattle.command_meanings.proofs.PanelLines.{one_id}
 use Rattle.command_loosen.proofs.lines.push_members.Goals as goal
 

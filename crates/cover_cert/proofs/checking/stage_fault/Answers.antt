@@ -4,7 +4,7 @@ use Rattle.std.specs.List.{list_all}
 use Rattle.define_bundles.specs.Ranges.{is_stage}
 use Rattle.define_pools.specs.Certificate.{Stage}
 use Rattle.define_pools.specs.Pool.{Pool}
-use Rattle.define_additions.specs.TreeLines.{TreeFault}
+use Rattle.define_proofs.specs.TreeLines.{TreeFault}
 use Rattle.check_search.specs.Terms.{AreOfStage}
 use Rattle.cover_cert.proofs.Stages.{fault_of_terms, list_all-reverse}
 use Rattle.cover_cert.proofs.checking.stage_fault.Goals as goal

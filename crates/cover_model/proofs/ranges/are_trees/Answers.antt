@@ -1,7 +1,7 @@
 use Rattle.std.proofs.Common.{◌≡◌, ◌+◌, true, List, [], get_or, ◌∙◌, sym, ap, subst, arith}
 use Rattle.std.specs.List.{list_all}
 use Rattle.std.proofs.lemmas.Bool.{false_from_ne_true, false≢true}
-use Rattle.laws_basic.proofs.Each.{enumerated-each, list_all-enumerated}
+use Rattle.define_pools.proofs.Each.{enumerated-each, list_all-enumerated}
 use Rattle.define_covers.specs.Covers.{FrontLine}
 use Rattle.define_covers.specs.CoverRanges.{is_front_line}
 use Rattle.define_cover_texts.specs.CoverText.{keep_ranges}

@@ -1,7 +1,7 @@
 use Rattle.std.proofs.Common.{◌≡◌, [], ◌∷◌, ◌++◌, ap, ◌∙◌}
 use Rattle.define_lines.specs.Lines.{text_of}
 use Rattle.define_lines.proofs.LineLemmas.{text_of-append}
-use Rattle.define_proof_texts.specs.ProofText.{close_line}
+use Rattle.define_proofs.specs.ProofText.{close_line}
 use Rattle.define_cover_texts.specs.CoverReading.{read_cover}
 use Rattle.define_cover_texts.specs.CoverText.{cover_spelling, lines_before_close}
 use Rattle.define_cover_texts.proofs.ReadAgain.{spelled_is_read}

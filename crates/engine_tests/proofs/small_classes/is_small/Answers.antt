@@ -3,7 +3,7 @@ use Rattle.std.specs.Prelude.{unsigned_abs}
 use Rattle.std.specs.Int.{w128}
 use Rattle.std.proofs.lemmas.Int.{to_z-of_z}
 use Rattle.std.proofs.lemmas.Bool.{ltb-false}
-use Rattle.laws_basic.proofs.Sums.{total, sum_by-is-total}
+use Rattle.define_pools.proofs.Sums.{total, sum_by-is-total}
 use lib.Signed.{lt_z}
 use Rattle.define_rows.specs.Row.{sum_of_sizes}
 use Rattle.define_searches.specs.Classes.{Class}

@@ -3,7 +3,7 @@ use Rattle.std.specs.Prelude.{int_lt}
 use Rattle.std.specs.Int.{w128}
 use Rattle.std.proofs.lemmas.Int.{to_z-of_z}
 use Rattle.std.proofs.lemmas.List.{get_or_read, get_or_default}
-use Rattle.laws_basic.proofs.Integers.{lt-tested}
+use Rattle.define_pools.proofs.Integers.{lt-tested}
 use Rattle.define_rows.specs.declared.Var.TheVariants.{Slack}
 use Rattle.define_rows.specs.Table.{coefficient_at, row_at, basic_at}
 use Rattle.exact_table.specs.Best.{IsLeaver}

@@ -2,7 +2,7 @@ use Rattle.std.proofs.Common.{◌≡◌, ◌∙◌, ap, ap₂, map, ℤ, List, F
 use Rattle.std.specs.Int.{w128}
 use Rattle.std.specs.List.{range_with_len}
 use Rattle.std.proofs.lemmas.Int.{to_z-of_z}
-use Rattle.laws_basic.proofs.Lists.{map-map}
+use Rattle.define_pools.proofs.Lists.{map-map}
 use Rattle.define_pools.specs.Certificate.{Stage}
 use Rattle.define_rows.specs.Row.{entry}
 use Rattle.define_searches.specs.Classes.{class_number, volunteer_count}

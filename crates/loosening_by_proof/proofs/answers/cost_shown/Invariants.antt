@@ -1,5 +1,5 @@
 use Rattle.std.proofs.Common.{Some}
-use Rattle.define_additions.specs.Leaves.{standings}
+use Rattle.define_proofs.specs.Leaves.{standings}
 use Rattle.define_cost_bounds.specs.CostBounds.{CostsAt}
 use Rattle.proof_limits.specs.Budgets.{SpendsOn}
 use Rattle.loosening_by_proof.specs.Searches.{IsSearch}

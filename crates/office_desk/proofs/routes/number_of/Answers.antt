@@ -3,7 +3,7 @@ use Rattle.std.specs.Char.{digit_value, is_ascii_digit}
 use Rattle.std.specs.List.{list_all}
 use Rattle.std.proofs.lemmas.Bool.{and_parts}
 use Rattle.std.proofs.lemmas.Int.Digits.{digits_value_more}
-use Rattle.laws_basic.proofs.Each.{passes_at}
+use Rattle.define_pools.proofs.Each.{passes_at}
 use Rattle.office_desk.proofs.Digits.{digit_in_range, one_more_digit}
 use Rattle.office_desk.proofs.routes.number_of.Goals as goal
 

@@ -2,7 +2,7 @@ use Rattle.std.proofs.Common.{◌≡◌, ◌∙◌, ◌++◌, ◌∷◌, [], ap,
 use Rattle.std.specs.List.{position}
 use Rattle.std.specs.Str.{bytes_eq}
 use Rattle.std.proofs.lemmas.Result.{on_ok_weaker}
-use Rattle.laws_basic.proofs.Found.{position-None}
+use Rattle.define_pools.proofs.Found.{position-None}
 use Rattle.define_pools.specs.Pool.{Category}
 use Rattle.office_import.specs.Seen.{rule_seen, with_value_at}
 use Rattle.office_import.proofs.DraftLemmas.{added_in_place, appended}

@@ -1,7 +1,7 @@
 use Rattle.std.proofs.Common.{◌≡◌, ◌∙◌, true, ap, sym, List, ℕ, get_or}
 use Rattle.std.specs.List.{list_all}
 use Rattle.std.specs.Str.{is_utf8}
-use Rattle.laws_basic.proofs.Each.{passes_at}
+use Rattle.define_pools.proofs.Each.{passes_at}
 use Rattle.csv.specs.Records.{fields_of}
 use Rattle.define_pools.specs.Pool.{Category}
 use Rattle.define_imports.specs.Cells.{cell_named}

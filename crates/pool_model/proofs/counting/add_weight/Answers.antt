@@ -5,7 +5,7 @@ use Rattle.std.proofs.lemmas.List.{get_or-set_same, get_or-set_other, length-set
 use Rattle.std.proofs.lemmas.List.Folds.{list_any_more}
 use Rattle.std.proofs.lemmas.Int.{to_z-of_z}
 use Rattle.std.proofs.Math.Bool.{or-true, or-false}
-use Rattle.laws_basic.proofs.Each.{passes_at}
+use Rattle.define_pools.proofs.Each.{passes_at}
 use mir.Val.{SFits, to_z, of_z}
 use mir.Syntax.{w128}
 use Rattle.define_pools.specs.Lists.{includes, is_increasing}

@@ -9,7 +9,7 @@ use mir.Syntax.{w128}
 use Rattle.define_pools.specs.Lists.{includes}
 use Rattle.define_pools.specs.Pool.{everybody}
 use Rattle.define_pools.specs.Lottery.{LotteryRow, count}
-use Rattle.laws_basic.proofs.Sums.{total, sum_by-is-total}
+use Rattle.define_pools.proofs.Sums.{total, sum_by-is-total}
 use Rattle.define_pools.proofs.Weights.{counted}
 use Rattle.define_pools.proofs.Greatest.{count-is}
 use Rattle.pool_model.proofs.counting.chances.Goals as goal

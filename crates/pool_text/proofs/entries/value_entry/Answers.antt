@@ -1,7 +1,7 @@
 use Rattle.std.proofs.Common.{◌≡◌, ℕ, List, [], ◌∷◌, length, get_or, map, arith, refl}
 use Rattle.std.proofs.Common.{Bor}
 use Rattle.std.proofs.lemmas.List.{length-map}
-use Rattle.define_pool_texts.specs.PoolReading.{OfValue, Unknown, ValueWord, bound_of, entry_of_word}
+use Rattle.define_bundles.specs.PoolReading.{OfValue, Unknown, ValueWord, bound_of, entry_of_word}
 use Rattle.pool_text.proofs.entries.value_entry.Goals as goal
 
 -- if a value line doesn't have three fields after its word, the entry is unknown

@@ -6,7 +6,7 @@ use Rattle.define_lines.proofs.LineLemmas.{some_piece}
 use Rattle.std.proofs.Common.{◌≡◌, ◌≤◌, ◌+◌, ℕ, suc, List, length, refl, arith, sym, subst, ap, ◌∙◌}
 use Rattle.define_lines.proofs.LineByLine.{leads_on}
 use Rattle.define_lines.specs.Reading.{read_lines}
-use Rattle.define_pool_texts.specs.PoolReading.{read, reader}
+use Rattle.define_bundles.specs.PoolReading.{read, reader}
 use Rattle.pool_text.specs.Answers.{IsRightBefore}
 use Rattle.pool_text.specs.declared.progress.Progress.{Progress}
 use Rattle.pool_text.specs.Progress.{seen, line_due}

@@ -1,7 +1,7 @@
 use Rattle.std.proofs.Common.{◌≡◌, ◌+◌, ◌≤◌, length}
 use Rattle.define_lines.specs.Lines.{pieces_of}
 use Rattle.define_lines.specs.Reading.{read_lines}
-use Rattle.define_pool_texts.specs.PoolReading.{read, reader}
+use Rattle.define_bundles.specs.PoolReading.{read, reader}
 use Rattle.pool_text.specs.Progress.{seen, line_due}
 use Rattle.pool_text.proofs.reading.read_lines.Given as goal
 

@@ -1,10 +1,10 @@
 use Rattle.std.proofs.Common.{◌≡◌, ℕ, List, ◌∙◌, subst, ap}
 use Rattle.std.specs.Prelude.{Result, Ok, Err, IfOk}
 use Rattle.define_pools.specs.Pool.{Pool, IsPool}
-use Rattle.define_pool_texts.specs.PoolText.{spelling}
-use Rattle.define_pool_texts.specs.PoolReading.{read}
-use Rattle.define_pool_texts.proofs.ReadAgain.{spelled_is_read}
-use Rattle.define_pool_texts.proofs.Spelled.{read_is_spelled}
+use Rattle.define_bundles.specs.PoolText.{spelling}
+use Rattle.define_bundles.specs.PoolReading.{read}
+use Rattle.define_bundles.proofs.PoolReadAgain.{spelled_is_read}
+use Rattle.define_bundles.proofs.PoolSpelled.{read_is_spelled}
 use Rattle.pool_text.specs.declared.faults.ReadPool.{ReadPool}
 use Rattle.pool_text.specs.Answers.{Reads}
 use Rattle.pool_text.proofs.reading.read_pool.Goals as goal

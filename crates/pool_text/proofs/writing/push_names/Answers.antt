@@ -3,7 +3,7 @@ use Rattle.std.proofs.lemmas.List.{take_all}
 use Rattle.std.proofs.lemmas.Slice.Zip.{zip_turn, zip_end}
 use Rattle.define_pools.specs.Pool.{Category}
 use Rattle.define_pools.specs.Building.{value_names}
-use Rattle.define_pool_texts.specs.PoolText.{names_at}
+use Rattle.define_bundles.specs.PoolText.{names_at}
 use Rattle.define_lines.specs.Lines.{tabbed}
 use Rattle.pool_text.proofs.WritingLemmas.{place_inside, as_many, tabbed_more}
 use Rattle.pool_text.proofs.writing.push_names.Goals as goal

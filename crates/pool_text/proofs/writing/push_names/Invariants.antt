@@ -1,5 +1,5 @@
 use Rattle.std.proofs.Common.{◌≡◌, ◌++◌, length, take}
-use Rattle.define_pool_texts.specs.PoolText.{names_at}
+use Rattle.define_bundles.specs.PoolText.{names_at}
 use Rattle.define_lines.specs.Lines.{tabbed}
 use Rattle.pool_text.proofs.writing.push_names.Given as goal
 

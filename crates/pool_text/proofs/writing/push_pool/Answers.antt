@@ -4,7 +4,7 @@ use Rattle.std.specs.List.{flat_map}
 use Rattle.std.proofs.lemmas.Result.{on_ok_weaker}
 use Rattle.define_pools.specs.Pool.{has_households}
 use Rattle.define_lines.specs.Lines.{line_of, text_of}
-use Rattle.define_pool_texts.specs.PoolText.{version_line, size_line, category_lines, volunteer_line, household_lines, standing_lines, end_line}
+use Rattle.define_bundles.specs.PoolText.{version_line, size_line, category_lines, volunteer_line, household_lines, standing_lines, end_line}
 use Rattle.pool_text.proofs.WritingLemmas.{pool_written}
 use Rattle.pool_text.proofs.writing.push_pool.Goals as goal
 

@@ -1,7 +1,7 @@
 use Rattle.std.proofs.Common.{◌≡◌, [], ◌∷◌, ◌++◌, ap, ◌∙◌}
 use Rattle.std.specs.Prelude.{codes}
 use Rattle.std.proofs.lemmas.Result.{on_ok_weaker}
-use Rattle.define_pool_texts.specs.PoolText.{names_at}
+use Rattle.define_bundles.specs.PoolText.{names_at}
 use Rattle.define_lines.specs.Lines.{tabbed}
 use Rattle.define_lines.proofs.LineLemmas.{line_added}
 use Rattle.pool_text.proofs.writing.push_volunteer.Goals as goal

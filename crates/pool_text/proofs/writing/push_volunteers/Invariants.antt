@@ -1,6 +1,6 @@
 use Rattle.std.proofs.Common.{◌≡◌, ◌++◌, map, take}
 use Rattle.define_lines.specs.Lines.{text_of}
-use Rattle.define_pool_texts.specs.PoolText.{volunteer_line}
+use Rattle.define_bundles.specs.PoolText.{volunteer_line}
 use Rattle.pool_text.proofs.writing.push_volunteers.Given as goal
 
 abbrev pub invariant-loop-volunteer : goal.invariant-loop-volunteer

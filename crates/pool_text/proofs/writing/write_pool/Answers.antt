@@ -1,8 +1,8 @@
 use Rattle.std.proofs.Common.{◌≡◌, ap, ◌∙◌, arith}
 use Rattle.std.proofs.lemmas.Grind.{common_steps}
-use Rattle.define_pool_texts.specs.PoolText.{spelling}
-use Rattle.define_pool_texts.specs.PoolReading.{read}
-use Rattle.define_pool_texts.proofs.ReadAgain.{spelled_is_read}
+use Rattle.define_bundles.specs.PoolText.{spelling}
+use Rattle.define_bundles.specs.PoolReading.{read}
+use Rattle.define_bundles.proofs.PoolReadAgain.{spelled_is_read}
 use Rattle.pool_text.proofs.writing.write_pool.Goals as goal
 
 pub returns-clause-read : goal.returns-clause-read

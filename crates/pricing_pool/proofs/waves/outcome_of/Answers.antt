@@ -1,5 +1,5 @@
 use Rattle.pricing_pool.proofs.waves.outcome_of.Goals as goal
-use Rattle.laws_basic.proofs.Lists.{slice_get-at}
+use Rattle.define_pools.proofs.Lists.{slice_get-at}
 
 pub returns : goal.returns
 returns c =

@@ -1,5 +1,5 @@
 use Rattle.std.proofs.Common.{◌∙◌, [], ◌∷◌, ◌++◌, ap, sym}
-use Rattle.laws_basic.proofs.Lists.{numbers_more}
+use Rattle.define_pools.proofs.Lists.{numbers_more}
 use Rattle.proof_program.proofs.columns.everybody.Goals as goal
 
 pub loop-number-preserved : goal.loop-number-preserved

@@ -1,7 +1,7 @@
 use Rattle.std.proofs.Common.{◌≡◌, ◌∙◌, ◌<◌, ℕ, List, Option, None, Vec, Global, ◌++◌, map, filter, length, get_or, refl, sym, ap, arith}
 use Rattle.std.specs.List.{range_with_len}
 use Rattle.std.proofs.lemmas.List.FromFn.{get_or-map-range_with_len, length-map-range_with_len}
-use Rattle.define_additions.specs.Constraints.{household_constraint}
+use Rattle.define_proofs.specs.Constraints.{household_constraint}
 use Rattle.define_searches.specs.Classes.{shared_household}
 use Rattle.define_searches.specs.Compositions.{is_of_household}
 use Rattle.proof_program.specs.declared.demands.Demand.{Demand}

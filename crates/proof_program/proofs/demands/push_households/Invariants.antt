@@ -1,5 +1,5 @@
 use Rattle.std.proofs.Common.{◌≡◌, ◌++◌, map, filter}
-use Rattle.define_additions.specs.Constraints.{household_constraint}
+use Rattle.define_proofs.specs.Constraints.{household_constraint}
 use Rattle.std.specs.List.{range_with_len}
 use Rattle.define_searches.specs.Classes.{shared_household}
 use Rattle.define_searches.specs.Compositions.{is_of_household}

@@ -2,7 +2,7 @@ use Rattle.std.proofs.Common.{◌∙◌, ◌++◌, ap, ap₂, map, arith}
 use Rattle.std.specs.List.{enumerate_from}
 use Rattle.std.proofs.lemmas.List.{take_all}
 use Rattle.std.proofs.lemmas.List.FromFn.{length-enumerate_from}
-use Rattle.define_additions.specs.Constraints.{counting, value_constraint}
+use Rattle.define_proofs.specs.Constraints.{counting, value_constraint}
 use Rattle.proof_program.specs.declared.demands.Counted.TheVariants.{WithValue}
 use Rattle.proof_program.specs.Demands.{constraint_of, is_counted}
 use Rattle.proof_program.proofs.ListSteps.{mapped_more, numbered_at}

@@ -2,7 +2,7 @@ use Rattle.std.proofs.Common.{◌∙◌, ◌∷◌, ◌++◌, List, ap, map, len
 use Rattle.std.specs.List.{enumerate_from, flat_map}
 use Rattle.std.proofs.lemmas.List.{take_all}
 use Rattle.std.proofs.lemmas.List.FromFn.{length-enumerate_from}
-use Rattle.define_additions.specs.Constraints.{category_constraints, size_constraint, value_constraint}
+use Rattle.define_proofs.specs.Constraints.{category_constraints, size_constraint, value_constraint}
 use Rattle.define_pools.specs.Pool.{BoundedValue, Category}
 use Rattle.proof_program.specs.Demands.{constraint_of}
 use Rattle.proof_program.proofs.CategorySteps.{category_added}

@@ -1,6 +1,6 @@
 use Rattle.std.proofs.Common.{◌≡◌, ◌∷◌, map, take}
 use Rattle.std.specs.List.{enumerate_from, flat_map}
-use Rattle.define_additions.specs.Constraints.{category_constraints, size_constraint}
+use Rattle.define_proofs.specs.Constraints.{category_constraints, size_constraint}
 use Rattle.proof_program.specs.Demands.{constraint_of}
 use Rattle.proof_program.proofs.demands.quota_demands.Given as goal
 

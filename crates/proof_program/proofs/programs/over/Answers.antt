@@ -1,6 +1,6 @@
 use Rattle.std.proofs.Common.{◌≡◌, ◌∙◌, ◌++◌, List, ap, map, length, subst, sym, arith}
 use Rattle.std.proofs.lemmas.List.{length-map}
-use Rattle.define_additions.specs.Constraints.{Constraint, first_members, household_constraint}
+use Rattle.define_proofs.specs.Constraints.{Constraint, first_members, household_constraint}
 use Rattle.proof_program.specs.Demands.{constraint_of}
 use Rattle.proof_program.specs.Programs.{IsProgram, quota_constraints, rows_of}
 use Rattle.proof_program.proofs.PoolDemands.{demands_are, joined}

@@ -1,6 +1,6 @@
 use Rattle.std.proofs.Common.{◌≡◌, ◌∙◌, cond, [], ◌∷◌, ◌++◌, ℤ, pos, get_or, ap, ap₂, sym, arith}
 use Rattle.std.proofs.lemmas.List.{map_more}
-use Rattle.define_additions.specs.Constraints.{coefficient}
+use Rattle.define_proofs.specs.Constraints.{coefficient}
 use Rattle.proof_program.specs.declared.columns.Column.{Column}
 use Rattle.proof_program.specs.Demands.{constraint_of}
 use Rattle.proof_program.proofs.CountedRows.{coefficient_is}

@@ -1,5 +1,5 @@
 use Rattle.std.proofs.Common.{◌≡◌, map, take}
-use Rattle.define_additions.specs.Constraints.{coefficient}
+use Rattle.define_proofs.specs.Constraints.{coefficient}
 use Rattle.proof_program.specs.Demands.{constraint_of}
 use Rattle.proof_program.proofs.rows.coefficients.Given as goal
 

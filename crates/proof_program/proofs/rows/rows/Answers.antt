@@ -2,7 +2,7 @@ use Rattle.std.proofs.Common.{◌∙◌, ◌<◌, Vec, Global, map, filter, leng
 use Rattle.std.specs.List.{enumerate_from}
 use Rattle.std.proofs.lemmas.List.{get_or-map, length-map, take_all}
 use Rattle.std.proofs.lemmas.List.FromFn.{length-enumerate_from}
-use Rattle.define_additions.specs.Constraints.{Constraint}
+use Rattle.define_proofs.specs.Constraints.{Constraint}
 use Rattle.proof_program.specs.declared.demands.Demand.{Demand}
 use Rattle.proof_program.specs.declared.demands.Counted.TheVariants.{Everybody}
 use Rattle.proof_program.specs.Demands.{constraint_of}

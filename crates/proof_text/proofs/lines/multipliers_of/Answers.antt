@@ -1,5 +1,5 @@
 use Rattle.std.proofs.Common.{◌≡◌, ◌+◌, ◌*◌, length, sym, ◌∙◌, ap, arith}
-use Rattle.define_proof_texts.specs.ProofReading.{multipliers_of}
+use Rattle.define_proofs.specs.ProofReading.{multipliers_of}
 use Rattle.proof_text.proofs.Multipliers.{behind, fields_behind, one_more, odd_left}
 use Rattle.proof_text.proofs.lines.multipliers_of.Goals as goal
 

@@ -1,5 +1,5 @@
 use Rattle.std.proofs.Common.{◌≡◌, ◌*◌, drop, map}
-use Rattle.define_proof_texts.specs.ProofReading.{multipliers_of as multipliers_in}
+use Rattle.define_proofs.specs.ProofReading.{multipliers_of as multipliers_in}
 use Rattle.proof_text.proofs.Multipliers.{behind}
 use Rattle.proof_text.proofs.lines.multipliers_of.Given as goal
 

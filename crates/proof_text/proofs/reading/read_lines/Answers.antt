@@ -1,7 +1,7 @@
 use Rattle.std.proofs.Common.{arith, sym, subst}
 use Rattle.define_lines.proofs.LineByLine.{leads_on}
-use Rattle.define_proof_texts.specs.ProofReading.{read_proof, reader}
-use Rattle.define_proof_texts.proofs.Spelled.{IsRight, line_adds}
+use Rattle.define_proofs.specs.ProofReading.{read_proof, reader}
+use Rattle.define_proofs.proofs.Spelled.{IsRight, line_adds}
 use Rattle.proof_text.specs.declared.progress.Progress.{Progress}
 use Rattle.proof_text.specs.Progress.{seen}
 use Rattle.proof_text.proofs.LineByLine.{stops_at, closed_right}

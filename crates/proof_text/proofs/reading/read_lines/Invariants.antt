@@ -1,8 +1,8 @@
 use Rattle.std.proofs.Common.{◌≡◌, ◌+◌, ◌≤◌, length}
 use Rattle.define_lines.specs.Lines.{pieces_of}
 use Rattle.define_lines.specs.Reading.{read_lines}
-use Rattle.define_proof_texts.specs.ProofReading.{read_proof, reader}
-use Rattle.define_proof_texts.proofs.Spelled.{IsRight}
+use Rattle.define_proofs.specs.ProofReading.{read_proof, reader}
+use Rattle.define_proofs.proofs.Spelled.{IsRight}
 use Rattle.proof_text.specs.Progress.{seen}
 use Rattle.proof_text.proofs.reading.read_lines.Given as goal
 

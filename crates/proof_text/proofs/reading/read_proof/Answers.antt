@@ -1,10 +1,10 @@
 use Rattle.std.proofs.Common.{◌≡◌, ℕ, List, ◌∙◌, subst, ap}
 use Rattle.std.specs.Prelude.{Result, Ok, Err, IfOk}
-use Rattle.define_additions.specs.ProofVerdict.{Proof}
-use Rattle.define_proof_texts.specs.ProofText.{IsProof, proof_spelling}
-use Rattle.define_proof_texts.specs.ProofReading.{read_proof}
-use Rattle.define_proof_texts.proofs.ReadAgain.{spelled_is_read}
-use Rattle.define_proof_texts.proofs.Spelled.{read_is_spelled}
+use Rattle.define_proofs.specs.ProofVerdict.{Proof}
+use Rattle.define_proofs.specs.ProofText.{IsProof, proof_spelling}
+use Rattle.define_proofs.specs.ProofReading.{read_proof}
+use Rattle.define_proofs.proofs.ReadAgain.{spelled_is_read}
+use Rattle.define_proofs.proofs.Spelled.{read_is_spelled}
 use Rattle.text_lines.specs.declared.faults.TextStop.{TextStop}
 use Rattle.proof_text.specs.Answers.{Reads}
 use Rattle.proof_text.proofs.reading.read_proof.Goals as goal

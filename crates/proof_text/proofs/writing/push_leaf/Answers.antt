@@ -6,7 +6,7 @@ use Rattle.std.proofs.lemmas.Grind.{common_steps}
 use Rattle.std.proofs.lemmas.Result.{on_ok_weaker}
 use Rattle.define_lines.specs.Lines.{tabbed}
 use Rattle.define_lines.proofs.LineLemmas.{line_added}
-use Rattle.define_proof_texts.specs.ProofText.{multiplier_fields}
+use Rattle.define_proofs.specs.ProofText.{multiplier_fields}
 use Rattle.proof_text.proofs.writing.push_leaf.Goals as goal
 
 pub returns : goal.returns

@@ -1,7 +1,7 @@
 use Rattle.std.proofs.Common.{◌≡◌, [], ◌∷◌, ◌++◌, ap, ◌∙◌}
 use Rattle.std.proofs.lemmas.Result.{on_ok_weaker}
 use Rattle.define_lines.specs.Lines.{text_of}
-use Rattle.define_proof_texts.specs.ProofText.{bundle_lines, proof_line, trees_from}
+use Rattle.define_proofs.specs.ProofText.{bundle_lines, proof_line, trees_from}
 use Rattle.proof_text.proofs.Texts.{lottery_text}
 use Rattle.proof_text.proofs.writing.push_lottery.Goals as goal
 

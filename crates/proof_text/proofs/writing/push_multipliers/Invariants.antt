@@ -1,7 +1,7 @@
 use Rattle.std.proofs.Common.{◌≡◌, ◌++◌, take}
 use Rattle.std.specs.List.{flat_map}
 use Rattle.define_lines.specs.Lines.{tabbed}
-use Rattle.define_proof_texts.specs.ProofText.{multiplier_fields}
+use Rattle.define_proofs.specs.ProofText.{multiplier_fields}
 use Rattle.proof_text.proofs.writing.push_multipliers.Given as goal
 
 abbrev pub invariant-loop-multiplier : goal.invariant-loop-multiplier

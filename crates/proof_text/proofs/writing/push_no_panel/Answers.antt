@@ -2,7 +2,7 @@ use Rattle.std.proofs.Common.{◌≡◌, [], ◌∷◌, ◌++◌, ap, ◌∙◌}
 use Rattle.std.proofs.lemmas.Result.{on_ok_weaker}
 use Rattle.define_lines.specs.Lines.{text_of}
 use Rattle.define_bundles.specs.BundleText.{pool_lines}
-use Rattle.define_proof_texts.specs.ProofText.{none_line, proof_line, tree_lines}
+use Rattle.define_proofs.specs.ProofText.{none_line, proof_line, tree_lines}
 use Rattle.proof_text.proofs.Texts.{no_panel_text}
 use Rattle.proof_text.proofs.writing.push_no_panel.Goals as goal
 

@@ -1,6 +1,6 @@
 use Rattle.std.proofs.Common.{◌≡◌, ◌++◌, map, take}
 use Rattle.define_lines.specs.Lines.{text_of}
-use Rattle.define_proof_texts.specs.ProofText.{node_line}
+use Rattle.define_proofs.specs.ProofText.{node_line}
 use Rattle.proof_text.proofs.writing.push_nodes.Given as goal
 
 abbrev pub invariant-loop-line : goal.invariant-loop-line

@@ -1,6 +1,6 @@
 use Rattle.std.proofs.Common.{◌≡◌, ◌+◌, ◌++◌, take, ap, ◌∙◌}
 use Rattle.define_lines.specs.Lines.{text_of}
-use Rattle.define_proof_texts.specs.ProofText.{tree_lines, trees_from}
+use Rattle.define_proofs.specs.ProofText.{tree_lines, trees_from}
 use Rattle.proof_text.proofs.Texts.{one_tree_more}
 use Rattle.proof_text.proofs.writing.push_trees.Goals as goal
 

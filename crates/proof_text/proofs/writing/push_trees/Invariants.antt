@@ -1,6 +1,6 @@
 use Rattle.std.proofs.Common.{◌≡◌, ◌++◌, take}
 use Rattle.define_lines.specs.Lines.{text_of}
-use Rattle.define_proof_texts.specs.ProofText.{trees_from}
+use Rattle.define_proofs.specs.ProofText.{trees_from}
 use Rattle.proof_text.proofs.writing.push_trees.Given as goal
 
 abbrev pub invariant-loop-i : goal.invariant-loop-i

@@ -1,4 +1,4 @@
-use Rattle.define_additions.specs.Constraints.{category_constraints}
+use Rattle.define_proofs.specs.Constraints.{category_constraints}
 use Rattle.proof_verify.proofs.Rows.{all_several, several_more}
 use Rattle.proof_verify.proofs.constraints.push_categories.Goals as goal
 

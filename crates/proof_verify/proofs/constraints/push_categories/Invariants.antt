@@ -1,6 +1,6 @@
 use Rattle.std.proofs.Common.{◌≡◌, ◌++◌, take}
 use Rattle.std.specs.List.{enumerate_from, flat_map}
-use Rattle.define_additions.specs.Constraints.{category_constraints}
+use Rattle.define_proofs.specs.Constraints.{category_constraints}
 use Rattle.proof_verify.proofs.constraints.push_categories.Given as goal
 
 -- the constraints of the categories so far are added

@@ -1,4 +1,4 @@
-use Rattle.define_additions.specs.Constraints.{value_constraint}
+use Rattle.define_proofs.specs.Constraints.{value_constraint}
 use Rattle.proof_verify.proofs.Rows.{one_by_one, one_more}
 use Rattle.proof_verify.proofs.constraints.push_values.Goals as goal
 

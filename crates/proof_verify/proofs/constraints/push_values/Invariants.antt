@@ -1,6 +1,6 @@
 use Rattle.std.proofs.Common.{◌≡◌, ◌++◌, map, take}
 use Rattle.std.specs.List.{enumerate_from}
-use Rattle.define_additions.specs.Constraints.{value_constraint}
+use Rattle.define_proofs.specs.Constraints.{value_constraint}
 use Rattle.proof_verify.proofs.constraints.push_values.Given as goal
 
 -- the constraints of the values so far are added

@@ -1,6 +1,6 @@
 use Rattle.std.proofs.Common.{◌≡◌, ◌<◌, length, get_or, to_z, of_z, rules}
 use Rattle.std.specs.Int.{w128}
-use Rattle.define_additions.specs.Leaves.{charge}
+use Rattle.define_proofs.specs.Leaves.{charge}
 use Rattle.proof_verify.proofs.LeafSteps.{at_item, charge_fits, charge_next, narrow_at, stored}
 use Rattle.proof_verify.proofs.leaves.charges.Goals as goal
 

@@ -1,5 +1,5 @@
 use Rattle.std.proofs.Common.{◌≡◌}
-use Rattle.define_additions.specs.LeafSums.{first_charges}
+use Rattle.define_proofs.specs.LeafSums.{first_charges}
 use Rattle.proof_verify.proofs.leaves.charges.Given as goal
 
 -- `charges` is the sum of the charges of the multipliers read so far

@@ -1,6 +1,6 @@
 use Rattle.std.proofs.Common.{◌≡◌, ◌<◌, length, get_or, to_z, of_z, rules}
 use Rattle.std.specs.Int.{w128}
-use Rattle.define_additions.specs.Leaves.{multiplied}
+use Rattle.define_proofs.specs.Leaves.{multiplied}
 use Rattle.proof_verify.proofs.LeafSteps.{at_item, narrow_at, rest_fits, rest_next, stored}
 use Rattle.proof_verify.proofs.leaves.rest.Goals as goal
 

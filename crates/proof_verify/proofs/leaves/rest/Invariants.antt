@@ -1,6 +1,6 @@
 use Rattle.std.proofs.Common.{◌≡◌}
-use Rattle.define_additions.specs.LeafSums.{first_multipliers}
-use Rattle.define_additions.specs.Leaves.{rest}
+use Rattle.define_proofs.specs.LeafSums.{first_multipliers}
+use Rattle.define_proofs.specs.Leaves.{rest}
 use Rattle.proof_verify.proofs.leaves.rest.Given as goal
 
 -- `rest` is the volunteer's rest after the multipliers read so far

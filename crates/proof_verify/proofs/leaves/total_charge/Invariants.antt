@@ -1,5 +1,5 @@
 use Rattle.std.proofs.Common.{◌≡◌}
-use Rattle.define_additions.specs.LeafSums.{charges_and_rests}
+use Rattle.define_proofs.specs.LeafSums.{charges_and_rests}
 use Rattle.proof_verify.proofs.leaves.total_charge.Given as goal
 
 -- `total` is the sum of the multipliers' charges and of the charges of the first `i` volunteers' rests

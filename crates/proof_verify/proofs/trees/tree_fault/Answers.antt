@@ -1,6 +1,6 @@
 use Rattle.std.proofs.Common.{ap, ◌∙◌}
-use Rattle.define_additions.specs.Leaves.{standings}
-use Rattle.define_additions.specs.TreeLines.{tree_fault}
+use Rattle.define_proofs.specs.Leaves.{standings}
+use Rattle.define_proofs.specs.TreeLines.{tree_fault}
 use Rattle.proof_verify.specs.Steps.{place, seen_step}
 use Rattle.proof_verify.proofs.PathSteps.{line_passed}
 use Rattle.proof_verify.proofs.trees.tree_fault.Goals as goal

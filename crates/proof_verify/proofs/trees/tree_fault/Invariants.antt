@@ -1,6 +1,6 @@
 use Rattle.std.proofs.Common.{◌≡◌, ◌+◌, drop}
-use Rattle.define_additions.specs.Leaves.{standings}
-use Rattle.define_additions.specs.TreeLines.{fault_from, tree_fault}
+use Rattle.define_proofs.specs.Leaves.{standings}
+use Rattle.define_proofs.specs.TreeLines.{fault_from, tree_fault}
 use Rattle.proof_verify.specs.Steps.{place}
 use Rattle.proof_verify.proofs.trees.tree_fault.Given as goal
 

@@ -1,6 +1,6 @@
 use Rattle.std.proofs.Common.{◌≡◌, [], true, refl, sym, ap, ◌∙◌, subst}
-use Rattle.define_additions.specs.LeafSums.{is_stage_in_reach}
-use Rattle.define_additions.proofs.Reaches.{no_panel_in_reach}
+use Rattle.define_proofs.specs.LeafSums.{is_stage_in_reach}
+use Rattle.define_proofs.proofs.Reaches.{no_panel_in_reach}
 use Rattle.proof_verify.proofs.KeptRows.{near}
 use Rattle.proof_verify.proofs.verifying.of_no_panel.Goals as goal
 

@@ -3,10 +3,10 @@ use Rattle.std.specs.List.{list_all}
 use Rattle.std.proofs.lemmas.Bool.{and_from}
 use Rattle.check_reasons.specs.Courses.{Course, passed}
 use Rattle.check_reasons.specs.Sayings.{holds}
-use Rattle.define_additions.specs.LeafSums.{is_stage_in_reach}
-use Rattle.define_additions.specs.TreeLines.{TreeLine}
+use Rattle.define_proofs.specs.LeafSums.{is_stage_in_reach}
+use Rattle.define_proofs.specs.TreeLines.{TreeLine}
 use Rattle.proof_verify.specs.Kept.{AreConstraintsOf}
-use Rattle.define_additions.specs.ProofSteps.{verdict_from}
+use Rattle.define_proofs.specs.ProofSteps.{verdict_from}
 use Rattle.proof_verify.proofs.KeptRows.{kept_on}
 use Rattle.proof_verify.proofs.Stages.{going_on, of_stage, reaches_so_far, refusing, stages_from}
 use Rattle.proof_verify.proofs.verifying.stages_verdict.Goals as goal

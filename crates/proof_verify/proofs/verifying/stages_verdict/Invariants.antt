@@ -1,7 +1,7 @@
 use Rattle.std.proofs.Common.{◌≡◌, true, [], drop}
 use Rattle.std.specs.List.{list_all}
-use Rattle.define_additions.specs.LeafSums.{is_stage_in_reach}
-use Rattle.define_additions.specs.ProofSteps.{verdict_from}
+use Rattle.define_proofs.specs.LeafSums.{is_stage_in_reach}
+use Rattle.define_proofs.specs.ProofSteps.{verdict_from}
 use Rattle.proof_verify.specs.Kept.{AreConstraintsOf}
 use Rattle.proof_verify.proofs.verifying.stages_verdict.Given as goal
 

@@ -1,5 +1,5 @@
 use Rattle.std.proofs.Common.{sym, ap, ap₂, ◌∙◌}
-use Rattle.define_additions.specs.ProofVerdict.{OfLottery, OfNoPanel}
+use Rattle.define_proofs.specs.ProofVerdict.{OfLottery, OfNoPanel}
 use Rattle.proof_model.specs.Parts.{seen}
 use Rattle.proof_verify.proofs.Shown.{greatest, no_panel}
 use Rattle.proof_verify.proofs.verifying.verify.Goals as goal

@@ -4,7 +4,7 @@ use Rattle.std.specs.Ordering.{ord_max}
 use Rattle.std.proofs.lemmas.Bool.{and_from, le-leb, leb-true}
 use Rattle.std.proofs.lemmas.Grind.{common_steps}
 use Rattle.std.proofs.lemmas.List.Folds.{list_all_more}
-use Rattle.laws_basic.proofs.Each.{list_all_implies, passes_at}
+use Rattle.define_pools.proofs.Each.{list_all_implies, passes_at}
 use Rattle.define_conflicts.specs.declared.Counted.TheVariants.{Everybody}
 use Rattle.define_conflicts.specs.declared.Side.TheVariants.{AtLeast}
 use Rattle.define_conflicts.specs.declared.WeightedQuota.{WeightedQuota}

@@ -1,6 +1,6 @@
 use Rattle.std.proofs.Common.{◌≡◌, ◌<◌, ◌∙◌, ◌++◌, ap, get_or, length, map, take}
 use Rattle.std.proofs.lemmas.List.{take_all}
-use Rattle.laws_basic.proofs.Each.{below_at}
+use Rattle.define_pools.proofs.Each.{below_at}
 use Rattle.define_lines.specs.Lines.{text_of}
 use Rattle.define_offices.specs.Lines.{member_ids}
 use Rattle.define_reports.specs.Report.{member_line}

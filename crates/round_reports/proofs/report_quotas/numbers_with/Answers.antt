@@ -2,7 +2,7 @@ use Rattle.std.proofs.Common.{ℕ, ◌<◌, ltb, List, [], length, map, Bor, ari
 use Rattle.std.proofs.Math.ListN.{get_or-map}
 use Rattle.std.proofs.lemmas.List.{length-map}
 use Rattle.std.specs.List.{list_all}
-use Rattle.laws_basic.proofs.Each.{passes_at}
+use Rattle.define_pools.proofs.Each.{passes_at}
 use Rattle.round_reports.specs.Groups.{AreBelow}
 use Rattle.round_reports.proofs.report_quotas.numbers_with.Goals as goal
 

@@ -1,6 +1,6 @@
 use Rattle.std.proofs.Common.{◌≡◌, ℕ, true, ltb, arith, List, [], ◌∷◌, length, refl, sym, ◌∙◌, subst}
 use Rattle.std.proofs.lemmas.Bool.{lt-ltb}
-use Rattle.laws_basic.proofs.Each.{each_filter, each_range, list_all_from_each}
+use Rattle.define_pools.proofs.Each.{each_filter, each_range, list_all_from_each}
 use Rattle.define_pools.specs.Pool.{Pool, allows, everybody, volunteer}
 use Rattle.define_reports.specs.Report.{not_gone}
 use Rattle.round_reports.specs.Groups.{AreBelow, GroupsAreBelow}

@@ -1,6 +1,6 @@
 use Rattle.std.proofs.Common.{◌≡◌, [], ◌∷◌, ◌++◌, ap, ◌∙◌}
 use Rattle.define_lines.specs.Lines.{text_of}
-use Rattle.define_pool_texts.specs.PoolText.{end_line}
+use Rattle.define_bundles.specs.PoolText.{end_line}
 use Rattle.define_offices.specs.Tables.{bundle_of, phase_of}
 use Rattle.define_reports.specs.Report.{bundle_lines, chance_lines_in, counted, head_lines, quota_lines}
 use Rattle.define_reports.proofs.LineSteps.{lines_added}

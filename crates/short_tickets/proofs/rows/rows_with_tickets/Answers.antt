@@ -1,7 +1,7 @@
 use Rattle.std.proofs.Common.{◌≡◌, ◌+◌, ◌-◌, ◌<◌, ◌≤◌, ◌++◌, ◌∷◌, [], ◌||◌, ◌&&◌, ℕ, List, Bool, cond, eqb, ltb, get_or, length, map, take, ap, ap₂, sym, ◌∙◌, arith}
 use Rattle.std.proofs.lemmas.List.{get_or-map, length-map}
 use Rattle.std.proofs.lemmas.List.Sums.{sum_by_more}
-use Rattle.laws_basic.proofs.Sums.{one_if}
+use Rattle.define_pools.proofs.Sums.{one_if}
 use Rattle.define_pools.specs.Lottery.{LotteryRow}
 use Rattle.define_draws.proofs.TicketLemmas.{weight_at}
 use Rattle.define_short_draws.specs.Short.{is_among_first, remainder, rows_with_tickets, tickets_by_weight, tickets_left, whole_tickets}

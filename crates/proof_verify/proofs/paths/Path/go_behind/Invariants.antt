@@ -1,5 +1,5 @@
 use Rattle.std.proofs.Common.{◌≡◌, length}
-use Rattle.define_additions.specs.TreeLines.{path_behind}
+use Rattle.define_proofs.specs.TreeLines.{path_behind}
 use Rattle.proof_verify.proofs.paths.Path.go_behind.Given as goal
 
 -- the path of the next line, computed from the decisions that are left, is the one computed from all decisions

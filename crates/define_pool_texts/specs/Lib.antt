@@ -1,4 +1,0 @@
-pub mod PoolText
-pub mod PoolReading
-pub mod FirstFault
-pub mod WorkedExamples

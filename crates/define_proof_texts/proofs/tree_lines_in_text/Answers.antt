@@ -1,5 +1,0 @@
-use Rattle.define_proof_texts.proofs.TreesInText.{tree_lines_stand}
-use Rattle.define_proof_texts.proofs.tree_lines_in_text.Goals as goal
-
-pub returns : goal.returns
-returns c = tree_lines_stand

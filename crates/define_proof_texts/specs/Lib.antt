@@ -1,4 +1,0 @@
-pub mod ProofText
-pub mod LinesInText
-pub mod ProofReading
-pub mod WorkedProofs

@@ -1,0 +1,15 @@
+pub mod SignedSums
+pub mod MetConstraints
+pub mod LeafShows
+pub mod TreeShows
+pub mod ByLines
+pub mod Verdicts
+pub mod Reaches
+pub mod NarrowSums
+pub mod StepByStep
+pub mod Refused
+pub mod NodeLines
+pub mod Spelled
+pub mod ReadAgain
+pub mod TreesInText
+pub mod KindsRise

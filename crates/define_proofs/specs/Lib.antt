@@ -1,0 +1,15 @@
+pub mod Constraints
+pub mod Leaves
+pub mod Trees
+pub mod TreeLines
+pub mod TreeRanges
+pub mod LeafSums
+pub mod CapsHold
+pub mod ProofVerdict
+pub mod ProofSteps
+pub mod Refusals
+pub mod WorkedTrees
+pub mod ProofText
+pub mod LinesInText
+pub mod ProofReading
+pub mod WorkedProofs
