@@ -1,9 +1,11 @@
 -- What `lottery` answers about a pool: the bundle of the answer that the run finds under `limits`, or why there is none.
-use Rattle.std.specs.Prelude.{◌≡◌, ◌≤◌, ℕ, List, [], Some, ⊤}
+use Rattle.std.specs.Prelude.{◌≡◌, ◌<◌, ◌≤◌, ℕ, List, [], length, Some, ⊤}
 use Rattle.define_pools.specs.Certificate.{Answer, Certifies}
 use Rattle.define_pools.specs.Lottery.{LeximinGreatest}
 use Rattle.define_pools.specs.Pool.{Pool, panels}
 use Rattle.define_bundles.specs.BundleText.{bundle_text}
+use Rattle.define_legs.specs.declared.Leg.{Leg}
+use Rattle.define_legs.specs.Legs.{RunHasLegs, pivot_limit, with_pivot}
 use Rattle.define_rows.specs.Table.{Table}
 use Rattle.define_searches.specs.Classes.{classes_of}
 use Rattle.define_searches.specs.Visits.{first_search}
@@ -53,11 +55,19 @@ TellsBudget limits (Ending.PivotsSpent stood) line = line ≡ pivots_spent_line 
 TellsBudget limits (Ending.NodesSpent stood) line = line ≡ nodes_spent_line limits.nodes stood
 TellsBudget limits other line = ⊥
 
+-- If the budget of pivots is spent, it is below the sum of the numbers of sets of variables that could be basic in a leg, over the legs in
+-- which the run makes a pivot or has one due. So a budget of at least this sum is never spent
+abbrev pub IsBelowBounds : Limits → Pool → Ending → Type 0
+IsBelowBounds limits pool (Ending.PivotsSpent stood) =
+    (legs : List Leg) × RunHasLegs pool limits (Ending.PivotsSpent stood) legs × (limits.pivots < pivot_limit (length (classes_of pool).classes) (with_pivot legs))
+IsBelowBounds limits pool other = ⊤
+
 -- the run needs more than `limits.pivots` pivots, or a search needs more than `limits.nodes` visits; the line says which
 pub record SpendsBudget (limits : Limits) (pool : Pool) (line : List ℕ) : Type 0 where
   pub ending : Ending
   pub ends : RunEnds pool limits ending
   pub tells : TellsBudget limits ending line
+  pub below : IsBelowBounds limits pool ending
 
 abbrev pub LotteryMeans : Limits → Pool → RightAnswers
 LotteryMeans limits pool = record no_answer {

@@ -14,8 +14,9 @@ use Rattle.define_pools.specs.Pool.{Pool, panels}
 use Rattle.define_runs.specs.Run as run
 use Rattle.define_runs.specs.Run.{Ending, Limits, RunEnds, run_limits}
 use Rattle.define_runs.proofs.OtherLimits.{one_ending}
-use Rattle.define_searches.specs.Classes.{are_alike}
+use Rattle.define_searches.specs.Classes.{are_alike, classes_of}
 use Rattle.define_searches.proofs.AlikeClasses.{alike_makes}
+use Rattle.laws_of_legs.proofs.Endings.{legs_end}
 use Rattle.laws_of_runs.proofs.NoPanels.{no_panel_is_within, no_panel_where_none, none_where_no_panel}
 use Rattle.command_shell.specs.declared.status.Printed.TheVariants.{Done, NoPanel as NonePrinted, Refused as Rejected}
 use Rattle.command_shell.specs.declared.status.Cause.TheVariants.{Input, Wide, Spent, Rule}
@@ -24,6 +25,7 @@ use Rattle.command_shell.specs.Formats.{pool_format}
 use Rattle.command_shell.specs.Outcomes as ends
 use Rattle.command_shell.specs.Outcomes.{Outcome as OutcomeTold}
 use Rattle.command_shell.specs.Told.{Told}
+use Rattle.command_meanings.specs.Legs.{LegsMeans}
 use Rattle.command_meanings.specs.Lottery.{LotteryMeans, PassesWidth, SpendsBudget, TellsBudget, TellsWidth}
 use Rattle.command_meanings.specs.Make.{MakeMeans}
 use Rattle.command_meanings.specs.Panel.{PanelMeans, visits_of}
@@ -77,6 +79,14 @@ module _ (status : ℕ) (pool : Pool) where
     lottery_exact (Stops Spent line) right is = (λ s. absurd (cc (is, s)), λ (none, within). absurd (not_spent line right none within))
     lottery_exact (Stops Input line) right is = absurd right
     lottery_exact (Stops Rule line) right is = absurd right
+
+    -- `legs` makes the same run
+    legs_exact : (answer : Saying) → IsRight (LegsMeans limits pool) answer → status ≡ status_of answer → IsExactly status limits.nodes pool
+    legs_exact (Prints Done text) right is = (λ s. absurd (cc (is, s)), λ (none, within). absurd (cc (only_none (run.Found right.last right.answer) ends none within)))
+      where
+        ends : RunEnds pool limits (run.Found right.last right.answer)
+        ends = legs_end (classes_of pool) (run_limits limits) (run.Found right.last right.answer) right.legs right.ends
+    legs_exact answer right is = lottery_exact answer right is
 
     -- ---- a solve of an open round
 
@@ -144,6 +154,10 @@ module _ (told : StoreTold) (nodes : ℕ) (pool : Pool) where
       let own = due pool_format (LotteryMeans it.limits) told.call pool (spelling pool) (spelled_is_read pool is_pool) from n8 n12 right.call in
       let same : it.limits.nodes ≡ nodes = cc in
       subst Exact same (lottery_exact told.call.status pool it.limits own.answer own.right own.status)
+  exactly (Some (asks.Legs it)) right has (is_pool, from) n8 n9 n12 =
+      let own = due pool_format (LegsMeans it.limits) told.call pool (spelling pool) (spelled_is_read pool is_pool) from n8 n12 right.call in
+      let same : it.limits.nodes ≡ nodes = cc in
+      subst Exact same (legs_exact told.call.status pool it.limits own.answer own.right own.status)
   exactly (Some (asks.Make it)) right has is n8 n9 n12 =
       let same : it.limits.nodes ≡ nodes = cc in
       subst Exact same (subst (λ p. IsExactly told.call.status it.limits.nodes p) (sym is) (made_exact told.call it.seed it.volunteers it.limits right.call.ends n8 n12))

@@ -126,6 +126,7 @@ AnswersLottery other told = ⊤
 abbrev pub nodes_of : Option Asked → Option ℕ
 nodes_of (Some (asks.Text (texts.Panel it))) = Some it.nodes
 nodes_of (Some (asks.Lottery it)) = Some it.limits.nodes
+nodes_of (Some (asks.Legs it)) = Some it.limits.nodes
 nodes_of (Some (asks.Make it)) = Some it.limits.nodes
 nodes_of (Some (asks.Step store (steps.Solve round limits workers))) = Some limits.nodes
 nodes_of other = None

@@ -1,5 +1,5 @@
 -- The number of workers changes no byte of an answer: a law about two calls whose words differ in this number alone. Workers price for
--- `lottery`, `make` and `solve`.
+-- `lottery`, `legs`, `make` and `solve`.
 use Rattle.std.specs.Prelude.{◌≡◌, ◌≢◌, ◌⊎◌, ℕ, List, Some}
 use Rattle.define_offices.specs.Tables.{Tables}
 use Rattle.define_runs.specs.Run.{Limits}

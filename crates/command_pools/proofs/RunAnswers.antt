@@ -1,5 +1,6 @@
 -- The answers for a stop of the run are right by `LotteryMeans`, `LegsMeans` and `MakeMeans`.
-use Rattle.std.proofs.Common.{◌≡◌, ℕ, List, Err, refl, ap, sym, subst}
+use Rattle.std.proofs.Common.{◌≡◌, ℕ, List, Err, refl, ap, sym, subst, tt}
+use Rattle.define_legs.specs.Legs.{RunHasLegs}
 use Rattle.define_made_pools.specs.MadePools.{made_pool}
 use Rattle.define_made_pools.specs.Summary.{Sizes, summary_text}
 use Rattle.define_pools.specs.Certificate.{Answer}
@@ -8,7 +9,7 @@ use Rattle.define_rows.specs.Table.{Table}
 use Rattle.define_searches.specs.Classes.{classes_of}
 use Rattle.define_runs.specs.Run.{Ending, Limits, RunEnds, run_limits}
 use Rattle.define_runs.specs.declared.sizes.RunSizes.{RunSizes}
-use Rattle.leximin_run.specs.Answers.{TellsEnding, sizes_in, stood}
+use Rattle.leximin_run.specs.Answers.{SpendsBelowLegs, TellsEnding, sizes_in, stood}
 use Rattle.leximin_run.specs.declared.stops.Stop.{Stop}
 use Rattle.leximin_run.specs.declared.stops.Stop.TheVariants.{TooWide, TotalPasses, PivotsSpent, NodesSpent, OutOfMemory}
 use Rattle.command_shell.specs.declared.status.Cause.TheVariants.{Wide, Spent}
@@ -23,37 +24,40 @@ data TellsRefusal (limits : Limits) (pool : Pool) (answer : Saying) : Type 0 whe
   IsWidth : (line : List ℕ) → PassesWidth limits pool line → answer ≡ Stops Wide line → TellsRefusal limits pool answer
   IsBudget : (line : List ℕ) → SpendsBudget limits pool line → answer ≡ Stops Spent line → TellsRefusal limits pool answer
 
-refused : (limits : Limits) (pool : Pool) (stop : Stop) → TellsEnding (classes_of pool) (run_limits limits) (Err stop) → (answer : Saying) →
-    TellsStop limits stop answer → TellsRefusal limits pool answer
-refused limits pool (TooWide at pass) ends answer is = IsWidth _ (record { ending = Ending.TooWide (stood at) pass; ends = ends; tells = refl }) is
-refused limits pool (TotalPasses at place total den) ends answer is =
+refused : (limits : Limits) (pool : Pool) (stop : Stop) → TellsEnding (classes_of pool) (run_limits limits) (Err stop) → SpendsBelowLegs (classes_of pool) (run_limits limits) stop →
+    (answer : Saying) → TellsStop limits stop answer → TellsRefusal limits pool answer
+refused limits pool (TooWide at pass) ends below answer is = IsWidth _ (record { ending = Ending.TooWide (stood at) pass; ends = ends; tells = refl }) is
+refused limits pool (TotalPasses at place total den) ends below answer is =
     IsWidth _ (record { ending = Ending.TotalPasses ends.0 ends.1; ends = ends.4; tells = refl }) (is ends.1 ends.3)
-refused limits pool (PivotsSpent at) ends answer is =
-    IsBudget _ (record { ending = Ending.PivotsSpent ends.0; ends = ends.2; tells = refl }) (rw ends.1 at is)
-refused limits pool (NodesSpent at) ends answer is = IsBudget _ (record { ending = Ending.NodesSpent (stood at); ends = ends; tells = refl }) is
-refused limits pool OutOfMemory ends answer is = absurd is
+refused limits pool (PivotsSpent at) ends below answer is =
+    let same : below.0 ≡ ends.0 = cc (below.2, ends.1) in
+    let has = subst (λ table. RunHasLegs pool limits (Ending.PivotsSpent table) below.1) same below.3 in
+    IsBudget _ (record { ending = Ending.PivotsSpent ends.0; ends = ends.2; tells = refl; below = (below.1, has, below.4) }) (rw ends.1 at is)
+refused limits pool (NodesSpent at) ends below answer is = IsBudget _ (record { ending = Ending.NodesSpent (stood at); ends = ends; tells = refl; below = tt }) is
+refused limits pool OutOfMemory ends below answer is = absurd is
 
 -- if the run ends with a stop, the answer to this stop is right
-pub stop_is_right : (limits : Limits) (pool : Pool) (stop : Stop) → TellsEnding (classes_of pool) (run_limits limits) (Err stop) → (answer : Saying) →
-    TellsStop limits stop answer → IsRight (LotteryMeans limits pool) answer
-stop_is_right limits pool stop ends answer is = right (refused limits pool stop ends answer is)
+pub stop_is_right : (limits : Limits) (pool : Pool) (stop : Stop) → TellsEnding (classes_of pool) (run_limits limits) (Err stop) →
+    SpendsBelowLegs (classes_of pool) (run_limits limits) stop → (answer : Saying) → TellsStop limits stop answer → IsRight (LotteryMeans limits pool) answer
+stop_is_right limits pool stop ends below answer is = right (refused limits pool stop ends below answer is)
   where
     right : TellsRefusal limits pool answer → IsRight (LotteryMeans limits pool) answer
     right (IsWidth line passes e) = subst (IsRight (LotteryMeans limits pool)) (sym e) passes
     right (IsBudget line spends e) = subst (IsRight (LotteryMeans limits pool)) (sym e) spends
 
 -- `legs` answers to a stop as `lottery` does
-pub legs_stop_is_right : (limits : Limits) (pool : Pool) (stop : Stop) → TellsEnding (classes_of pool) (run_limits limits) (Err stop) → (answer : Saying) →
-    TellsStop limits stop answer → IsRight (LegsMeans limits pool) answer
-legs_stop_is_right limits pool stop ends answer is = right (refused limits pool stop ends answer is)
+pub legs_stop_is_right : (limits : Limits) (pool : Pool) (stop : Stop) → TellsEnding (classes_of pool) (run_limits limits) (Err stop) →
+    SpendsBelowLegs (classes_of pool) (run_limits limits) stop → (answer : Saying) → TellsStop limits stop answer → IsRight (LegsMeans limits pool) answer
+legs_stop_is_right limits pool stop ends below answer is = right (refused limits pool stop ends below answer is)
   where
     right : TellsRefusal limits pool answer → IsRight (LegsMeans limits pool) answer
     right (IsWidth line passes e) = subst (IsRight (LegsMeans limits pool)) (sym e) passes
     right (IsBudget line spends e) = subst (IsRight (LegsMeans limits pool)) (sym e) spends
 
 pub made_stop_is_right : (seed volunteers : ℕ) (limits : Limits) (pool : Pool) → pool ≡ made_pool seed volunteers → (stop : Stop) →
-    TellsEnding (classes_of pool) (run_limits limits) (Err stop) → (answer : Saying) → TellsStop limits stop answer → IsRight (MakeMeans seed volunteers limits) answer
-made_stop_is_right seed volunteers limits pool made stop ends answer is = right (refused limits pool stop ends answer is)
+    TellsEnding (classes_of pool) (run_limits limits) (Err stop) → SpendsBelowLegs (classes_of pool) (run_limits limits) stop → (answer : Saying) →
+    TellsStop limits stop answer → IsRight (MakeMeans seed volunteers limits) answer
+made_stop_is_right seed volunteers limits pool made stop ends below answer is = right (refused limits pool stop ends below answer is)
   where
     right : TellsRefusal limits pool answer → IsRight (MakeMeans seed volunteers limits) answer
     right (IsWidth line passes e) =

@@ -125,9 +125,16 @@ pub record LotteryGives : Type 0 where
 pub record LegsGives : Type 0 where
   pub defaults : Give (codes "legs" ∷ []) name.Legs
       (number (codes "bits") 127 ∷ number (codes "pivots") 100000 ∷ number (codes "nodes") 50000000 ∷ number (codes "workers") 1 ∷ [])
+  pub least : Give (codes "legs" ∷ codes "--bits" ∷ codes "1" ∷ codes "--pivots" ∷ codes "0" ∷ codes "--nodes" ∷ codes "0" ∷ []) name.Legs
+      (number (codes "bits") 1 ∷ number (codes "pivots") 0 ∷ number (codes "nodes") 0 ∷ number (codes "workers") 1 ∷ [])
   pub most : Give (codes "legs" ∷ codes "--pivots" ∷ codes "1000000000" ∷ codes "--nodes" ∷ codes "1000000000000" ∷ codes "--workers" ∷ codes "64" ∷ []) name.Legs
       (number (codes "bits") 127 ∷ number (codes "pivots") 1000000000 ∷ number (codes "nodes") 1000000000000 ∷ number (codes "workers") 64 ∷ [])
+  pub no_bits : GiveNothing (codes "legs" ∷ codes "--bits" ∷ codes "0" ∷ [])
   pub more_bits : GiveNothing (codes "legs" ∷ codes "--bits" ∷ codes "128" ∷ [])
+  pub more_pivots : GiveNothing (codes "legs" ∷ codes "--pivots" ∷ codes "1000000001" ∷ [])
+  pub more_nodes : GiveNothing (codes "legs" ∷ codes "--nodes" ∷ codes "1000000000001" ∷ [])
+  pub no_workers : GiveNothing (codes "legs" ∷ codes "--workers" ∷ codes "0" ∷ [])
+  pub more_workers : GiveNothing (codes "legs" ∷ codes "--workers" ∷ codes "65" ∷ [])
   pub share : GiveNothing (codes "legs" ∷ codes "--share" ∷ [])
 
 -- `make` requires a seed of at most 2 ^ 63 - 1 and a number of volunteers from 1 to 400, and has the limits of `lottery`

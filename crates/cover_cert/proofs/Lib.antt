@@ -1,4 +1,3 @@
-pub mod LineCounts
 pub mod Stages
 pub mod Walks
 pub mod Shown

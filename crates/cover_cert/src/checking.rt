@@ -10,12 +10,12 @@ ghost use Rattle.define_pools.specs.Certificate.{Certifies};
 ghost use Rattle.define_pools.specs.Lottery.{LeximinGreatest};
 ghost use Rattle.laws_of_covers.specs.CoverSteps.{stage_verdict as stage_verdict_of, verdict_from};
 
-use crate::first_lines::{after, bundle_line_count};
 use crate::steps::Steps;
 use crate::trees::{Fault, tree_fault};
 use check_reasons::{Course, Verdict, lottery_verdict};
 use check_search::terms_of;
 use cover_model::{Cover, FrontLine, Fronts};
+use line_counts::{bundle_line_count, lines_after};
 use pool_model::Stage;
 use std::alloc::{AllocError, Global};
 use std::sync::ledger::Ledger;
@@ -54,7 +54,7 @@ fn cover_verdict<L: Ledger>(
     }
     let before = bundle_line_count(pool, answer)?;
     // The 4 further lines are the cover's first, the bundle's last, the one that begins the tree, and the tree's first.
-    let first = after(before, 4)?;
+    let first = lines_after(before, 4)?;
     let course = Course::begin(alloc, pool, answer)?;
     let stages = answer.certificate().stages();
     stages_verdict(alloc, course, stages, first, cover.trees(), steps)
@@ -84,7 +84,7 @@ fn stages_verdict<L: Ledger>(
             return Ok(verdict);
         }
         // one line comes between two trees
-        number = after(after(number, lines.len())?, 1)?;
+        number = lines_after(lines_after(number, lines.len())?, 1)?;
         course.settle();
     }
     course.left(alloc)

@@ -1,14 +1,13 @@
 //! The check of a cover: whether its trees show that the caps of a certificate hold, so that the lottery is leximin greatest; if not, why it
 //! is refused. The check searches nothing: it judges each front of the cover once. Stands on `check_reasons`, for the reasons that do not
-//! concern trees, on the classes, rows and tallies of `check_search`, on the values of `cover_model`, and on `define_covers` and
-//! `laws_of_covers`.
+//! concern trees, on the classes, rows and tallies of `check_search`, on the values of `cover_model`, on `line_counts`, for the
+//! lines that verdicts name, and on `define_covers` and `laws_of_covers`.
 //!
 //! Promises: `check_cover` returns exactly the verdict of the definitions, with a step for each front that it judges. All other functions
 //! are helpers.
 #![tactic(auto)]
 
 mod checking;
-mod first_lines;
 mod judging;
 mod order;
 mod steps;

@@ -8,12 +8,12 @@ ghost use Rattle.laws_of_covers.specs.Counts.{BeginningFits};
 ghost use Rattle.laws_of_covers.specs.LineSteps.{next};
 ghost use Rattle.define_covers.specs.CoverVerdict.{fault_from};
 
-use crate::first_lines::after;
 use crate::judging::judge;
 use crate::order::{continues, turned};
 use crate::steps::Steps;
 use check_search::{Tally, Terms};
 use cover_model::FrontLine;
+use line_counts::lines_after;
 use std::alloc::{AllocError, Global};
 use std::marker::Model;
 use std::sync::ledger::Ledger;
@@ -95,13 +95,13 @@ pub(crate) fn tree_fault<L: Ledger>(
     for (k, line) in lines.iter().enumerate() {
         match pass_line(alloc, terms, &mut tally, &place, line, steps)? {
             Ok(next) => place = next,
-            Err(reason) => return Ok(Some(Fault::new(after(number, k)?, reason))),
+            Err(reason) => return Ok(Some(Fault::new(lines_after(number, k)?, reason))),
         }
     }
     if place.beginning.is_none() {
         return Ok(None);
     }
-    Ok(Some(Fault::new(after(number, lines.len())?, NO_NEXT_LINE)))
+    Ok(Some(Fault::new(lines_after(number, lines.len())?, NO_NEXT_LINE)))
 }
 
 /// Passes a line. Returns how the line after it begins, or the reason why the line is refused. Only a line that comes next is judged.

@@ -1,6 +1,5 @@
 pub mod KeptRows
 pub mod LeafSteps
-pub mod LineCounts
 pub mod PathSteps
 pub mod Rows
 pub mod Shown

@@ -1,5 +1,5 @@
 //! The walk through the lines of a tree, which finds the first fault: a line that can't come next, a leaf whose multipliers do not show the
-//! cap, or that the lines end before the tree is complete. Stands on `paths`, `leaves` and `first_lines`; `verifying` calls `tree_fault`.
+//! cap, or that the lines end before the tree is complete. Stands on `paths`, `leaves` and `line_counts`; `verifying` calls `tree_fault`.
 
 ghost use Rattle.std.specs.Prelude.{◌≡◌, IfOk, IsTrue, OnOk, length, true, Ok, Err};
 ghost use Rattle.std.specs.List.{list_all};
@@ -9,9 +9,9 @@ ghost use Rattle.define_proofs.specs.TreeLines.{OfLeaf, OfSplit, tree_fault as f
 ghost use Rattle.define_proofs.specs.TreeRanges.{is_leaf, is_tree_line};
 ghost use Rattle.proof_verify.specs.Steps.{next, place, seen_step};
 
-use crate::first_lines::after;
 use crate::leaves::{Problem, leaf_shows};
 use crate::paths::Path;
+use line_counts::lines_after;
 use pool_model::Pool;
 use proof_model::{Leaf, Node, TreeLine};
 use std::alloc::{AllocError, Global};
@@ -78,13 +78,13 @@ pub(crate) fn tree_fault(
     for (k, line) in lines.iter().enumerate() {
         match pass_line(problem, &mut path, goes_on, line)? {
             Ok(next) => goes_on = next,
-            Err(reason) => return Ok(Some(Fault::new(after(number, k)?, reason))),
+            Err(reason) => return Ok(Some(Fault::new(lines_after(number, k)?, reason))),
         }
     }
     if !goes_on {
         return Ok(None);
     }
-    Ok(Some(Fault::new(after(number, lines.len())?, NO_NEXT_LINE)))
+    Ok(Some(Fault::new(lines_after(number, lines.len())?, NO_NEXT_LINE)))
 }
 
 /// Passes a line, and moves the path to the next one. Returns whether the tree goes on, or the reason why the line is refused.

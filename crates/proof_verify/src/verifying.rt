@@ -19,10 +19,10 @@ ghost use Rattle.define_proofs.specs.ProofText.{IsLotteryProof};
 ghost use Rattle.proof_verify.specs.Kept.{AreConstraintsOf};
 
 use crate::constraints::Constraints;
-use crate::first_lines::{after, bundle_line_count, pool_line_count};
 use crate::leaves::Problem;
 use crate::trees::{Fault, tree_fault};
 use check_reasons::{Course, Verdict, lottery_verdict};
+use line_counts::{bundle_line_count, lines_after, pool_line_count};
 use pool_model::{Answer, Pool, Stage, Volunteer};
 use proof_model::{Parts, Proof, TreeLine, TreeLines};
 use std::alloc::{AllocError, Global};
@@ -63,7 +63,7 @@ fn of_lottery(
     }
     let before = bundle_line_count(pool, answer)?;
     // The 4 further lines are the proof's first, the bundle's last, the one that begins the tree, and the tree's first.
-    let first = after(before, 4)?;
+    let first = lines_after(before, 4)?;
     let course = Course::begin(alloc, pool, answer)?;
     stages_verdict(alloc, course, answer.certificate().stages(), first, trees)
 }
@@ -94,7 +94,7 @@ fn stages_verdict(
         }
         constraints.pass(alloc, stage)?;
         // one line comes between two trees
-        number = after(after(number, lines.len())?, 1)?;
+        number = lines_after(lines_after(number, lines.len())?, 1)?;
         course.settle();
     }
     course.left(alloc)
@@ -160,7 +160,7 @@ fn of_no_panel(alloc: Global, pool: &Pool, lines: &[TreeLine]) -> Result<Verdict
     let stage = no_panel(alloc, pool)?;
     let before = pool_line_count(pool)?;
     // The 4 further lines are the proof's first, the line `none`, the one that begins the tree, and the tree's first.
-    let first = after(before, 4)?;
+    let first = lines_after(before, 4)?;
     let problem = Problem::new(constraints.rows(), &stage);
     match tree_fault(alloc, &problem, pool, first, lines)? {
         Some(fault) => refused_line(alloc, 0, &fault),

@@ -24,4 +24,4 @@ returns-in-Ok-NoPanel g c =
 pub returns : goal.returns
 returns g c =
     IfOk-weaker c.stop_answer.result _ _
-    (λ answer tells. legs_stop_is_right c.args.limits c.args.pool.now c.in-Err.stop c.in-Err.ensures.run (saying answer) tells) c.stop_answer.ensures
+    (λ answer tells. legs_stop_is_right c.args.limits c.args.pool.now c.in-Err.stop c.in-Err.ensures.run c.in-Err.ensures.spent (saying answer) tells) c.stop_answer.ensures

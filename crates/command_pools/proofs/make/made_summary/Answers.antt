@@ -53,5 +53,5 @@ returns g c =
     let made = c.args.made.now in
     let same = c.in_ok-pool.ensures ∙ ap (made_pool made.seed) c.number.ensures.value in
     IfOk-weaker c.stop_answer.result _ _
-    (λ answer tells. made_stop_is_right made.seed made.volunteers made.limits pool same c.in-Err.stop c.in-Err.ensures.run (saying answer) tells)
+    (λ answer tells. made_stop_is_right made.seed made.volunteers made.limits pool same c.in-Err.stop c.in-Err.ensures.run c.in-Err.ensures.spent (saying answer) tells)
     c.stop_answer.ensures

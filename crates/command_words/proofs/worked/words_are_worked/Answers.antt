@@ -62,7 +62,7 @@ returns-clause-lottery c = record { defaults = refl; least = refl; most = refl; 
 
 pub returns-clause-legs : goal.returns-clause-legs
 unfolding given_in command_table proof_commands draw_commands office_commands run_commands clap_on_literals
-returns-clause-legs c = record { defaults = refl; most = refl; more_bits = refl; share = refl }
+returns-clause-legs c = record { defaults = refl; least = refl; most = refl; no_bits = refl; more_bits = refl; more_pivots = refl; more_nodes = refl; no_workers = refl; more_workers = refl; share = refl }
 
 pub returns-clause-make : goal.returns-clause-make
 unfolding given_in command_table proof_commands draw_commands office_commands run_commands clap_on_literals

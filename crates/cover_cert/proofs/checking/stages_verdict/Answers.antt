@@ -39,7 +39,7 @@ loop-k-preserved g c =
     let passes : new ≡ record course { earlier = stage ∷ earlier; later = drop (k + 1) stages } = c.settle.ensures ∙ ap (passed course) later in
     let now_earlier : new.earlier ≡ stage ∷ earlier = ap (λ (it : Course). it.earlier) passes in
     let many = ap (λ (those : List FrontLine). length those) c.lines-lines.ensures in
-    let counted : next ≡ number + length lines + 1 = let first = c.in_ok-after.ensures in let second = c.in_ok-number.ensures in omega (arith, first, second, many) in
+    let counted : next ≡ number + length lines + 1 = let first = c.in_ok-lines_after.ensures in let second = c.in_ok-number.ensures in omega (arith, first, second, many) in
     record {
       pool = ap (λ (it : Course). it.pool) passes ∙ c.loop-k.invariant.pool;
       lottery = ap (λ (it : Course). it.lottery) passes ∙ c.loop-k.invariant.lottery;
@@ -64,8 +64,8 @@ returns-then-not-is_valid-clause-steps g c =
     let has_tree : k < length trees = omega (arith, c.requires.one_each) in
     omega (arith, c.stage_verdict.ensures.steps, c.loop-k.invariant.few, lines_within trees k lines has_tree c.index-trees-k.is, ap (λ (those : List FrontLine). length those) c.lines-lines.ensures)
 
-pub returns-in_err-after-clause-steps : goal.returns-in_err-after-clause-steps
-returns-in_err-after-clause-steps g c =
+pub returns-in_err-lines_after-clause-steps : goal.returns-in_err-lines_after-clause-steps
+returns-in_err-lines_after-clause-steps g c =
     let trees = c.args.trees.now in let k = c.loop-k.k in let lines = c.index-trees-k.result in
     let has_tree : k < length trees = omega (arith, c.requires.one_each) in
     omega (arith, c.stage_verdict.ensures.steps, c.loop-k.invariant.few, lines_within trees k lines has_tree c.index-trees-k.is, ap (λ (those : List FrontLine). length those) c.lines-lines.ensures)

@@ -58,7 +58,7 @@ loop-k-preserved c =
     let passes : new ≡ record course { earlier = stage ∷ earlier; later = drop (k + 1) stages } = c.settle.ensures ∙ ap (passed course) later in
     let now_earlier : new.earlier ≡ stage ∷ earlier = ap (λ (it : Course). it.earlier) passes in
     let counted : next ≡ number + length lines + 1 =
-    let first = c.in_ok-after.ensures in let second = c.in_ok-number.ensures in let many = ap (λ (those : List TreeLine). length those) c.lines-lines.ensures in omega (arith, first, second, many) in
+    let first = c.in_ok-lines_after.ensures in let second = c.in_ok-number.ensures in let many = ap (λ (those : List TreeLine). length those) c.lines-lines.ensures in omega (arith, first, second, many) in
     record {
       pool = ap (λ (it : Course). it.pool) passes ∙ c.loop-k.invariant.pool;
       lottery = ap (λ (it : Course). it.lottery) passes ∙ c.loop-k.invariant.lottery;

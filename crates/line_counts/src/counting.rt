@@ -1,5 +1,4 @@
-//! How many lines the text of a cover has before the first line of its first tree. They are counted from the values, without writing the
-//! text. `checking` and `trees` use this to name lines in verdicts.
+//! The counts, part by part: categories with their values, volunteers, households, standings, rows and stages.
 
 ghost use Rattle.std.specs.Prelude.{◌≡◌, ◌+◌, not, count_by, IfOk, is_some, length};
 ghost use Rattle.std.specs.List.{flat_map};
@@ -10,8 +9,9 @@ ghost use Rattle.define_bundles.specs.PoolText.{category_lines};
 use pool_model::{Answer, Category, Pool, Standing, Volunteer};
 use std::alloc::AllocError;
 
-/// Returns `number + count`, or out of memory if the sum does not fit a `usize`: a text with that many lines would not fit memory.
-pub(crate) fn after(number: usize, count: usize) -> Result<usize, AllocError>
+/// Returns the number of the line that comes `count` lines after line `number`: their sum. It is out of memory if the sum does not fit a
+/// `usize`, since a text with that many lines would not fit memory.
+pub fn lines_after(number: usize, count: usize) -> Result<usize, AllocError>
     ensures { IfOk result (λ sum. sum ≡ number + count) }
 {
     match number.checked_add(count) {
@@ -20,28 +20,28 @@ pub(crate) fn after(number: usize, count: usize) -> Result<usize, AllocError>
     }
 }
 
-/// Returns how many lines a bundle's text has before the last one.
-pub(crate) fn bundle_line_count(pool: &Pool, answer: &Answer) -> Result<usize, AllocError>
+/// Returns how many lines a bundle's text has before the last one, or out of memory if the count does not fit a `usize`.
+pub fn bundle_line_count(pool: &Pool, answer: &Answer) -> Result<usize, AllocError>
     ensures { IfOk result (λ count. count ≡ length (lines_before_done pool.now answer.now)) }
 {
     let rows = answer.lottery().rows().len();
     let stages = answer.certificate().stages().len();
     let before = pool_line_count(pool)?;
     // The 2 further lines are the bundle's first, and the line of the total.
-    let with_total = after(before, 2)?;
-    after(after(with_total, rows)?, stages)
+    let with_total = lines_after(before, 2)?;
+    lines_after(lines_after(with_total, rows)?, stages)
 }
 
-/// Returns how many lines a pool's text has.
-pub(crate) fn pool_line_count(pool: &Pool) -> Result<usize, AllocError>
+/// Returns how many lines a pool's text has, or out of memory if the count does not fit a `usize`.
+pub fn pool_line_count(pool: &Pool) -> Result<usize, AllocError>
     ensures { IfOk result (λ count. count ≡ length (pool_lines pool.now)) }
 {
     let volunteers = pool.volunteers();
     let categories = category_line_count(pool.categories())?;
     // The 3 further lines are the pool's first two, and its last.
-    let with_volunteers = after(after(categories, 3)?, volunteers.len())?;
-    let with_households = after(with_volunteers, household_count(volunteers))?;
-    after(with_households, decided_count(volunteers))
+    let with_volunteers = lines_after(lines_after(categories, 3)?, volunteers.len())?;
+    let with_households = lines_after(with_volunteers, household_count(volunteers))?;
+    lines_after(with_households, decided_count(volunteers))
 }
 
 /// Returns how many lines categories and their values have.
@@ -50,7 +50,7 @@ fn category_line_count(categories: &[Category]) -> Result<usize, AllocError>
 {
     let mut count = 0;
     for category in categories {
-        count = after(after(count, category.values().len())?, 1)?;
+        count = lines_after(lines_after(count, category.values().len())?, 1)?;
     }
     Ok(count)
 }
