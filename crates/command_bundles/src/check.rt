@@ -40,13 +40,13 @@ fn checked(alloc: Global, nodes: u64, bundle: &Bundle) -> Result<Answer, AllocEr
     ensures { IfOk result (λ answer. IsRight (CheckMeans nodes bundle.now) (saying answer)) }
 {
     match check(alloc, bundle, nodes) {
-        Ok(verdict) => told(alloc, &verdict),
+        Ok(verdict) => verdict_answer(alloc, &verdict),
         Err(stop) => stopped(alloc, nodes, &stop),
     }
 }
 
-/// Returns the answer for a verdict.
-fn told(alloc: Global, verdict: &Verdict) -> Result<Answer, AllocError>
+/// Returns the answer for a verdict: `valid`, or the line of a refusal. `check-cover` gives it too.
+pub fn verdict_answer(alloc: Global, verdict: &Verdict) -> Result<Answer, AllocError>
     ensures { IfOk result (λ answer. TellsVerdict verdict.now (saying answer)) }
 {
     match verdict.refusal() {

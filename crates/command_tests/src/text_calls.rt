@@ -3,9 +3,9 @@
 use crate::page_texts::{MARKED_BUNDLE, MARKED_PAGE};
 use crate::texts::{
     COUPLE_PROOF, CROSSED, DOUBLED_PROOF, EITHER_BUNDLE, FIVE_BUNDLE, FOUR, FOUR_BUNDLE,
-    FOUR_BUNDLE_PROVED, FOUR_PROOF, FOUR_PROVED, LATER, MEN_LEFT, MORE_BUNDLE, NOBODY, ONE_WOMAN,
-    ONE_WOMAN_BUNDLE, PASSED_CAP, SHORT, SHORT_PROVED, STRANGER_BUNDLE, SURE_BUNDLE,
-    TOTAL_OF_THREE, WIDE_BUNDLE, WRONG_TOTAL,
+    FOUR_BUNDLE_PROVED, FOUR_COVER, FOUR_PROOF, FOUR_PROVED, LATER, MEN_LEFT, MORE_BUNDLE, NOBODY,
+    ONE_WOMAN, ONE_WOMAN_BUNDLE, OPEN_COVER, PASSED_CAP, SHORT, SHORT_COVER, SHORT_PROVED,
+    STRANGER_BUNDLE, SURE_BUNDLE, TOTAL_OF_THREE, WIDE_BUNDLE, WRONG_COVER, WRONG_TOTAL,
 };
 use command_shell::{Answer, Status};
 use command_texts::{answer_text, text_asked};
@@ -52,7 +52,7 @@ const USAGE_ROWS: &[Row] = &[
         FOUR,
         2,
         b"",
-        b"error: 'sortition' requires a subcommand but one was not provided\n  [subcommands: prove, keep, verify, bundle, explain, why, loosen-by-proof, page, seal, dice, tickets, draw, chances, short, short-draw, import-charter, import-rules, import-register, solve, drop, next-round, show, report, pool, serve, panel, loosen, lottery, legs, check, make, help]\n\nUsage: sortition <COMMAND>\n\nFor more information, try '--help'.\n",
+        b"error: 'sortition' requires a subcommand but one was not provided\n  [subcommands: prove, keep, verify, bundle, explain, why, loosen-by-proof, page, seal, dice, tickets, draw, chances, short, short-draw, import-charter, import-rules, import-register, solve, drop, next-round, show, report, pool, serve, panel, loosen, lottery, legs, check, check-cover, make, help]\n\nUsage: sortition <COMMAND>\n\nFor more information, try '--help'.\n",
     ),
     (
         &["panel", "--nodes", "x"],
@@ -301,7 +301,7 @@ const BUNDLE_ROWS: &[Row] = &[
     ),
 ];
 
-/// Calls of `dice`, `tickets`, `chances` and `check`.
+/// Calls of `dice`, `tickets`, `chances`, `check` and `check-cover`.
 const CHECK_ROWS: &[Row] = &[
     (
         &["dice"],
@@ -341,6 +341,23 @@ const CHECK_ROWS: &[Row] = &[
     (&["check"], FOUR, 3, b"", b"input\t1\t13\n"),
     (&["check"], MORE_BUNDLE, 3, b"", b"input\t18\t17\n"),
     (&["check"], STRANGER_BUNDLE, 3, b"", b"input\t14\t15\n"),
+    (&["check-cover"], FOUR_COVER, 0, b"valid\n", b""),
+    (
+        &["check-cover"],
+        SHORT_COVER,
+        11,
+        b"refused\t1\t11\t22\n",
+        b"",
+    ),
+    (
+        &["check-cover"],
+        WRONG_COVER,
+        11,
+        b"refused\t1\t12\t21\n",
+        b"",
+    ),
+    (&["check-cover"], OPEN_COVER, 3, b"", b"input\t27\t20\n"),
+    (&["check-cover"], FOUR_BUNDLE, 3, b"", b"input\t1\t18\n"),
 ];
 
 /// Calls of `verify`, `bundle`, `why`, `loosen`, `loosen-by-proof` and `page`.
@@ -515,6 +532,11 @@ const CUT: &[(&[&str], &[u8], &[(usize, u8)])] = &[
         &["verify"],
         FOUR_PROOF,
         &[(0, 23), (2, 12), (12, 17), (18, 23)],
+    ),
+    (
+        &["check-cover"],
+        FOUR_COVER,
+        &[(0, 20), (1, 17), (2, 12), (12, 17), (18, 20)],
     ),
 ];
 

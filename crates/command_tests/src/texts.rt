@@ -55,6 +55,22 @@ pub(crate) const NOBODY: &[u8] = b"pool\t1\nsize\t1\nend\n";
 pub(crate) const FOUR_BUNDLE: &[u8] =
     b"bundle\t1\npool\t1\nsize\t2\ncategory\tgender\nvalue\tfemale\t1\t1\nvalue\tmale\t1\t1\nvolunteer\ta\tfemale\nvolunteer\tb\tfemale\nvolunteer\tc\tmale\nvolunteer\td\tmale\nend\ntotal\t2\npanel\t1\t0\t2\npanel\t1\t1\t3\nstage\t1\t1\t1\t0\t0\nstage\t0\t-1\t-1\t1\t1\ndone\n";
 
+/// `FOUR_BUNDLE` with a cover of its two stages.
+pub(crate) const FOUR_COVER: &[u8] =
+    b"cover\t1\nbundle\t1\npool\t1\nsize\t2\ncategory\tgender\nvalue\tfemale\t1\t1\nvalue\tmale\t1\t1\nvolunteer\ta\tfemale\nvolunteer\tb\tfemale\nvolunteer\tc\tmale\nvolunteer\td\tmale\nend\ntotal\t2\npanel\t1\t0\t2\npanel\t1\t1\t3\nstage\t1\t1\t1\t0\t0\nstage\t0\t-1\t-1\t1\t1\ndone\ntree\t1\nfront\tvalue\t1\t2\nfront\tcap\t0\t1\nfront\tvalue\t1\t0\ntree\t2\nfront\tvalue\t1\t2\nfront\tcap\t0\t1\nfront\tvalue\t1\t0\nclose\n";
+
+/// `FOUR_COVER` without the last front of its first tree.
+pub(crate) const SHORT_COVER: &[u8] =
+    b"cover\t1\nbundle\t1\npool\t1\nsize\t2\ncategory\tgender\nvalue\tfemale\t1\t1\nvalue\tmale\t1\t1\nvolunteer\ta\tfemale\nvolunteer\tb\tfemale\nvolunteer\tc\tmale\nvolunteer\td\tmale\nend\ntotal\t2\npanel\t1\t0\t2\npanel\t1\t1\t3\nstage\t1\t1\t1\t0\t0\nstage\t0\t-1\t-1\t1\t1\ndone\ntree\t1\nfront\tvalue\t1\t2\nfront\tcap\t0\t1\ntree\t2\nfront\tvalue\t1\t2\nfront\tcap\t0\t1\nfront\tvalue\t1\t0\nclose\n";
+
+/// `FOUR_COVER` with the size as the cause of a front that reaches it.
+pub(crate) const WRONG_COVER: &[u8] =
+    b"cover\t1\nbundle\t1\npool\t1\nsize\t2\ncategory\tgender\nvalue\tfemale\t1\t1\nvalue\tmale\t1\t1\nvolunteer\ta\tfemale\nvolunteer\tb\tfemale\nvolunteer\tc\tmale\nvolunteer\td\tmale\nend\ntotal\t2\npanel\t1\t0\t2\npanel\t1\t1\t3\nstage\t1\t1\t1\t0\t0\nstage\t0\t-1\t-1\t1\t1\ndone\ntree\t1\nfront\tvalue\t1\t2\nfront\tsize\t0\t1\nfront\tvalue\t1\t0\ntree\t2\nfront\tvalue\t1\t2\nfront\tcap\t0\t1\nfront\tvalue\t1\t0\nclose\n";
+
+/// `FOUR_COVER` without its last line.
+pub(crate) const OPEN_COVER: &[u8] =
+    b"cover\t1\nbundle\t1\npool\t1\nsize\t2\ncategory\tgender\nvalue\tfemale\t1\t1\nvalue\tmale\t1\t1\nvolunteer\ta\tfemale\nvolunteer\tb\tfemale\nvolunteer\tc\tmale\nvolunteer\td\tmale\nend\ntotal\t2\npanel\t1\t0\t2\npanel\t1\t1\t3\nstage\t1\t1\t1\t0\t0\nstage\t0\t-1\t-1\t1\t1\ndone\ntree\t1\nfront\tvalue\t1\t2\nfront\tcap\t0\t1\nfront\tvalue\t1\t0\ntree\t2\nfront\tvalue\t1\t2\nfront\tcap\t0\t1\nfront\tvalue\t1\t0\n";
+
 /// `FOUR_BUNDLE` with another first stage. The quota panel of a and d weighs more than its cap.
 pub(crate) const PASSED_CAP: &[u8] =
     b"bundle\t1\npool\t1\nsize\t2\ncategory\tgender\nvalue\tfemale\t1\t1\nvalue\tmale\t1\t1\nvolunteer\ta\tfemale\nvolunteer\tb\tfemale\nvolunteer\tc\tmale\nvolunteer\td\tmale\nend\ntotal\t2\npanel\t1\t0\t2\npanel\t1\t1\t3\nstage\t1\t1\t0\t0\t1\nstage\t0\t-1\t-1\t1\t1\ndone\n";

@@ -17,6 +17,7 @@ ghost use Rattle.command_texts.specs.TextAsked.{
 
 use crate::commands::TextCommand;
 use command_bundles::{Check, Seal};
+use command_covers::CheckCover;
 use command_explain::Explain;
 use command_loosen::{Loosen, LoosenByProof};
 use command_page::Page;
@@ -62,6 +63,7 @@ pub fn text_asked<'a>(given: &Given<'a>) -> Option<TextCommand<'a>>
             let nodes = given.number("nodes")?;
             Some(TextCommand::Check(Check { nodes }))
         }
+        CommandName::CheckCover => Some(TextCommand::CheckCover(CheckCover)),
         _ => None,
     }
 }

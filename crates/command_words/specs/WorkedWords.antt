@@ -37,6 +37,7 @@ pub record ProveGives : Type 0 where
 
 pub record PlainGive : Type 0 where
   pub verify : Give (codes "verify" ∷ []) name.Verify []
+  pub check_cover : Give (codes "check-cover" ∷ []) name.CheckCover []
   pub bundle : Give (codes "bundle" ∷ []) name.Bundle []
   pub dice : Give (codes "dice" ∷ []) name.Dice []
   pub tickets : Give (codes "tickets" ∷ []) name.Tickets []

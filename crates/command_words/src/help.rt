@@ -33,7 +33,8 @@ To check what was published:
   bundle           Prints the bundle of a proof
   chances          Prints each volunteer's chance in a bundle
   page             Prints a page to look at, with pictures of the lottery, also of a round in a store
-  check            Checks the certificate of a bundle
+  check            Checks the certificate of a bundle, by a search
+  check-cover      Checks a cover, front by front, without a search
   explain          Says in words what a text holds, or what is wrong with a file
 
 If no panel meets the quotas:

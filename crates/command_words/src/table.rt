@@ -346,9 +346,16 @@ const RUN_COMMANDS: &[TableCommand] = &[
     CommandWords {
         command: CommandName::Check,
         name: "check",
-        help: "Checks the certificate of the bundle on standard input",
+        help: "Checks the certificate of the bundle on standard input, by a search",
         example: "Example: sortition check < city.bundle",
         options: &[NODES],
+    },
+    CommandWords {
+        command: CommandName::CheckCover,
+        name: "check-cover",
+        help: "Checks the cover on standard input, front by front, without a search",
+        example: "Example: sortition check-cover < city.cover",
+        options: &[],
     },
     CommandWords {
         command: CommandName::Make,

@@ -43,6 +43,8 @@ pub enum CommandName {
     Legs,
     /// The verdict on the certificate of a bundle.
     Check,
+    /// The verdict on a cover.
+    CheckCover,
     /// The summary of the run over a made pool.
     Make,
     /// An open round of a store, to be solved by the stated run.

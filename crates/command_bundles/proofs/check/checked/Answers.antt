@@ -6,9 +6,9 @@ use Rattle.command_bundles.proofs.check.checked.Goals as goal
 pub returns-in-Ok : goal.returns-in-Ok
 returns-in-Ok c =
     let says = c.in-Ok.ensures in
-    IfOk-weaker c.told.result _ _
+    IfOk-weaker c.verdict_answer.result _ _
     (λ answer tells. verdict_is_told c.args.nodes c.args.bundle.now c.in-Ok.verdict (saying answer) says.answer says.valid says.greatest says.refused tells)
-    c.told.ensures
+    c.verdict_answer.ensures
 
 pub returns-in-Err : goal.returns-in-Err
 returns-in-Err c =

@@ -14,7 +14,7 @@ returns-clause-keep c = record { rounds = record { defaults = refl; least = refl
 
 pub returns-clause-plain : goal.returns-clause-plain
 unfolding given_in command_table proof_commands draw_commands office_commands run_commands clap_on_literals
-returns-clause-plain c = record { verify = refl; bundle = refl; dice = refl; tickets = refl; chances = refl; explain = refl }
+returns-clause-plain c = record { verify = refl; check_cover = refl; bundle = refl; dice = refl; tickets = refl; chances = refl; explain = refl }
 
 pub returns-clause-seal : goal.returns-clause-seal
 unfolding given_in command_table proof_commands draw_commands office_commands run_commands clap_on_literals

@@ -1,0 +1,2 @@
+pub mod CoverFormat
+pub mod CheckCover
