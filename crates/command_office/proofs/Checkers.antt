@@ -1,4 +1,4 @@
--- What `check` and `verify` answer about a text that the source told.
+-- What `check`, `verify` and `check-cover` answer about a text that the source told.
 use Rattle.std.proofs.Common.{◌≡◌, ◌∙◌, ◌+◌, ◌≤◌, ℕ, List, length, Option, Some, None, Ok, ap, subst, arith}
 use Rattle.std.specs.Prelude.{◌≢◌, ◌↔◌}
 use Rattle.std.proofs.lemmas.List.{length-append}
@@ -6,6 +6,12 @@ use Rattle.define_proofs.specs.ProofVerdict.{Proof, verdict}
 use Rattle.define_bundles.specs.BundleText.{Bundle, IsBundle, bundle_spelling}
 use Rattle.define_bundles.proofs.ReadAgain.{spelled_is_read as bundle_is_read}
 use Rattle.define_checks.specs.Reasons.{Valid}
+use Rattle.define_cover_texts.specs.CoverText.{IsCover, cover_spelling}
+use Rattle.define_cover_texts.proofs.ReadAgain.{spelled_is_read as cover_is_read}
+use Rattle.define_covers.specs.Covers.{Cover}
+use Rattle.define_covers.specs.CoverVerdict.{verdict as cover_verdict}
+use Rattle.define_leximin.proofs.Leximin.{leximin}
+use Rattle.define_leximin.specs.Leximin.{IsLeximin}
 use Rattle.outside.specs.Content.{LosesMore, ReadsAll}
 use Rattle.define_pools.specs.Certificate.{Certifies}
 use Rattle.define_proofs.specs.ProofText.{IsProof, proof_spelling}
@@ -18,6 +24,8 @@ use Rattle.command_shell.specs.Lines.{input_limit}
 use Rattle.command_shell.specs.Outcomes.{Answered, Ends, IsAboutSource, IsTold, ReadFault, TooLong, WantOfMemory, WriteFault}
 use Rattle.command_shell.specs.Subjects.{About, AboutFault, AboutValue, Format}
 use Rattle.command_shell.specs.Told.{Told}
+use Rattle.command_covers.specs.CheckCover.{CheckCoverMeans}
+use Rattle.command_covers.specs.CoverFormat.{cover_format}
 use Rattle.command_meanings.specs.Check.{CheckMeans}
 use Rattle.command_meanings.specs.Verify.{VerifyMeans}
 use Rattle.command_office.specs.About.{ToldText}
@@ -90,3 +98,19 @@ pub verify_is_exact : (told : Told) → Answers proof_format VerifyMeans told �
 verify_is_exact told outcome proof is from n8 n12 =
     let it = due proof_format VerifyMeans told proof (proof_spelling proof) (proof_is_read proof is) from n8 n12 outcome in
     proved told.status proof it.answer it.right it.status
+
+-- the cover is valid exactly if the status of `check-cover` is 0, and then its lottery is leximin greatest
+abbrev pub IsCoverExact : ℕ → Cover → Type 0
+IsCoverExact status cover = (status ≡ 0 ↔ cover_verdict cover ≡ Valid) × (status ≡ 0 → IsLeximin cover.bundle.pool cover.bundle.answer.lottery)
+
+covered : (status : ℕ) (cover : Cover) (answer : Saying) → IsRight (CheckCoverMeans cover) answer → status ≡ status_of answer → IsCoverExact status cover
+covered status cover (Prints Done text) right is = ((λ s. right.valid, λ holds. is), λ s. leximin cover.bundle.pool cover.bundle.answer.lottery right.greatest.greatest)
+covered status cover (Prints Rejected text) right is = ((λ s. absurd (cc (is, s)), λ holds. absurd (cc (right.refuses, holds))), λ s. absurd (cc (is, s)))
+covered status cover (Stops Input text) right is = absurd right
+covered status cover answer right is = absurd right
+
+pub cover_is_exact : (told : Told) → Answers cover_format CheckCoverMeans told → (cover : Cover) → IsCover cover → ToldText told.source (cover_spelling cover) →
+    told.status ≢ 8 → told.status ≢ 12 → IsCoverExact told.status cover
+cover_is_exact told outcome cover is from n8 n12 =
+    let it = due cover_format CheckCoverMeans told cover (cover_spelling cover) (cover_is_read cover is) from n8 n12 outcome in
+    covered told.status cover it.answer it.right it.status

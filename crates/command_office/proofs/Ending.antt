@@ -13,7 +13,8 @@ use Rattle.command_stores.specs.StoreTold.{IsLeftAlone, KeepsTables, StoreTold}
 use Rattle.command_office.specs.declared.asked.Asked.{Asked}
 use Rattle.command_office.specs.declared.asked.Asked.TheVariants as asks
 use Rattle.command_office.specs.Office.{AnswersRightly}
-use Rattle.command_office.specs.Headline.{Answered, CutOff, Ends, IsRightAnswer, KeeperFault, ReadFault, TooLong, Usage, WantOfMemory, uses_store}
+use Rattle.command_office.specs.About.{uses_store}
+use Rattle.command_office.specs.Headline.{Answered, CutOff, Ends, IsRightAnswer, KeeperFault, ReadFault, TooLong, Usage, WantOfMemory}
 use Rattle.command_office.proofs.Quiet.{import_quiet, round_quiet, step_quiet, unchanged}
 use Rattle.command_office.proofs.Reading.{its_status}
 

@@ -2,14 +2,17 @@
 -- law `headline` (src/lib.rt) derives it from the exact contract, `OfficeIsRight`. `OfSeveralCalls`, at the end, is a law there too.
 --
 -- One step behind this page: pools, quota panels, lotteries and certificates (define_pools); what leximin greatest says part by part
--- (define_leximin); when a proof is valid (define_proofs); the stated run (define_runs); what the words ask for (`asked`); how an answer is
+-- (define_leximin); when a proof or a cover is valid (define_proofs, define_covers); the stated run (define_runs); what the words ask for (`asked`); how an answer is
 -- told (`Outcomes`); and each command's meaning, a record with a field for each status (`TextMeans`, `LotteryMeans`, `MakeMeans`, `StepMeans`).
 -- Only whole weights are compared. Of a terminal, a file, a pipe or a store on disk, which don't tell theirs, it holds of any content.
-use Rattle.std.specs.Prelude.{◌≡◌, ◌≢◌, ◌↔◌, ◌⊎◌, ◌≤◌, ℕ, Bool, true, false, IsTrue, IsFalse, List, [], Option, Some, None, Ok, option_and_then, option_map, ⊤}
+use Rattle.std.specs.Prelude.{◌≡◌, ◌≢◌, ◌↔◌, ◌⊎◌, ◌≤◌, ℕ, IsTrue, IsFalse, List, [], Option, Some, None, Ok, option_and_then, option_map, ⊤}
 use Rattle.define_proofs.specs.ProofVerdict.{OfLottery, Proof, verdict}
 use Rattle.define_proofs.specs.TreeLines.{TreeLine}
 use Rattle.define_bundles.specs.BundleText.{Bundle, IsBundle, bundle_spelling, bundle_text}
 use Rattle.define_checks.specs.Reasons.{Valid}
+use Rattle.define_cover_texts.specs.CoverText.{IsCover, cover_spelling}
+use Rattle.define_covers.specs.Covers.{Cover}
+use Rattle.define_covers.specs.CoverVerdict.{verdict as cover_verdict}
 use Rattle.define_draws.specs.Draw.{Drawn, draw}
 use Rattle.define_draws.specs.Seal.{is_seal}
 use Rattle.define_leximin.specs.Leximin.{IsLeximin}
@@ -33,6 +36,7 @@ use Rattle.command_shell.specs.Lines.{keeper_fault_line, want_of_memory_line}
 use Rattle.command_shell.specs.Outcomes.{IsAboutSource, IsCutOff, IsInput, IsReadFault, IsStopped, IsTold, IsTooLong}
 use Rattle.command_shell.specs.Told.{Gains, HasFaulted}
 use Rattle.command_bundles.specs.declared.check.Check.{Check}
+use Rattle.command_covers.specs.declared.check_cover.CheckCover.{CheckCover}
 use Rattle.command_meanings.specs.Legs.{LegsMeans}
 use Rattle.command_meanings.specs.Lottery.{LotteryMeans}
 use Rattle.command_meanings.specs.Make.{MakeMeans, sizes_of}
@@ -55,7 +59,7 @@ use Rattle.command_office.specs.Steps.{step_command}
 use Rattle.command_office.specs.declared.asked.Asked.{Asked}
 use Rattle.command_office.specs.declared.asked.Asked.TheVariants as asks
 use Rattle.command_office.specs.declared.steps.Step.TheVariants as steps
-use Rattle.command_office.specs.About.{HeldBundle, HeldPool, IsItsPool, IsRoundPool, ToldPool, ToldText}
+use Rattle.command_office.specs.About.{HeldBundle, HeldPool, IsItsPool, IsRoundPool, ToldPool, ToldText, uses_store}
 use Rattle.command_office.specs.Again.{RepeatsChangeNothing}
 use Rattle.command_office.specs.Isolation.{TellsNothingOfOthers}
 use Rattle.command_office.specs.Records.{CallsAreRecorded}
@@ -131,8 +135,6 @@ nodes_of (Some (asks.Make it)) = Some it.limits.nodes
 nodes_of (Some (asks.Step store (steps.Solve round limits workers))) = Some limits.nodes
 nodes_of other = None
 
--- ---- a draw
-
 -- `seal`, its capitals made small, is the seal of the bundle's text, and the digits of dice draw a panel of this lottery
 pub record IsSealedDraw (seal digits : List ℕ) (bundle : Bundle) (lottery : Lottery) : Type 0 where
   pub sealed : IsTrue (is_seal (bundle_seal bundle) seal)
@@ -150,13 +152,6 @@ DrawsSealed other told = ⊤
 
 -- ---- the promises of a call whose words ask for `it`, or for nothing
 
-abbrev pub uses_store : Option Asked → Bool
-uses_store (Some (asks.Step store it)) = true
-uses_store (Some (asks.StoreText store it)) = true
-uses_store (Some (asks.ProveRound store it)) = true
-uses_store (Some (asks.Import store it)) = true
-uses_store other = false
-
 pub record Keeps (it : Option Asked) (told : StoreTold) : Type 0 where
   pub ends : Ends it told
   -- status 0 of a command that answers a lottery: the lottery is leximin greatest
@@ -172,6 +167,9 @@ pub record Keeps (it : Option Asked) (told : StoreTold) : Type 0 where
   -- if the text of a proof was told, `verify` has status 0 exactly if the proof is valid
   pub proof : (verify : Verify) → it ≡ Some (asks.Text (texts.Verify verify)) → (proof : Proof) → IsProof proof → ToldText told.call.source (proof_spelling proof) →
       told.call.status ≢ 8 → told.call.status ≢ 12 → told.call.status ≡ 0 ↔ verdict proof ≡ Valid
+  -- if the text of a cover was told, `check-cover` has status 0 exactly if the cover is valid, and then its lottery is leximin greatest
+  pub cover : (check : CheckCover) → it ≡ Some (asks.Text (texts.CheckCover check)) → (cover : Cover) → IsCover cover → ToldText told.call.source (cover_spelling cover) → told.call.status ≢ 8 →
+      told.call.status ≢ 12 → (told.call.status ≡ 0 ↔ cover_verdict cover ≡ Valid) × (told.call.status ≡ 0 → IsLeximin cover.bundle.pool cover.bundle.answer.lottery)
   -- a draw is of the bundle whose seal was given
   pub draw : told.call.status ≡ 0 → DrawsSealed it told
   -- unless the status is 0 or 8, the tables of the store are as before; a command without a store leaves the keeper alone at every status
