@@ -333,6 +333,7 @@ module _ (told : StoreTold) where
   none (Some (asks.Text (texts.ShortDraw tickets seal digits))) text right = absurd ((printed_about _ _ told NonePrinted text right).means.right)
   none (Some (asks.Text (texts.Why it))) text right = absurd ((printed_about _ _ told NonePrinted text right).means.right)
   none (Some (asks.Text (texts.Check it))) text right = absurd ((printed_about _ _ told NonePrinted text right).means.right)
+  none (Some (asks.Text (texts.CheckCover it))) text right = absurd ((printed_about _ _ told NonePrinted text right).means.right)
   none (Some (asks.Text (texts.Question it))) text right = absurd ((printed_about _ _ told NonePrinted text right).means.right)
   none (Some (asks.Step store (steps.Solve round limits workers))) text right =
       let (ran, empty) = solve_none right.tables round limits (change_of right.means.outcome) (comes_none (Solve round limits) right.tables right.change text right.means) in

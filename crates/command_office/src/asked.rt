@@ -159,7 +159,8 @@ fn asked_by<'a>(given: &Given<'a>) -> Option<Asked<'a>>
         | CommandName::Loosen
         | CommandName::Why
         | CommandName::LoosenByProof
-        | CommandName::Check => text_command_of(given),
+        | CommandName::Check
+        | CommandName::CheckCover => text_command_of(given),
     }
 }
 
