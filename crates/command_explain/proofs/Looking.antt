@@ -11,9 +11,7 @@ pub decided : {Value : Type 0} (said : Result Value Fault) (Is Spelled : Value �
 decided (Ok value) Is Spelled told = (value, told)
 decided (Err fault) Is Spelled told = λ text. told text.0 text.1.0 text.1.1
 
-pub decided_by_word : (bundle proof : Bool) (as_bundle as_proof as_pool : AnyText) (Bundle Proof Pool : Type 0) →
-    Decides as_bundle Bundle → Decides as_proof Proof → Decides as_pool Pool →
-    Decides (if bundle then as_bundle else (if proof then as_proof else as_pool)) (MatchBool bundle Bundle (MatchBool proof Proof Pool))
-decided_by_word true proof as_bundle as_proof as_pool Bundle Proof Pool one two three = one
-decided_by_word false true as_bundle as_proof as_pool Bundle Proof Pool one two three = two
-decided_by_word false false as_bundle as_proof as_pool Bundle Proof Pool one two three = three
+pub decided_by_word : (word : Bool) (as_this as_other : AnyText) (This Other : Type 0) → Decides as_this This → Decides as_other Other →
+    Decides (if word then as_this else as_other) (MatchBool word This Other)
+decided_by_word true as_this as_other This Other one two = one
+decided_by_word false as_this as_other This Other one two = two

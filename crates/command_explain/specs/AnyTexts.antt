@@ -1,10 +1,13 @@
--- Whether bytes are the text of a pool, a bundle or a proof, and if they aren't, their first fault. The word that they begin with says how
--- they are read: as a bundle, as a proof, or else as a pool. Builds on the definitions of the texts.
+-- Whether bytes are the text of a pool, a bundle, a proof or a cover, and if they aren't, their first fault. The word that they begin with
+-- says how they are read: as a bundle, as a proof, as a cover, or else as a pool. Builds on the definitions of the texts.
 use Rattle.std.specs.Prelude.{◌≡◌, ℕ, Bool, List, take, codes, bytes_eq, if◌then◌else◌, Result, Ok, Err}
 use Rattle.std.specs.Bool.{MatchBool}
 use Rattle.define_proofs.specs.ProofVerdict.{Proof}
 use Rattle.define_bundles.specs.BundleReading.{read_bundle}
 use Rattle.define_bundles.specs.BundleText.{Bundle, IsBundle, bundle_spelling}
+use Rattle.define_cover_texts.specs.CoverReading.{read_cover}
+use Rattle.define_cover_texts.specs.CoverText.{IsCover, cover_spelling}
+use Rattle.define_covers.specs.Covers.{Cover}
 use Rattle.define_lines.specs.Lines.{Fault}
 use Rattle.define_bundles.specs.PoolReading.{read}
 use Rattle.define_bundles.specs.PoolText.{spelling}
@@ -19,6 +22,9 @@ use Rattle.command_explain.specs.declared.any_text.AnyText.TheVariants.{Right, F
 abbrev pub begins_as_proof : List ℕ → Bool
 begins_as_proof bytes = bytes_eq (codes "proof") (take 5 bytes)
 
+abbrev pub begins_as_cover : List ℕ → Bool
+begins_as_cover bytes = bytes_eq (codes "cover") (take 5 bytes)
+
 -- the result of reading bytes in one format: `Right` if they are read as a value, else `Faulty` with their first fault
 abbrev pub looked_as : {Value : Type 0} → Result Value Fault → AnyText
 looked_as (Ok value) = Right
@@ -28,7 +34,8 @@ looked_as (Err fault) = Faulty (record { line = fault.line; kind = fault.kind })
 abbrev pub looked_at : List ℕ → AnyText
 looked_at bytes =
     if begins_as_bundle bytes then looked_as (read_bundle bytes)
-    else (if begins_as_proof bytes then looked_as (read_proof bytes) else looked_as (read bytes))
+    else (if begins_as_proof bytes then looked_as (read_proof bytes)
+    else (if begins_as_cover bytes then looked_as (read_cover bytes) else looked_as (read bytes)))
 
 abbrev pub IsSomePool : List ℕ → Type 0
 IsSomePool bytes = (pool : Pool) × (IsPool pool × (bytes ≡ spelling pool))
@@ -39,10 +46,15 @@ IsSomeBundle bytes = (bundle : Bundle) × (IsBundle bundle × (bytes ≡ bundle_
 abbrev pub IsSomeProof : List ℕ → Type 0
 IsSomeProof bytes = (proof : Proof) × (IsProof proof × (bytes ≡ proof_spelling proof))
 
--- the bytes are a text: of a bundle if they begin with `bundle`, of a proof if they begin with `proof`, else of a pool
+abbrev pub IsSomeCover : List ℕ → Type 0
+IsSomeCover bytes = (cover : Cover) × (IsCover cover × (bytes ≡ cover_spelling cover))
+
+-- the bytes are a text: of a bundle if they begin with `bundle`, of a proof if they begin with `proof`, of a cover if they begin with
+-- `cover`, else of a pool
 abbrev pub IsText : List ℕ → Type 0
 IsText bytes =
-    MatchBool (begins_as_bundle bytes) (IsSomeBundle bytes) (MatchBool (begins_as_proof bytes) (IsSomeProof bytes) (IsSomePool bytes))
+    MatchBool (begins_as_bundle bytes) (IsSomeBundle bytes)
+    (MatchBool (begins_as_proof bytes) (IsSomeProof bytes) (MatchBool (begins_as_cover bytes) (IsSomeCover bytes) (IsSomePool bytes)))
 
 -- `Right` says that `Text` holds, and `Faulty` that it doesn't
 abbrev pub Decides : AnyText → Type 0 → Type 0

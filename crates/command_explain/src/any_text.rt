@@ -4,8 +4,10 @@ ghost use Rattle.std.specs.Prelude.{◌≡◌, ℕ, List, IfOk};
 ghost use Rattle.command_explain.specs.AnyTexts.{IsRightOrFaulty, looked_as, looked_at};
 
 use bundle_text::Bundle;
+use command_covers::GivenCover;
 use command_shell::Subject;
 use define_bundles::{bundle_or_fault, pool_or_fault};
+use define_cover_texts::cover_or_fault;
 use define_proofs::proof_or_fault;
 use pool_model::Pool;
 use proof_model::Proof;
@@ -18,10 +20,13 @@ const BUNDLE: &[u8] = b"bundle";
 /// A text that begins with this word is read as a proof.
 const PROOF: &[u8] = b"proof";
 
+/// A text that begins with this word is read as a cover.
+const COVER: &[u8] = b"cover";
+
 /// Whether some bytes are a text of the program.
 #[derive(Clone, Copy, Debug)]
 pub enum AnyText {
-    /// The bytes are the text of a pool, a bundle or a proof.
+    /// The bytes are the text of a pool, a bundle, a proof or a cover.
     Right,
     /// The bytes are no such text, and this is their first fault.
     Faulty(TextFault),
@@ -34,6 +39,7 @@ pub fn right_or_faulty()
     pool_or_fault();
     bundle_or_fault();
     proof_or_fault();
+    cover_or_fault();
 }
 
 impl Subject for AnyText {
@@ -58,6 +64,8 @@ fn look_at(alloc: Global, bytes: &[u8]) -> Result<AnyText, AllocError>
         look_as::<Bundle>(alloc, bytes)
     } else if bytes.starts_with(PROOF) {
         look_as::<Proof>(alloc, bytes)
+    } else if bytes.starts_with(COVER) {
+        look_as::<GivenCover>(alloc, bytes)
     } else {
         look_as::<Pool>(alloc, bytes)
     }

@@ -23,6 +23,8 @@ pub(crate) enum Word {
     Split,
     Bound,
     Close,
+    Cover,
+    Front,
 }
 
 /// A place in a text, by what stands there. The places are in the order of a text.
@@ -102,7 +104,7 @@ pub(crate) const SECOND: &[u8] = b"2";
 /// The form of a pool's first line, which a text is taken for until its first line shows what it is.
 pub(crate) const POOL: usize = 2;
 
-pub(crate) static FORMS: [LineForm; 20] = forms! {
+pub(crate) static FORMS: [LineForm; 22] = forms! {
     Proof "proof" FirstLine-FirstLine > SecondOfProof [("version", 1, 1, "1")] [] "one field after it, the version"
     Bundle "bundle" FirstLine-SecondOfProof > PoolOfBundle [("version", 1, 2, "1 or 2")] [] "one field after it, the version"
     Pool "pool" FirstLine-PoolOfBundle > Size [("version", 1, 2, "1 or 2")] [] "one field after it, the version"
@@ -128,6 +130,9 @@ pub(crate) static FORMS: [LineForm; 20] = forms! {
         [("constraint", 0, 1800, "a number from 0 to 1800"), ("multiplier", -MOST_SCALE, MOST_SCALE, "a whole number other than 0, from -2^56 to 2^56")]
         "a scale after it, and pairs of a constraint and a multiplier"
     Close "close" Trees-Trees > Nothing [] [] "no field after it"
+    Cover "cover" FirstLine-FirstLine > SecondOfProof [("version", 1, 1, "1")] [] "one field after it, the version"
+    Front "front" Trees-Trees > Trees [TEXT, ("number", 0, 1800, "a number from 0 to 1800")] [("count", 0, 400, "a number from 0 to 400")]
+        "a cause after it (size, value, house, closed or cap), a number, and counts"
 };
 
 /// Returns the bytes before the first that is `end`, or all of them.
@@ -175,8 +180,8 @@ impl Place {
     /// Returns words for what comes here, and for what is missing if the text ends here.
     pub(crate) fn words(self) -> (&'static str, &'static str) {
         choose! { self, Place;
-            FirstLine ("a text of this program begins with \"pool\", \"bundle\" or \"proof\", a TAB and its version", "it has no line");
-            SecondOfProof ("the second line of a proof is \"bundle\" or \"pool\", a TAB and the version, 1 or 2", "the pool or bundle is missing");
+            FirstLine ("a text of this program begins with \"pool\", \"bundle\", \"proof\" or \"cover\", a TAB and its version", "it has no line");
+            SecondOfProof ("the second line of a proof is \"bundle\" or \"pool\", that of a cover \"bundle\", then a TAB and the version, 1 or 2", "the pool or bundle is missing");
             PoolOfBundle ("the pool of a bundle begins with \"pool\", a TAB and the version that the line \"bundle\" has", "the pool is missing");
             Size ("the second line of a pool is \"size\", a TAB and the number of members of a panel, from 1 to 200", "the size is missing");
             Entries ("between the size and the end, lines begin with category, value, volunteer, household, seated or gone", "the line \"end\" is missing");
@@ -186,7 +191,7 @@ impl Place {
             Stages ("after a stage comes a line \"stage\", or \"done\" without a field", "stages or the line \"done\" are missing");
             None ("after the pool's \"end\" comes \"none\"", "the line \"none\" and the tree are missing");
             FirstTree ("the first tree begins with \"tree\", a TAB and 1 after \"done\", or 0 after \"none\"", "the trees are missing");
-            Trees ("in a tree come lines \"split\" and \"bound\", then the next \"tree\" or \"close\"", "the line \"close\" is missing");
+            Trees ("in a tree come lines \"split\" and \"bound\", in a cover \"front\", then the next \"tree\" or \"close\"", "the line \"close\" is missing");
             Nothing ("nothing may follow the last line of the text", "nothing is missing");
         }
     }

@@ -31,7 +31,7 @@ pub(crate) struct Entry<'a> {
 #[derive(Drop)]
 pub(crate) struct Reading<'a> {
     pub(crate) alloc: Global,
-    /// The form of the text's first line: that of a pool, a bundle or a proof.
+    /// The form of the text's first line: that of a pool, a bundle, a proof or a cover.
     pub(crate) form: &'static LineForm,
     pub(crate) place: Place,
     /// True if nothing shows how the text goes on, so that no further line is read.
@@ -92,6 +92,21 @@ impl<'a> Reading<'a> {
         matches!(self.form.word, Word::Proof)
     }
 
+    /// True if the text is a cover.
+    pub(crate) fn is_cover(&self) -> bool {
+        matches!(self.form.word, Word::Cover)
+    }
+
+    /// True if a line of this form belongs to texts of another sort: nodes to proofs, fronts to covers, and a cover is of a bundle.
+    fn is_of_others(&self, form: &LineForm) -> bool {
+        match form.word {
+            Word::Front => !self.is_cover(),
+            Word::Split | Word::Bound => self.is_cover(),
+            Word::Pool => self.is_cover() && !self.has_bundle,
+            _ => false,
+        }
+    }
+
     /// Takes the next line, of this number and without its LF. Returns words on what is wrong with it. If it isn't expected here, but soon,
     /// takes it as if the lines before it were only missing.
     pub(crate) fn take(&mut self, number: usize, raw: &'a [u8]) -> Checked {
@@ -106,12 +121,13 @@ impl<'a> Reading<'a> {
         };
         let here = self.place as usize;
         let first = form.first as usize;
+        let has_trees = self.is_proof() || self.is_cover();
         let is_here = first <= here && here <= form.last as usize;
         let may_come = first <= Place::Entries as usize
             || self.has_bundle && first <= Place::Stages as usize
-            || self.is_proof() && Place::None as usize <= first;
+            || has_trees && Place::None as usize <= first;
         let is_soon = may_come && here < first && first <= here.saturating_add(MOST_SKIPPED);
-        if !is_here && !is_soon {
+        if !is_here && !is_soon || self.is_of_others(form) {
             return self.refuse(field, false);
         }
         let unexpected = if is_soon {
@@ -180,9 +196,10 @@ impl<'a> Reading<'a> {
         let name = first_of(&rest);
         let weight = signed_number(name).unwrap_or(0);
         match form.word {
-            Word::Proof => self.form = form,
+            Word::Proof | Word::Cover => self.form = form,
             Word::Bundle => {
-                self.form = if self.is_proof() { self.form } else { form };
+                let has_trees = self.is_proof() || self.is_cover();
+                self.form = if has_trees { self.form } else { form };
                 self.has_bundle = true;
                 self.is_second = name == SECOND;
             }
@@ -200,7 +217,7 @@ impl<'a> Reading<'a> {
             Place::Total if self.has_bundle => Place::Total,
             Place::Total if self.is_proof() => Place::None,
             Place::Total => Place::Nothing,
-            Place::FirstTree if !self.is_proof() => Place::Nothing,
+            Place::FirstTree if !self.is_proof() && !self.is_cover() => Place::Nothing,
             next => next,
         };
         Ok(())

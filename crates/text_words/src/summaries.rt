@@ -18,9 +18,11 @@ pub(crate) fn summary(alloc: Global, bytes: &[u8]) -> Result<String, AllocError>
     let form = reading.form.spelling;
     let version = if reading.is_second { 2 } else { 1 };
     let is_proof = reading.is_proof();
+    let is_cover = reading.is_cover();
     say! { text;
         is_proof => "This is a proof, and each of its lines is right.";
-        !is_proof => "This is a {form} of version {version}, and each of its lines is right.";
+        is_cover => "This is a cover, and each of its lines is right.";
+        !is_proof && !is_cover => "This is a {form} of version {version}, and each of its lines is right.";
     }
     push_pool(&mut text, &reading)?;
     for (i, values) in reading.values.iter().enumerate() {
@@ -36,7 +38,8 @@ pub(crate) fn summary(alloc: Global, bytes: &[u8]) -> Result<String, AllocError>
         total != sum => "Hint: the weights of the panels sum to {sum}, and the total is {total}: draw, dice, tickets and chances refuse this.";
         is_proof && !has_bundle => "It is to show that no panel meets the quotas.";
         is_proof => "Whether it is valid, `verify` says: ./sortition verify < FILE";
-        has_bundle && !is_proof => "Whether its lottery is the right one, `check` says, or `prove` and then `verify`.";
+        is_cover => "Whether it is valid, `check-cover` says: ./sortition check-cover < FILE";
+        has_bundle && !is_proof && !is_cover => "Whether its lottery is the right one, `check` says, or `prove` and then `verify`.";
     }
     Ok(text)
 }
