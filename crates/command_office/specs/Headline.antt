@@ -1,10 +1,11 @@
--- The headline: what the program promises, on one page. `office` ensures `Headline` of every call (command_office, src/top_call.rt), and the
--- law `headline` (src/lib.rt) derives it from the exact contract, `OfficeIsRight`. `OfSeveralCalls`, at the end, is a law there too.
+-- The headline: what `office` promises, on one page; `main` calls it and has no contract. `office` ensures `Headline` of every call (command_office, src/top_call.rt; its
+-- premises: docs/PROMISES.md), and the law `headline` (src/lib.rt) derives it from the exact contract, `OfficeIsRight`. `OfSeveralCalls`, at the end, is a law there too.
 --
--- One step behind this page: pools, quota panels, lotteries and certificates (define_pools); what leximin greatest says part by part
--- (define_leximin); when a proof or a cover is valid (define_proofs, define_covers); the stated run (define_runs); what the words ask for (`asked`); how an answer is
--- told (`Outcomes`); and each command's meaning, a record with a field for each status (`TextMeans`, `LotteryMeans`, `MakeMeans`, `StepMeans`).
--- Only whole weights are compared. Of a terminal, a file, a pipe or a store on disk, which don't tell theirs, it holds of any content.
+-- One step behind this page: pools, quota panels, lotteries and certificates (define_pools); what leximin greatest says part by part (define_leximin); when a proof or a cover is
+-- valid (define_proofs, define_covers); the stated run (define_runs); what the words ask for (`asked`); how an answer is told (`Outcomes`); each command's meaning, status by
+-- status (`TextMeans`, `LotteryMeans`, `LegsMeans`, `MakeMeans`; over a store `StepMeans`, `ImportMeans`, `ProvesRound`). `told` is what the call did: its status, and its source,
+-- out, errs and keeper before and after it. Lotteries have whole weights, and are compared with such alone. What a clause says of bytes or tables it says of an object that tells
+-- them, as one in memory does: of a terminal, a file, a pipe or a store on disk it is true of some bytes and tables, and no contract can say that they are the real ones.
 use Rattle.std.specs.Prelude.{◌≡◌, ◌≢◌, ◌↔◌, ◌⊎◌, ◌≤◌, ℕ, IsTrue, IsFalse, List, [], Option, Some, None, Ok, option_and_then, option_map, ⊤}
 use Rattle.define_proofs.specs.ProofVerdict.{OfLottery, Proof, verdict}
 use Rattle.define_proofs.specs.TreeLines.{TreeLine}
@@ -67,8 +68,8 @@ use Rattle.command_office.specs.Workers.{WorkersChangeNothing}
 
 -- ---- an answer's text or line is what the command's meaning says at the answer's status
 
--- the answer is right by the meaning of the command that the words ask for: about all that the source held, or about the tables that were
--- loaded from the store. Over a store, the change of the tables that comes with the answer is kept (`IsAnswered`)
+-- the answer is right by the meaning of the command that the words ask for: about all that the source held, about the tables that were loaded
+-- from the store, about both (an import), or about the made pool. Over a store, the change that comes with the answer is kept (`IsAnswered`)
 abbrev pub IsRightAnswer : Option Asked → StoreTold → Saying → Type 0
 IsRightAnswer (Some (asks.Text it)) told answer = IsAboutSource (TextMeans it) told.call.source answer
 IsRightAnswer (Some (asks.Lottery it)) told answer = IsAboutSource (OneAnswer pool_format (LotteryMeans it.limits)) told.call.source answer
@@ -80,13 +81,13 @@ IsRightAnswer (Some (asks.ProveRound store it)) told answer = IsAnswered store (
 IsRightAnswer (Some (asks.Import store it)) told answer = (bytes : List ℕ) × IsInput told.call.source bytes × IsAnswered store (ImportMeans it bytes) told.keeper answer
 IsRightAnswer other told answer = ⊥
 
--- how a call ends, by its status
+-- how a call ends, by its status: 0 done, 1 no quota panel, 3 faulty input, 4 a number too great, 5 a budget spent, 6 refused by a rule, 11 a proof or certificate refused
 pub data Ends (it : Option Asked) (told : StoreTold) : Type 0 where
-  -- 0, 1, 3 to 6 and 11: a right answer was told whole: its text is what out gained, or its line what errs gained
+  -- 0, 1, 3 to 6 and 11: a right answer was told. Its text is what out gained; or its line is what errs gained, of which a part may be missing if errs counted a fault
   Answered : (answer : Saying) → IsRightAnswer it told answer → IsTold answer told.call → Ends it told
   -- 8: out counted a fault while the text of a right answer was printed. The change that comes with this answer is kept
   CutOff : (printed : Printed) (text : List ℕ) → IsRightAnswer it told (Prints printed text) → IsCutOff text told.call → Ends it told
-  -- 2: the words ask for nothing
+  -- 2: the words ask for no command: they have none of the program's forms, a value is out of its range, options don't go together, or they ask for help
   Usage : it ≡ None → IsUsage told.call → Ends it told
   -- 3: the source held more bytes than an input may have
   TooLong : IsTooLong told.call → Ends it told
@@ -94,7 +95,7 @@ pub data Ends (it : Option Asked) (told : StoreTold) : Type 0 where
   ReadFault : IsReadFault told.call → Ends it told
   -- 9: the keeper of the store counted a fault
   KeeperFault : HasFaulted told.keeper.object → IsStopped 9 keeper_fault_line told.call → Ends it told
-  -- 12: memory was wanting, which may come in any call
+  -- 12: the line says that memory was wanting. No cause is promised: any call may end so
   WantOfMemory : IsStopped 12 want_of_memory_line told.call → Ends it told
 
 -- ---- a lottery that is answered
@@ -106,15 +107,15 @@ pub record Finds (Told : Pool → Answer → Type 0) : Type 0 where
   pub leximin : IsLeximin pool answer.lottery
   pub told : Told pool answer
 
--- a round that was open got the bundle of such a lottery over its pool. Or it had a bundle, and the tables stay: if they are the record of an
--- office, the lottery of this bundle is leximin greatest too (`CallsAreRecorded`)
+-- a round that was open got the bundle of such a lottery over its pool. Or it had a bundle, and the tables stay; a proof that was given isn't
+-- judged then. If the tables are the record of an office, the lottery of this bundle is leximin greatest too (`CallsAreRecorded`)
 pub data SolvesRound (round : ℕ) (told : StoreTold) (ByRun : Pool → Answer → Type 0) : Type 0 where
   GotBundle : Finds (λ pool answer. IsRoundPool round told pool × ByRun pool answer ×
       (told.keeper.object.after ≡ option_map (λ tables. apply tables (SolvedWith round (record { pool = pool; answer = answer }))) told.keeper.object.before)) → SolvesRound round told ByRun
   HadBundle : (tables : Tables) (bundle : Bundle) → IsLoaded told.keeper.object.before tables → option_and_then bundle_of (named_round tables.rounds round) ≡ Some bundle →
       KeepsTables told.keeper → SolvesRound round told ByRun
 
--- what status 0 means for the commands that answer a lottery
+-- what status 0 means for `lottery`, `prove`, `make`, `solve` and `keep`
 abbrev pub AnswersLottery : Option Asked → StoreTold → Type 0
 AnswersLottery (Some (asks.Lottery it)) told = Finds (λ pool answer. HeldPool told.call.source pool × RunFinds pool it.limits answer × Gains told.call.out (bundle_text pool answer))
 AnswersLottery (Some (asks.Text (texts.Prove it))) told = Finds (λ pool answer. (HeldPool told.call.source pool ⊎ HeldBundle told.call.source (record { pool = pool; answer = answer })) ×
@@ -135,13 +136,13 @@ nodes_of (Some (asks.Make it)) = Some it.limits.nodes
 nodes_of (Some (asks.Step store (steps.Solve round limits workers))) = Some limits.nodes
 nodes_of other = None
 
--- `seal`, its capitals made small, is the seal of the bundle's text, and the digits of dice draw a panel of this lottery
+-- `seal`, its capitals made small, is the seal of the bundle's text, and `drawn` is what the digits of dice draw from this lottery
 pub record IsSealedDraw (seal digits : List ℕ) (bundle : Bundle) (lottery : Lottery) : Type 0 where
   pub sealed : IsTrue (is_seal (bundle_seal bundle) seal)
   pub drawn : Drawn
   pub draws : draw lottery (bundle_seal bundle) seal digits ≡ Ok drawn
 
--- what status 0 means for a draw: from the bundle that the source held, from its lottery in a round number of tickets, or from a round
+-- what status 0 means for a draw: from the bundle that the source held, from its lottery in a given number of tickets, or from a round of a store
 abbrev pub DrawsSealed : Option Asked → StoreTold → Type 0
 DrawsSealed (Some (asks.Text (texts.Draw seal digits))) told = (bundle : Bundle) × HeldBundle told.call.source bundle × IsSealedDraw seal digits bundle bundle.answer.lottery
 DrawsSealed (Some (asks.Text (texts.ShortDraw tickets seal digits))) told =
@@ -150,27 +151,27 @@ DrawsSealed (Some (asks.Step store (steps.Draw round seal digits))) told = (tabl
     (option_and_then bundle_of (named_round tables.rounds round) ≡ Some bundle) × IsSealedDraw seal digits bundle bundle.answer.lottery
 DrawsSealed other told = ⊤
 
--- ---- the promises of a call whose words ask for `it`, or for nothing
+-- ---- the promises of a call whose words ask for `it`, other than `serve`, or for nothing
 
 pub record Keeps (it : Option Asked) (told : StoreTold) : Type 0 where
   pub ends : Ends it told
-  -- status 0 of a command that answers a lottery: the lottery is leximin greatest
+  -- status 0 of `lottery`, `prove`, `make`, `solve` and `keep`: the lottery is leximin greatest. `bundle`, `short` and `draw` don't say so of theirs
   pub lottery : told.call.status ≡ 0 → AnswersLottery it told
   -- status 1 comes only if the pool that the call is about has no quota panel
   pub no_panel : told.call.status ≡ 1 → (pool : Pool) × IsItsPool it told pool × (panels pool ≡ [])
-  -- if the run is stated, and this pool was told, status 1 comes exactly if there is no quota panel and the opening search is within its budget
+  -- 8, 9 and 12 aside: `panel`, `lottery`, `legs`, `make` and `solve`, about a pool that was told, have status 1 exactly if it has no quota panel and the opening search is within its budget
   pub exactly : (nodes : ℕ) (pool : Pool) → nodes_of it ≡ Some nodes → ToldPool it told pool → told.call.status ≢ 8 → told.call.status ≢ 9 → told.call.status ≢ 12 →
       told.call.status ≡ 1 ↔ ((panels pool ≡ []) × (visits_of pool ≤ nodes))
-  -- if the text of a bundle was told, and no budget was spent, `check` has status 0 exactly if the certificate holds
+  -- 5, 8 and 12 aside: if the text of a bundle was told, `check` has status 0 exactly if the certificate holds. Then the lottery is leximin greatest (`CheckMeans`)
   pub certificate : (check : Check) → it ≡ Some (asks.Text (texts.Check check)) → (bundle : Bundle) → IsBundle bundle → ToldText told.call.source (bundle_spelling bundle) →
       told.call.status ≢ 5 → told.call.status ≢ 8 → told.call.status ≢ 12 → told.call.status ≡ 0 ↔ Certifies bundle.pool bundle.answer.lottery bundle.answer.stages
-  -- if the text of a proof was told, `verify` has status 0 exactly if the proof is valid
+  -- 8 and 12 aside: if the text of a proof was told, `verify` has status 0 exactly if the proof is valid. Then its lottery is leximin greatest, or its pool has no quota panel (`VerifyMeans`)
   pub proof : (verify : Verify) → it ≡ Some (asks.Text (texts.Verify verify)) → (proof : Proof) → IsProof proof → ToldText told.call.source (proof_spelling proof) →
       told.call.status ≢ 8 → told.call.status ≢ 12 → told.call.status ≡ 0 ↔ verdict proof ≡ Valid
-  -- if the text of a cover was told, `check-cover` has status 0 exactly if the cover is valid, and then its lottery is leximin greatest
+  -- 8 and 12 aside: if the text of a cover was told, `check-cover` has status 0 exactly if the cover is valid, and then its lottery is leximin greatest
   pub cover : (check : CheckCover) → it ≡ Some (asks.Text (texts.CheckCover check)) → (cover : Cover) → IsCover cover → ToldText told.call.source (cover_spelling cover) → told.call.status ≢ 8 →
       told.call.status ≢ 12 → (told.call.status ≡ 0 ↔ cover_verdict cover ≡ Valid) × (told.call.status ≡ 0 → IsLeximin cover.bundle.pool cover.bundle.answer.lottery)
-  -- a draw is of the bundle whose seal was given
+  -- a draw is of the bundle whose seal was given. The panel that is printed is the drawn one (`Ends`). A draw doesn't ask whether the lottery is leximin greatest
   pub draw : told.call.status ≡ 0 → DrawsSealed it told
   -- unless the status is 0 or 8, the tables of the store are as before; a command without a store leaves the keeper alone at every status
   pub stays : told.call.status ≢ 0 → told.call.status ≢ 8 → KeepsTables told.keeper
@@ -182,18 +183,17 @@ abbrev pub Promises : Option Asked → DeskTold → Type 0
 Promises (Some (asks.Serve store serve)) told = SilentServeOutcome store serve.port serve.connections told
 Promises other told = IsUnopened told × Keeps other told.store
 
--- the promises, for every call with these words
 abbrev pub Headline : List (List ℕ) → DeskTold → Type 0
 Headline words told = Promises (asked words) told
 
 -- ---- what is promised of several calls
 
 pub record OfSeveralCalls : Type 0 where
-  -- the number of workers changes no byte of an answer
+  -- over the same told input, faults and 12 aside, the number of workers changes no byte of an answer of `lottery`, `legs`, `make` or `solve`, and no table
   pub workers : WorkersChangeNothing
-  -- a volunteer's reply tells nothing of others
+  -- the desk's reply to a key depends on the key's own row and dropouts, the last round's phase, and what is published: a sealed bundle has every volunteer of its pool
   pub isolation : TellsNothingOfOthers
-  -- a command that is given again changes nothing
+  -- a command that made a change, given again, changes nothing: a charter or rules at once, any other at any later time. One that changed nothing has the same outcome at once
   pub repeats : RepeatsChangeNothing
-  -- the tables of a store are the fold of the commands that were accepted, and each lottery that they keep is leximin greatest
+  -- if a keeper tells its tables, began with none, and only these calls changed them: they are the fold of the commands that the calls did, and each lottery in them is leximin greatest
   pub records : CallsAreRecorded

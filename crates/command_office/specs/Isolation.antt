@@ -1,4 +1,5 @@
--- What the desk's replies tell of others: nothing. A volunteer who asks with a key learns what the view of this key shows (`view` of
+-- On what the desk's replies depend: on nothing of others but what is published, and on the phase of the last round. What is published has
+-- the bundles, with every volunteer of their pools. A volunteer who asks with a key learns what the view of this key shows (`view` of
 -- define_desk: the phase of the last round, what is published of each round, and the row with this key, with the rounds of which this
 -- volunteer dropped out). Who asks for anything else learns what is published.
 use Rattle.std.specs.Prelude.{◌≡◌, ◌≢◌, ◌⊎◌, ℕ, Bool, true, false, IsTrue, IsFalse, List, [], ◌∷◌, length, map, bytes_eq, Option, Some, Ok, ⊤}

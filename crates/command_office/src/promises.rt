@@ -20,15 +20,15 @@ pub fn headline()
     ensures { (words : List (List ℕ)) (told : DeskTold) → OfficeIsRight words told → Headline words told }
 {}
 
-/// The number of workers changes no byte of an answer of `lottery`, `make` or `solve`, and no table.
+/// The number of workers changes no byte of an answer of `lottery`, `legs`, `make` or `solve`, and no table.
 pub fn workers_change_nothing()
     ensures { WorkersChangeNothing }
 {
     steps_answer_once();
 }
 
-/// What the desk replies to a volunteer's key tells nothing of other volunteers, and changes no row but the key's own; what it replies to
-/// anyone else depends on what is published alone.
+/// What the desk replies to a volunteer's key depends on what is published, the phase of the last round and the key's own row alone, and
+/// changes no other row; what it replies to anyone else depends on what is published alone.
 pub fn volunteers_are_isolated()
     ensures { TellsNothingOfOthers }
 {

@@ -7,7 +7,7 @@ use Rattle.define_pools.specs.Lottery.{IsLottery, LeximinGreatest, Lottery, Tota
 use Rattle.define_pools.specs.Pool.{Pool, is_of_size, keeps_households, keeps_standings, meets_quotas, panels}
 
 pub record IsLeximin (pool : Pool) (lottery : Lottery) : Type 0 where
-  -- it has at least one panel, and each panel lists different volunteers of the pool, as many as the pool's size
+  -- it has at least one panel, and each panel lists different volunteers of the pool, as many as a panel has (`pool.size`)
   pub some : IsTrue (nat_lt 0 (length lottery.rows))
   pub sized : IsTrue (list_all (λ row. is_of_size pool row.panel) lottery.rows)
   -- each panel has everyone who is seated and no one who is gone
