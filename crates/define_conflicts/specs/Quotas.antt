@@ -1,7 +1,7 @@
 -- Quotas and selections; by how many people a selection misses quotas; and conflicts. Builds on Pool and Lists of `define_pools`, and on
 -- Leaves of `define_proofs` for the list of standings. An auditor of `why` reads this file and OnlyQuotas.
-use Rattle.std.specs.Prelude.{ℕ, ◌-◌, ◌==◌, ◌≤◌, ◌<◌, nat_lt, Bool, false, true, ◌&&◌, ◌||◌, IsTrue, List, [], length, count_by, sum_by, slice_index, slice_index_or, Option, unwrap_or}
-use Rattle.std.specs.List.{enumerate_from, list_all, list_any, remove}
+use Rattle.std.specs.Prelude.{ℕ, ◌-◌, ◌==◌, ◌≤◌, ◌<◌, nat_lt, Bool, false, true, not, ◌&&◌, ◌||◌, IsTrue, List, [], length, count_by, sum_by, slice_index, slice_index_or, Option, unwrap_or}
+use Rattle.std.specs.List.{enumerate_from, list_all, list_any, range_with_len, remove}
 use Rattle.define_proofs.specs.Leaves.{standings}
 use Rattle.define_pools.specs.declared.Standing.{Standing}
 use Rattle.define_pools.specs.Lists.{includes, is_increasing}
@@ -45,11 +45,12 @@ bound_of pool AtMost (OfHousehold member) = 1
 abbrev pub bound : Pool → Quota → ℕ
 bound pool quota = bound_of pool quota.side quota.counted
 
--- the pool has the category and the value that a quota names to say whom it counts, or the volunteer, who has a household
+-- the pool has the category and the value that a quota names to say whom it counts, or the volunteer, who is the first of a household
 abbrev pub is_counted_of : Pool → Counted → Bool
 is_counted_of pool Everybody = true
 is_counted_of pool (WithValue category value) = nat_lt category (length pool.categories) && nat_lt value (length (category_at pool category).values)
-is_counted_of pool (OfHousehold member) = nat_lt member (length pool.volunteers) && share_household pool.volunteers member member
+is_counted_of pool (OfHousehold member) =
+    nat_lt member (length pool.volunteers) && share_household pool.volunteers member member && not (list_any (share_household pool.volunteers member) (range_with_len 0 member))
 
 -- the quota is one of the pool's: the pool has what it names
 abbrev pub is_quota_of : Pool → Quota → Bool

@@ -79,10 +79,18 @@ pub(crate) fn is_quota_of(pool: &Pool, quota: Quota) -> bool
     match quota.counted {
         Counted::Everybody => true,
         Counted::WithValue(category, value) => has_value(pool, category, value),
-        Counted::OfHousehold(member) => {
-            member < pool.volunteers().len() && share_household(pool.volunteers(), member, member)
-        }
+        Counted::OfHousehold(member) => is_first(pool, member),
     }
+}
+
+/// True if a volunteer is the first of a household.
+fn is_first(pool: &Pool, member: usize) -> bool
+    ensures { result ≡ is_of pool.now (record { counted = Counted.OfHousehold member; side = Side.AtLeast }) }
+{
+    let volunteers = pool.volunteers();
+    member < volunteers.len()
+        && share_household(volunteers, member, member)
+        && !(0..member).any(|other| share_household(volunteers, member, other))
 }
 
 /// True if the pool has a category and a value at these places.
