@@ -99,7 +99,13 @@ function compareSeals() {
   part('compared').className = same ? 'good' : 'bad';
 }
 
-// Shows what `verify` tells of a file, and what belongs to its bundle.
+// Returns the bundle in the text of a cover: its lines behind the first one, up to `done`.
+function bundleIn(text) {
+  const begin = text.indexOf('\n') + 1;
+  return encoder.encode(text.slice(begin, text.indexOf('\ndone\n') + 6));
+}
+
+// Shows what `verify` tells of a file, or `check-cover` of a cover, and what belongs to its bundle.
 async function check(file) {
   const turn = ++chosen;
   part('answer').hidden = false;
@@ -111,11 +117,15 @@ async function check(file) {
     const bytes = new Uint8Array(await file.slice(0, MOST_BYTES + 1).arrayBuffer());
     const call = await checker;
     if (turn !== chosen) return;
-    const text = decoder.decode(call('tell_verify', bytes));
-    show(part('verdict'), verdictWords(text, idsIn(decoder.decode(bytes))), text);
+    const isCover = beginsWith(bytes, 'cover');
+    const text = decoder.decode(call(isCover ? 'tell_check_cover' : 'tell_verify', bytes));
+    const content = decoder.decode(bytes);
+    show(part('verdict'), verdictWords(text, idsIn(content), isCover ? 'cover' : 'proof'), text);
     if (beginsWith(bytes, 'bundle')) {
       bundle = bytes;
       part('verdict').append(element('p', 'The file is a bundle without a proof. What is below is about it, and its lottery is not checked.'));
+    } else if (isCover) {
+      bundle = text.startsWith('input') ? null : bundleIn(content);
     } else {
       const its = call('tell_bundle', bytes);
       bundle = beginsWith(its, 'bundle') ? its : null;

@@ -20,6 +20,9 @@ const KINDS = {
   15: 'it is no right line of a panel',
   16: 'it is no right line of a stage',
   17: 'the bundle ends too early, or goes on behind its end',
+  18: 'it is not the first line of a cover',
+  19: 'it is no right line of a cover there',
+  20: 'the cover ends too early, or goes on behind its end',
   21: 'it is not the first line of a proof',
   22: 'it is no right line of a proof there',
   23: 'the proof ends too early, or goes on behind its end',
@@ -45,6 +48,11 @@ const REASONS_OF_NONE = {
   12: 'A line doesn’t show that there is no panel, or names a constraint that isn’t there.',
 };
 
+// The reasons of a cover, if their words are others.
+const REASONS_OF_COVER = {
+  12: 'The cause that a line names doesn’t hold.',
+};
+
 // Reasons behind which the number of a line of the proof is told; behind the others those of volunteers are.
 const TELLS_LINE = new Set(['11', '12']);
 
@@ -62,26 +70,26 @@ function inputWords(fields, what) {
   return `This is not the text of ${what}. Line ${line} is the first that is not right: ${fault}.`;
 }
 
-// Returns in words why a proof was refused. `ids` are the volunteers' ids.
-function refusedWords(fields, ids) {
+// Returns in words why a proof or a cover was refused. `what` is the word for it, and `ids` are the volunteers' ids.
+function refusedWords(fields, ids, what) {
   const [, stage, reason, ...shown] = fields;
   const at = stage === '0' ? '' : ` at stage ${stage}`;
-  const why = (stage === '0' && REASONS_OF_NONE[reason]) || (REASONS[reason] ?? `The reason has the number ${reason}.`);
+  const why = (stage === '0' && REASONS_OF_NONE[reason]) || (what === 'cover' && REASONS_OF_COVER[reason]) || (REASONS[reason] ?? `The reason has the number ${reason}.`);
   const by = !shown.length ? ''
     : TELLS_LINE.has(reason) ? ` It is line ${shown[0]} of the file.`
     : ` Shown by: ${shown.map(number => ids[Number(number)] ?? number).join(', ')}.`;
   const only = stage === '0' && Number(reason) >= 11
     ? 'This proof doesn’t show that there is no panel. Another proof may show it.'
     : Number(reason) >= 11
-    ? 'This proof doesn’t show that the lottery is right. That says nothing against the lottery; another proof may show it.'
+    ? `This ${what} doesn’t show that the lottery is right. That says nothing against the lottery; another may show it.`
     : Number(reason) >= 4
       ? 'The lottery may be right nevertheless, by other stages.'
       : 'What is listed is no lottery over the quota panels.';
   return { title: `Refused${at}`, words: [why + by, only] };
 }
 
-// Returns the title and the words for what `verify` told.
-function verdictWords(text, ids) {
+// Returns the title and the words for what `verify` told of a proof, or `check-cover` of a cover.
+function verdictWords(text, ids, what) {
   const fields = fieldsOf(text);
   if (fields[0] === 'valid' && fields[1] === 'none') {
     return { title: 'Valid: there is no panel', good: true, words: ['No panel meets all quotas of the pool in this file.'] };
@@ -97,8 +105,8 @@ function verdictWords(text, ids) {
       ],
     };
   }
-  if (fields[0] === 'refused') return refusedWords(fields, ids);
-  if (fields[0] === 'input') return { title: 'Not a proof', words: [inputWords(fields, 'a proof')] };
+  if (fields[0] === 'refused') return refusedWords(fields, ids, what);
+  if (fields[0] === 'input') return { title: `Not a ${what}`, words: [inputWords(fields, `a ${what}`)] };
   return { title: 'Not known', words: [] };
 }
 

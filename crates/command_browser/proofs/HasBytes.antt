@@ -4,6 +4,7 @@ use Rattle.std.specs.Prelude.{Option, Some, None, codes, map}
 use Rattle.std.specs.Fmt.{decimal}
 use Rattle.define_proofs.specs.ProofVerdict.{OfLottery, OfNoPanel, Proof}
 use Rattle.define_bundles.specs.BundleText.{Bundle, done_line, lines_before_done}
+use Rattle.define_covers.specs.Covers.{Cover}
 use Rattle.define_draws.specs.Draw.{Drawn, Refused}
 use Rattle.define_draws.specs.declared.DiceStop.TheVariants.{BadDigit, MoreDigits}
 use Rattle.define_lines.specs.Lines.{line_of, text_of}
@@ -15,6 +16,7 @@ use Rattle.command_shell.specs.declared.status.Cause.TheVariants.{Input, Rule}
 use Rattle.command_shell.specs.Answers.{IsRight, IsTheAnswer, Prints, RightAnswers, Saying, Stops, bytes_of}
 use Rattle.command_shell.specs.Lines.{line}
 use Rattle.command_shell.specs.Subjects.{About, AboutFault, AboutValue, Format}
+use Rattle.command_covers.specs.CheckCover.{CheckCoverMeans}
 use Rattle.command_meanings.specs.Draw.{DrawMeans, drawn_lines, refused_draw_line, ticket_line, wrong_total_line}
 use Rattle.command_meanings.specs.ItsBundle.{BundleMeans, no_lottery_line}
 use Rattle.command_meanings.specs.Lines.{panel_line}
@@ -60,6 +62,14 @@ verify_some proof (Prints Rejected text) right =
     so _ _ right.line (fields_some (codes "refused" ∷ decimal refusal.stage ∷ decimal refusal.reason ∷ map decimal refusal.who))
 verify_some proof (Stops Input line) right = absurd right
 verify_some proof answer right = absurd right
+
+pub check_cover_some : (cover : Cover) → HasBytes (CheckCoverMeans cover)
+check_cover_some cover (Prints Done text) right = so _ _ right.line (fields_some (codes "valid" ∷ []))
+check_cover_some cover (Prints Rejected text) right =
+    let refusal = right.refusal in
+    so _ _ right.line (fields_some (codes "refused" ∷ decimal refusal.stage ∷ decimal refusal.reason ∷ map decimal refusal.who))
+check_cover_some cover (Stops Input line) right = absurd right
+check_cover_some cover answer right = absurd right
 
 no_lottery_some : 1 ≤ length no_lottery_line
 no_lottery_some = fields_some (codes "rule" ∷ codes "NoLottery" ∷ [])

@@ -3,6 +3,8 @@
 
 ghost use Rattle.std.specs.Prelude.{IsUtf8, None};
 ghost use Rattle.command_shell.specs.Formats.{bundle_format, proof_format};
+ghost use Rattle.command_covers.specs.CheckCover.{CheckCoverMeans};
+ghost use Rattle.command_covers.specs.CoverFormat.{cover_format};
 ghost use Rattle.command_meanings.specs.Draw.{DrawMeans};
 ghost use Rattle.command_meanings.specs.ItsBundle.{BundleMeans};
 ghost use Rattle.command_meanings.specs.Seal.{SealMeans};
@@ -16,6 +18,7 @@ ghost use Rattle.command_browser.specs.Told.{TextOf, Told, WithWords};
 use crate::room::tell;
 use crate::texts::{text_of, text_of_draw, text_of_drawn_page};
 use command_bundles::Seal;
+use command_covers::CheckCover;
 use command_page::Page;
 use command_proofs::{ItsBundle, Verify};
 use command_questions::Question;
@@ -27,6 +30,14 @@ pub extern "C" fn tell_verify(alloc: Global, proof: &[u8], room: &mut [u8]) -> u
     ensures { Told (TextOf proof_format VerifyMeans proof.now) room.old room.new result }
 {
     tell(text_of(alloc, &Verify, proof), room)
+}
+
+/// Puts into `room` the text that `check-cover` answers about a cover.
+#[unsafe(no_mangle)]
+pub extern "C" fn tell_check_cover(alloc: Global, cover: &[u8], room: &mut [u8]) -> usize
+    ensures { Told (TextOf cover_format CheckCoverMeans cover.now) room.old room.new result }
+{
+    tell(text_of(alloc, &CheckCover, cover), room)
 }
 
 /// Puts into `room` the text that `bundle` answers about a proof: the text of its bundle, or the line that it has no lottery.
