@@ -7,3 +7,4 @@ pub mod StepByStep
 pub mod Counts
 pub mod Numbered
 pub mod Lines
+pub mod Made
