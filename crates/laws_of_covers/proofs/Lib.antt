@@ -8,3 +8,4 @@ pub mod Counts
 pub mod Numbered
 pub mod Lines
 pub mod Made
+pub mod MadeRanges

@@ -179,7 +179,6 @@ module _ (all : Classes) (closed : List Row) (row : Row) where
     pub tried : IsTried all closed row front
     pub leads : (next : List ℕ) (later : List (List ℕ)) → continues all.classes front next ≡ true → are_in_order all.classes (turned all.classes next) later ≡ true →
         are_in_order all.classes (Some []) (fronts lines ++ next ∷ later) ≡ true
-    pub each_within : AllByRecursion (λ line. BeginsWithin all.classes line.front) lines
     pub each_tried : AllByRecursion (λ line. IsTried all closed row line.front) lines
     pub causes : AllByRecursion HasFirst lines
 
@@ -188,7 +187,6 @@ module _ (all : Classes) (closed : List Row) (row : Row) where
     within = tt;
     tried = λ k l. absurd (omega arith);
     leads = λ next later c order. and_from (continues all.classes [] next) (are_in_order all.classes (turned all.classes next) later) c order;
-    each_within = tt;
     each_tried = tt;
     causes = tt;
   }
@@ -219,7 +217,6 @@ module _ (all : Classes) (closed : List Row) (row : Row) where
     within = within_more all.classes front class c limits.searchable.in_order tries.within l is most;
     tried = child;
     leads = λ next later h order. tries.leads next later (continues_less all.classes front next class c l is most h) order;
-    each_within = tries.each_within;
     each_tried = tries.each_tried;
     causes = tries.causes;
   }
@@ -244,9 +241,6 @@ module _ (all : Classes) (closed : List Row) (row : Row) where
     abbrev more : List FrontLine
     more = lines ++ line_of front cause ∷ []
 
-    each_more : AllByRecursion (λ line. BeginsWithin all.classes line.front) more
-    each_more = each_append (λ line. BeginsWithin all.classes line.front) lines (line_of front cause ∷ []) tries.each_within (tries.within, tt)
-
     tried_more : AllByRecursion (λ line. IsTried all closed row line.front) more
     tried_more = each_append (λ line. IsTried all closed row line.front) lines (line_of front cause ∷ []) tries.each_tried (tries.tried, tt)
 
@@ -267,7 +261,6 @@ module _ (all : Classes) (closed : List Row) (row : Row) where
           ∙ tries.leads front (then ∷ later) (continues_itself all.classes front)
               (ap (λ (place : Option (List ℕ)). are_in_order all.classes place (then ∷ later)) e
               ∙ and_from (continues all.classes next then) (are_in_order all.classes (turned all.classes then) later) h order);
-      each_within = each_more;
       each_tried = tried_more;
       causes = causes_more;
     }
@@ -280,9 +273,6 @@ module _ (all : Classes) (closed : List Row) (row : Row) where
       tried = tried_more;
       causes = causes_more;
     }
-
-    pub all_within : AllByRecursion (λ line. BeginsWithin all.classes line.front) more
-    all_within = each_more
 
 -- ---- what the lines of a search cover
 

@@ -1,13 +1,15 @@
 -- The trees that `cover_cert` makes: the fronts that a check's search tries and doesn't enter. Builds on FirstCause, and on CoversHold of
 -- `define_covers`. The promise of `cover` in `cover_cert` cites it.
-use Rattle.std.specs.Prelude.{◌≡◌, ◌<◌, ℕ, true, IsTrue, List, [], ◌∷◌, length, map, take, Some}
-use Rattle.std.specs.List.{AllByRecursion}
+use Rattle.std.specs.Prelude.{◌≡◌, ◌<◌, ℕ, ◌+◌, true, IsTrue, List, [], ◌∷◌, length, map, take, Some}
+use Rattle.std.specs.List.{AllByRecursion, list_all}
 use Rattle.define_checks.specs.Caps.{classes_at, stage_row}
 use Rattle.define_pools.specs.Certificate.{Stage}
-use Rattle.define_pools.specs.Pool.{Pool}
+use Rattle.define_pools.specs.Pool.{IsPool, Pool}
 use Rattle.define_rows.specs.Row.{Row}
 use Rattle.define_searches.specs.Classes.{Classes}
 use Rattle.define_searches.specs.Fronts.{is_live_above}
+use Rattle.define_covers.specs.Causes.{all_values}
+use Rattle.define_covers.specs.CoverRanges.{is_front_line, value_count}
 use Rattle.define_covers.specs.Covers.{FrontLine}
 use Rattle.define_covers.specs.CoverVerdict.{first_tree, later_trees}
 use Rattle.define_covers.specs.CoversHold.{Covers, TreesCover}
@@ -46,3 +48,12 @@ CoversWhereSearched = (all : Classes) (closed : List Row) (row : Row) (lines : L
 -- if each stage has the lines of its search, each stage is covered
 abbrev pub TreesCoverWhereSearched : Type 0
 TreesCoverWhereSearched = (pool : Pool) (earlier later : List Stage) (trees : List (List FrontLine)) → TreesSearched pool earlier later trees → TreesCover pool earlier later trees
+
+-- the lines of a stage's search are in the ranges of a cover's text
+abbrev pub InRangesWhereSearched : Type 0
+InRangesWhereSearched = (pool : Pool) (earlier : List Stage) (stage : Stage) (lines : List FrontLine) → IsPool pool → IsSearchedStage pool earlier stage lines →
+    IsTrue (list_all (is_front_line pool (length earlier + 1)) lines)
+
+-- how many values the classes at a stage have in all categories is how many the pool has
+abbrev pub SameValueCount : Type 0
+SameValueCount = (pool : Pool) (stages : List Stage) → length (all_values (classes_at pool stages)) ≡ value_count pool
