@@ -9,3 +9,4 @@ pub mod Numbered
 pub mod Lines
 pub mod Made
 pub mod MadeRanges
+pub mod FirstCauses

@@ -1,15 +1,13 @@
 -- How the lines of a search come about, one after the other: the next front is tried, and entered if it is live; else it is a line.
-use Rattle.std.proofs.Common.{◌≡◌, ℕ, zero, suc, ◌+◌, ◌-◌, ◌≤◌, ◌<◌, Bool, true, false, cond, ◌&&◌, eqb, leb, ltb, List, [], ◌∷◌, ◌++◌, map, filter, length, take, drop, get_or, Option, Some, None, refl, sym, ap, ◌∙◌, subst, arith, append_assoc, length-append}
+use Rattle.std.proofs.Common.{◌≡◌, ℕ, zero, suc, ◌+◌, ◌-◌, ◌≤◌, ◌<◌, Bool, true, false, cond, ◌&&◌, eqb, leb, ltb, List, [], ◌∷◌, ◌++◌, map, length, take, drop, get_or, Option, Some, None, refl, sym, ap, ◌∙◌, subst, arith, append_assoc, length-append}
 use Rattle.std.specs.Prelude.{bytes_eq, int_lt}
-use Rattle.std.specs.List.{AllByRecursion, find, flat_map, list_all}
+use Rattle.std.specs.List.{AllByRecursion}
 use Rattle.std.proofs.lemmas.Bool.{and_from, and_parts, eq-eqb, false≢true, le-leb, leb-true, ltb-false, ltb-true}
 use Rattle.std.proofs.lemmas.List.{append-nil, drop_more, map-append, take-append-le}
 use Rattle.std.proofs.Math.Seq.{take-append_seam}
 use Rattle.std.proofs.lemmas.List.Elements.{recursion_from_All}
-use Rattle.define_pools.proofs.Each.{each_append, each_from_filter, each_left, each_map, each_of_map, each_right, list_all_from_each}
+use Rattle.define_pools.proofs.Each.{each_append, each_from_filter, each_map, each_of_map, list_all_from_each}
 use Rattle.define_pools.proofs.Found.{find-none, find-passes}
-use Rattle.define_pools.specs.Certificate.{Stage}
-use Rattle.define_pools.specs.Pool.{Pool}
 use Rattle.define_rows.specs.Row.{Row}
 use Rattle.define_searches.specs.Classes.{Class, Classes, KeepsLimits}
 use Rattle.define_searches.specs.Compositions.{all_counts, attains, compositions, counts_down, counts_of, is_composition, weight_in}
@@ -259,8 +257,8 @@ module _ (all : Classes) (closed : List Row) (row : Row) where
       leads = λ then later h order.
           ap (are_in_order all.classes (Some [])) (fronts_more (then ∷ later))
           ∙ tries.leads front (then ∷ later) (continues_itself all.classes front)
-              (ap (λ (place : Option (List ℕ)). are_in_order all.classes place (then ∷ later)) e
-              ∙ and_from (continues all.classes next then) (are_in_order all.classes (turned all.classes then) later) h order);
+          (ap (λ (place : Option (List ℕ)). are_in_order all.classes place (then ∷ later)) e
+          ∙ and_from (continues all.classes next then) (are_in_order all.classes (turned all.classes then) later) h order);
       each_tried = tried_more;
       causes = causes_more;
     }

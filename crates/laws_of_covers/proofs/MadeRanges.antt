@@ -1,5 +1,5 @@
 -- The lines of a stage's search are in the ranges of a cover's text.
-use Rattle.std.proofs.Common.{◌≡◌, ℕ, ◌+◌, ◌-◌, ◌≤◌, ◌<◌, Bool, true, false, cond, ◌&&◌, leb, ltb, List, [], ◌∷◌, ◌++◌, map, filter, length, get_or, sum_by, Option, Some, None, refl, sym, ap, ap₂, ◌∙◌, arith, length-append}
+use Rattle.std.proofs.Common.{◌≡◌, ℕ, ◌+◌, ◌-◌, ◌≤◌, ◌<◌, Bool, true, false, cond, ◌&&◌, leb, ltb, List, [], ◌∷◌, ◌++◌, map, filter, length, get_or, Option, Some, None, refl, sym, ap, ap₂, ◌∙◌, arith, length-append}
 use Rattle.std.specs.List.{AllByRecursion, enumerate_from, flat_map, list_all, range_with_len}
 use Rattle.std.proofs.lemmas.Bool.{and_from, and_parts, false≢true, le-leb, lt-ltb}
 use Rattle.std.proofs.lemmas.List.{get_or_default, length-map}
@@ -8,8 +8,7 @@ use Rattle.std.proofs.lemmas.List.FromFn.{length-enumerate_from, length-range_wi
 use Rattle.define_pools.proofs.Each.{each_append, each_mapped, each_range, list_all_from_each}
 use Rattle.define_pools.proofs.Found.{find-each}
 use Rattle.define_pools.proofs.Sums.{sum_by-is-total, total}
-use Rattle.define_pools.specs.Certificate.{Stage}
-use Rattle.define_pools.specs.Pool.{BoundedValue, Category, IsPool, Pool}
+use Rattle.define_pools.specs.Pool.{BoundedValue, Category, Pool}
 use Rattle.define_rows.specs.Row.{Row}
 use Rattle.define_searches.specs.declared.Bounds.{Bounds}
 use Rattle.define_searches.specs.Classes.{Classes, KeepsLimits, bounds_of, class_by, classes_by, leaders}
@@ -17,7 +16,7 @@ use Rattle.define_searches.proofs.Limits.{limits_kept}
 use Rattle.define_checks.specs.Caps.{alike_at, classes_at, stage_row}
 use Rattle.define_checks.proofs.CheckClasses.{alike_at_makes}
 use Rattle.define_covers.specs.Causes.{all_values, applies}
-use Rattle.define_covers.specs.Covers.{ByCap, ByClosed, ByHousehold, BySize, ByValue, Cause, FrontLine}
+use Rattle.define_covers.specs.Covers.{ByCap, ByClosed, ByHousehold, ByValue, Cause, FrontLine}
 use Rattle.define_covers.specs.CoverRanges.{is_cause, is_front_line, is_numbered, most_count, value_count}
 use Rattle.define_covers.specs.FrontOrder.{are_in_order, continues, turned}
 use Rattle.laws_of_fronts.proofs.WeightLaws.{count_few}
@@ -75,13 +74,17 @@ module _ (pool : Pool) (all : Classes) (closed : List Row) (row : Row) (stage : 
   causes_in_range =
       let In : Cause → Type 0 = λ cause. is_cause pool stage cause ≡ true in
       let by_value : List Cause = map (λ number. ByValue number) (range_with_len 1 (length (all_values all))) in
-      let by_row : List Cause = map (λ number. ByClosed number) (range_with_len 1 (length closed)) in
-      (refl, each_append In by_value (ByHousehold ∷ (by_row ++ (ByCap ∷ [])))
-      (each_mapped In (λ number. ByValue number) (range_with_len 1 (length (all_values all)))
-      (each_range (λ number. In (ByValue number)) 1 (length (all_values all)) (λ number l m. numbered (value_count pool) number l (omega arith))))
-      (refl, each_append In by_row (ByCap ∷ [])
-      (each_mapped In (λ number. ByClosed number) (range_with_len 1 (length closed)) (each_range (λ number. In (ByClosed number)) 1 (length closed) (λ number l m. numbered (stage - 1) number l (omega arith))))
-      (refl, tt)))
+      let by_row : List Cause = map (λ number. ByClosed number) (range_with_len 1 (length closed)) in (
+        refl,
+        each_append In by_value (ByHousehold ∷ (by_row ++ (ByCap ∷ [])))
+            (each_mapped In (λ number. ByValue number) (range_with_len 1 (length (all_values all)))
+            (each_range (λ number. In (ByValue number)) 1 (length (all_values all)) (λ number l m. numbered (value_count pool) number l (omega arith)))) (
+              refl,
+              each_append In by_row (ByCap ∷ [])
+                  (each_mapped In (λ number. ByClosed number) (range_with_len 1 (length closed)) (each_range (λ number. In (ByClosed number)) 1 (length closed) (λ number l m. numbered (stage - 1) number l (omega arith))))
+                  (refl, tt),
+            ),
+      )
 
   counts_in_range : (front : List ℕ) → Fits all.classes front → list_all (λ c. leb c most_count) front ≡ true
   counts_in_range front fits =
