@@ -1,3 +1,4 @@
 pub mod Stages
 pub mod Walks
 pub mod Shown
+pub mod MadeTrees
