@@ -3,11 +3,11 @@ use Rattle.std.proofs.Common.{◌≡◌, ℕ, ◌+◌, ◌≤◌, ◌<◌, Bool,
 use Rattle.std.specs.Prelude.{reverse}
 use Rattle.std.specs.List.{list_all}
 use Rattle.std.proofs.lemmas.Bool.{and_from, ltb-false, ltb-true}
-use Rattle.std.proofs.lemmas.List.{append-nil, drop_all, drop_more, reverse-append, take_more}
+use Rattle.std.proofs.lemmas.List.{append-nil, drop_all, drop_more, length-reverse, length-take-le, reverse-append, take_more}
 use Rattle.define_checks.specs.Caps.{classes_at, first_above, stage_row}
 use Rattle.define_checks.proofs.PassedCaps.{none_where_capped}
 use Rattle.define_pools.specs.Certificate.{Stage, is_capped}
-use Rattle.define_pools.specs.Pool.{Pool}
+use Rattle.define_pools.specs.Pool.{IsPool, Pool}
 use Rattle.define_proofs.specs.CapsHold.{CapsHold}
 use Rattle.define_covers.specs.Causes.{all_values}
 use Rattle.define_covers.specs.Covers.{FrontLine}
@@ -16,7 +16,7 @@ use Rattle.define_cover_texts.specs.CoverText.{keep_ranges}
 use Rattle.check_search.specs.Terms.{AreOfStage}
 use Rattle.check_search.specs.declared.terms.Terms.{Terms}
 use Rattle.laws_of_covers.specs.Made.{IsSearched, IsSearchedStage, TreesSearched}
-use Rattle.laws_of_covers.proofs.MadeRanges.{same_value_count}
+use Rattle.laws_of_covers.proofs.MadeRanges.{in_ranges_where_searched, same_value_count}
 
 -- ---- a number that is not found yet
 
@@ -73,6 +73,14 @@ module _ (pool : Pool) (stages : List Stage) where
 
     pub cap_holds : (trees : List (List FrontLine)) → Grows k trees → is_capped pool (earlier k) stage ≡ true
     cap_holds trees grows = (caps_from grows.capped).0
+
+    numbered : length (earlier k) + 1 ≡ k + 1
+    numbered = omega (arith, length-reverse (take k stages), length-take-le k stages (omega arith))
+
+    -- the lines of the search at stage `k` are in their ranges
+    pub ranges_kept : IsPool pool → (lines : List FrontLine) → IsSearchedStage pool (earlier k) stage lines → list_all (is_front_line pool (k + 1)) lines ≡ true
+    ranges_kept is_pool lines searched =
+        ap (λ n. list_all (is_front_line pool n) lines) (sym numbered) ∙ in_ranges_where_searched pool (earlier k) stage lines is_pool searched
 
     pub tree_more : (trees : List (List FrontLine)) (lines : List FrontLine) → Grows k trees → IsSearchedStage pool (earlier k) stage lines → list_all (is_front_line pool (k + 1)) lines ≡ true → Grows (k + 1) (trees ++ lines ∷ [])
     tree_more trees lines grows searched ranges = record {
