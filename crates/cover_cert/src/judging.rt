@@ -38,7 +38,7 @@ pub(crate) fn judge<L: Ledger>(
 }
 
 /// Brings a tally from the empty front to a front.
-fn go_to(classes: &Classes, tally: &mut Tally, front: &[usize])
+pub(crate) fn go_to(classes: &Classes, tally: &mut Tally, front: &[usize])
     requires fits { length front.now ≤ length classes.now.classes }
     requires within { AreWithin classes.now front.now }
     requires begins { Tracks classes.now [] classes.now.classes tally.old }
@@ -53,7 +53,7 @@ fn go_to(classes: &Classes, tally: &mut Tally, front: &[usize])
 }
 
 /// Brings a tally from a front back to the empty front.
-fn go_back(classes: &Classes, tally: &mut Tally, front: &[usize])
+pub(crate) fn go_back(classes: &Classes, tally: &mut Tally, front: &[usize])
     requires fits { length front.now ≤ length classes.now.classes }
     requires stands { Tracks classes.now front.now (drop (length front.now) classes.now.classes) tally.old }
     ensures { Tracks classes.now [] classes.now.classes tally.new }
@@ -67,7 +67,7 @@ fn go_back(classes: &Classes, tally: &mut Tally, front: &[usize])
 }
 
 /// True if the cause applies to the front of the tally.
-fn does_apply(terms: &Terms, tally: &Tally, front: &[usize], cause: Cause) -> bool
+pub(crate) fn does_apply(terms: &Terms, tally: &Tally, front: &[usize], cause: Cause) -> bool
     requires terms { AreTerms terms.now }
     requires fits { length front.now ≤ length terms.now.classes.classes }
     requires within { AreWithin terms.now.classes front.now }

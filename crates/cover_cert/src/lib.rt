@@ -7,13 +7,17 @@
 //! are helpers.
 #![tactic(auto)]
 
+mod causes;
 mod checking;
 mod judging;
+mod making;
 mod order;
 mod steps;
 mod trees;
 
+pub use cert_check::CheckStop;
 pub use check_reasons::{Refusal, Verdict};
 pub use checking::check_cover;
 pub use cover_model::{Cause, Cover, FrontLine, Fronts};
+pub use making::{Covered, cover};
 pub use steps::Steps;

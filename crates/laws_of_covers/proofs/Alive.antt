@@ -37,7 +37,7 @@ all_pass fails n (x ∷ xs) h =
           (λ number l m. (or_false (eqb n number && fails x) (list_any (λ (v, x). eqb v number && fails x) (enumerate_from (n + 1) xs)) (h number (omega arith) (omega arith))).1),
     )
 
-each_of_flat_map : {X Y : Type 0} (P : Y → Type 0) (f : X → List Y) (xs : List X) → AllByRecursion P (flat_map f xs) → AllByRecursion (λ x. AllByRecursion P (f x)) xs
+pub each_of_flat_map : {X Y : Type 0} (P : Y → Type 0) (f : X → List Y) (xs : List X) → AllByRecursion P (flat_map f xs) → AllByRecursion (λ x. AllByRecursion P (f x)) xs
 each_of_flat_map P f [] h = tt
 each_of_flat_map P f (x ∷ xs) h = (each_left P (f x) (flat_map f xs) h, each_of_flat_map P f xs (each_right P (f x) (flat_map f xs) h))
 

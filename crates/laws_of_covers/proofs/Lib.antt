@@ -7,3 +7,6 @@ pub mod StepByStep
 pub mod Counts
 pub mod Numbered
 pub mod Lines
+pub mod Made
+pub mod MadeRanges
+pub mod FirstCauses

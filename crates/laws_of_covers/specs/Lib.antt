@@ -3,3 +3,4 @@ pub mod CoverSteps
 pub mod FirstCause
 pub mod LineSteps
 pub mod Laws
+pub mod Made

@@ -7,6 +7,7 @@
 
 ghost use Rattle.define_covers.specs.CoversHold.{CapsAreLeft, LiveWhereNoCause, TreesCoverCaps, ValidIsCertified, ValidWhereCovered};
 ghost use Rattle.laws_of_covers.specs.CoverSteps.{BeginsWithLottery, GoesOnByStages};
+ghost use Rattle.laws_of_covers.specs.Made.{CoversWhereSearched, InRangesWhereSearched, SameValueCount, TreesCoverWhereSearched};
 ghost use Rattle.laws_of_covers.specs.Laws.{LiveWhereNoneFirst, NoneAboveWhereCovered, ValidIsGreatest, ValidWhereChecked};
 
 /// A front is live exactly if no cause applies to it. So if the lines of a tree have no fault, a search at the stage finds nothing above the
@@ -21,6 +22,14 @@ pub fn covered_fronts()
 pub fn covered_caps()
     ensures left { CapsAreLeft }
     ensures hold { TreesCoverCaps }
+{}
+
+/// The lines of a search that finds nothing cover what a search would enter, stage by stage, and a cover's text can spell them.
+pub fn searched_trees()
+    ensures lines { CoversWhereSearched }
+    ensures trees { TreesCoverWhereSearched }
+    ensures values { SameValueCount }
+    ensures in_ranges { InRangesWhereSearched }
 {}
 
 /// For each bundle, a cover is valid exactly if the certificate meets all but its caps, and each stage has a tree that covers it. It is
