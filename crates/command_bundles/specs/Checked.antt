@@ -1,5 +1,5 @@
--- What `check` answers for each verdict on a certificate, and if there is no verdict. The contracts of `told` and `stopped` in src/check.rt
--- cite it.
+-- What `check` answers for each verdict on a certificate, and if there is no verdict. The contracts of `verdict_answer` and
+-- `check_stop_answer` in src/check.rt cite it.
 use Rattle.std.specs.Prelude.{◌≡◌, ℕ}
 use Rattle.define_checks.specs.Reasons.{Refused, Valid, Verdict}
 use Rattle.cert_check.specs.declared.stops.CheckStop.{CheckStop}

@@ -41,7 +41,7 @@ fn checked(alloc: Global, nodes: u64, bundle: &Bundle) -> Result<Answer, AllocEr
 {
     match check(alloc, bundle, nodes) {
         Ok(verdict) => verdict_answer(alloc, &verdict),
-        Err(stop) => stopped(alloc, nodes, &stop),
+        Err(stop) => check_stop_answer(alloc, nodes, &stop),
     }
 }
 
@@ -61,8 +61,8 @@ pub fn verdict_answer(alloc: Global, verdict: &Verdict) -> Result<Answer, AllocE
     }
 }
 
-/// Returns the answer for a check that has no verdict because a search spent its visits. Fails if memory ran out.
-fn stopped(alloc: Global, nodes: u64, stop: &CheckStop) -> Result<Answer, AllocError>
+/// Returns the answer for a check that has no verdict because a search spent its visits. Fails if memory ran out. `cover` gives it too.
+pub fn check_stop_answer(alloc: Global, nodes: u64, stop: &CheckStop) -> Result<Answer, AllocError>
     ensures { IfOk result (λ answer. TellsStop nodes stop.now (saying answer)) }
 {
     match stop {

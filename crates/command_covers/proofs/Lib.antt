@@ -1,1 +1,2 @@
 mod CheckedCovers
+mod MadeCovers

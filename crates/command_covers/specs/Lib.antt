@@ -1,2 +1,4 @@
 pub mod CoverFormat
 pub mod CheckCover
+pub mod ItsCover
+pub mod Covered

@@ -1,4 +1,4 @@
--- What `check`, `verify` and `check-cover` answer about a text that the source told.
+-- What `check`, `cover`, `verify` and `check-cover` answer about a text that the source told.
 use Rattle.std.proofs.Common.{◌≡◌, ◌∙◌, ◌+◌, ◌≤◌, ℕ, List, length, Option, Some, None, Ok, ap, subst, arith}
 use Rattle.std.specs.Prelude.{◌≢◌, ◌↔◌}
 use Rattle.std.proofs.lemmas.List.{length-append}
@@ -26,10 +26,15 @@ use Rattle.command_shell.specs.Subjects.{About, AboutFault, AboutValue, Format}
 use Rattle.command_shell.specs.Told.{Told}
 use Rattle.command_covers.specs.CheckCover.{CheckCoverMeans}
 use Rattle.command_covers.specs.CoverFormat.{cover_format}
+use Rattle.command_covers.specs.ItsCover.{CoverMeans}
 use Rattle.command_meanings.specs.Check.{CheckMeans}
 use Rattle.command_meanings.specs.Verify.{VerifyMeans}
-use Rattle.command_office.specs.About.{ToldText}
-use Rattle.command_office.specs.Office.{Answers}
+use Rattle.command_texts.specs.declared.commands.TextCommand.TheVariants as texts
+use Rattle.command_stores.specs.StoreTold.{StoreTold}
+use Rattle.command_office.specs.declared.asked.Asked.{Asked}
+use Rattle.command_office.specs.declared.asked.Asked.TheVariants as asks
+use Rattle.command_office.specs.About.{ToldText, searches_of}
+use Rattle.command_office.specs.Office.{Answers, AnswersRightly}
 use Rattle.command_office.proofs.Reading.{its_status}
 
 -- if the source told that it held `text`, the bytes that were read are `text`
@@ -80,11 +85,28 @@ certified nodes status bundle (Prints Rejected text) right is n5 = (λ s. absurd
 certified nodes status bundle (Stops Spent text) right is n5 = absurd (n5 is)
 certified nodes status bundle answer right is n5 = absurd right
 
-pub check_is_exact : (nodes : ℕ) (told : Told) → Answers bundle_format (CheckMeans nodes) told → (bundle : Bundle) → IsBundle bundle → ToldText told.source (bundle_spelling bundle) →
+check_is_exact : (nodes : ℕ) (told : Told) → Answers bundle_format (CheckMeans nodes) told → (bundle : Bundle) → IsBundle bundle → ToldText told.source (bundle_spelling bundle) →
     told.status ≢ 5 → told.status ≢ 8 → told.status ≢ 12 → told.status ≡ 0 ↔ Certifies bundle.pool bundle.answer.lottery bundle.answer.stages
 check_is_exact nodes told outcome bundle is from n5 n8 n12 =
     let it = due bundle_format (CheckMeans nodes) told bundle (bundle_spelling bundle) (bundle_is_read bundle is) from n8 n12 outcome in
     certified nodes told.status bundle it.answer it.right it.status n5
+
+-- if no budget is spent, the status of `cover` is 0 exactly if the certificate holds
+covers_certified : (nodes status : ℕ) (bundle : Bundle) (answer : Saying) → IsRight (CoverMeans nodes bundle) answer → status ≡ status_of answer → status ≢ 5 →
+    status ≡ 0 ↔ Certifies bundle.pool bundle.answer.lottery bundle.answer.stages
+covers_certified nodes status bundle (Prints Done text) right is n5 = (λ s. right.greatest.certified, λ holds. is)
+covers_certified nodes status bundle (Prints Rejected text) right is n5 = (λ s. absurd (cc (is, s)), λ holds. absurd (right.fails holds))
+covers_certified nodes status bundle (Stops Spent text) right is n5 = absurd (n5 is)
+covers_certified nodes status bundle answer right is n5 = absurd right
+
+pub certificate_is_exact : (it : Option Asked) (told : StoreTold) (nodes : ℕ) → AnswersRightly it told → searches_of it ≡ Some nodes → (bundle : Bundle) → IsBundle bundle →
+    ToldText told.call.source (bundle_spelling bundle) → told.call.status ≢ 5 → told.call.status ≢ 8 → told.call.status ≢ 12 →
+    told.call.status ≡ 0 ↔ Certifies bundle.pool bundle.answer.lottery bundle.answer.stages
+certificate_is_exact (Some (asks.Text (texts.Check check))) told nodes right has bundle is from n5 n8 n12 = check_is_exact check.nodes told.call right.call bundle is from n5 n8 n12
+certificate_is_exact (Some (asks.Text (texts.Cover cover))) told nodes right has bundle is from n5 n8 n12 =
+    let it = due bundle_format (CoverMeans cover.nodes) told.call bundle (bundle_spelling bundle) (bundle_is_read bundle is) from n8 n12 right.call in
+    covers_certified cover.nodes told.call.status bundle it.answer it.right it.status n5
+certificate_is_exact other told nodes right has bundle is from n5 n8 n12 = absurd (cc (has))
 
 -- the status of `verify` is 0 exactly if the proof is valid
 proved : (status : ℕ) (proof : Proof) (answer : Saying) → IsRight (VerifyMeans proof) answer → status ≡ status_of answer → status ≡ 0 ↔ verdict proof ≡ Valid

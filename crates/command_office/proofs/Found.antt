@@ -333,6 +333,7 @@ module _ (told : StoreTold) where
   none (Some (asks.Text (texts.ShortDraw tickets seal digits))) text right = absurd ((printed_about _ _ told NonePrinted text right).means.right)
   none (Some (asks.Text (texts.Why it))) text right = absurd ((printed_about _ _ told NonePrinted text right).means.right)
   none (Some (asks.Text (texts.Check it))) text right = absurd ((printed_about _ _ told NonePrinted text right).means.right)
+  none (Some (asks.Text (texts.Cover it))) text right = absurd ((printed_about _ _ told NonePrinted text right).means.right)
   none (Some (asks.Text (texts.CheckCover it))) text right = absurd ((printed_about _ _ told NonePrinted text right).means.right)
   none (Some (asks.Text (texts.Question it))) text right = absurd ((printed_about _ _ told NonePrinted text right).means.right)
   none (Some (asks.Step store (steps.Solve round limits workers))) text right =

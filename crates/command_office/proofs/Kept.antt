@@ -13,7 +13,7 @@ use Rattle.command_office.specs.declared.asked.Asked.{Asked}
 use Rattle.command_office.specs.declared.asked.Asked.TheVariants as asks
 use Rattle.command_office.specs.Office.{AnswersRightly, Asks, EndsRightly, LeavesDoor, LeavesStore, NoMemory, OfficeIsRight, WantsMemory}
 use Rattle.command_office.specs.Headline.{Answered, CutOff, Ends, Headline, IsRightAnswer, KeeperFault, Keeps, Promises, ReadFault, TooLong, Usage, WantOfMemory}
-use Rattle.command_office.proofs.Checkers.{check_is_exact, cover_is_exact, verify_is_exact}
+use Rattle.command_office.proofs.Checkers.{certificate_is_exact, cover_is_exact, verify_is_exact}
 use Rattle.command_office.proofs.Ending.{call_alone, call_ends, call_stays}
 use Rattle.command_office.proofs.Exact.{exactly}
 use Rattle.command_office.proofs.Found.{done, drawn, none}
@@ -49,7 +49,7 @@ module _ (told : StoreTold) (it : Option Asked) where
     lottery = if_done (λ text answer is. done told it text answer is) ends;
     no_panel = if_none (λ text answer. none told it text answer) ends;
     exactly = λ nodes pool has from n8 n9 n12. exactly told nodes pool it right has from n8 n9 n12;
-    certificate = λ check is bundle is_bundle from n5 n8 n12. check_is_exact check.nodes told.call (subst (λ one. AnswersRightly one told) is right).call bundle is_bundle from n5 n8 n12;
+    certificate = λ nodes has bundle is_bundle from n5 n8 n12. certificate_is_exact it told nodes right has bundle is_bundle from n5 n8 n12;
     proof = λ verify is proof is_proof from n8 n12. verify_is_exact told.call (subst (λ one. AnswersRightly one told) is right).call proof is_proof from n8 n12;
     cover = λ check is cover is_cover from n8 n12. cover_is_exact told.call (subst (λ one. AnswersRightly one told) is right).call cover is_cover from n8 n12;
     draw = if_done (λ text answer is. drawn told it text answer) ends;
@@ -64,7 +64,7 @@ module _ (told : StoreTold) (it : Option Asked) where
     lottery = λ s. absurd (cc (twelve, s));
     no_panel = λ s. absurd (cc (twelve, s));
     exactly = λ nodes pool has from n8 n9 n12. absurd (n12 twelve);
-    certificate = λ check is bundle is_bundle from n5 n8 n12. absurd (n12 twelve);
+    certificate = λ nodes has bundle is_bundle from n5 n8 n12. absurd (n12 twelve);
     proof = λ verify is proof is_proof from n8 n12. absurd (n12 twelve);
     cover = λ check is cover is_cover from n8 n12. absurd (n12 twelve);
     draw = λ s. absurd (cc (twelve, s));

@@ -1,6 +1,6 @@
 -- What a call is about: the pool or the bundle whose text the source held, the made pool, or that of an open round. The headline cites it.
 -- No contract can say what a terminal, a file or a pipe held: for such a source `HeldPool` and `HeldBundle` hold of every pool and bundle.
-use Rattle.std.specs.Prelude.{◌≡◌, ◌⊎◌, ◌≤◌, ℕ, Bool, true, false, List, length, Option, Some, Ok}
+use Rattle.std.specs.Prelude.{◌≡◌, ◌⊎◌, ◌≤◌, ℕ, Bool, true, false, List, length, Option, Some, None, Ok}
 use Rattle.define_bundles.specs.BundleText.{Bundle, IsBundle, bundle_spelling}
 use Rattle.define_made_pools.specs.MadePools.{made_pool}
 use Rattle.define_offices.specs.Pools.{pool_of}
@@ -70,7 +70,13 @@ ToldPool (Some (asks.Make it)) told pool = pool ≡ made_pool it.seed it.volunte
 ToldPool (Some (asks.Step store (steps.Solve round limits workers))) told pool = ToldRoundPool round told pool
 ToldPool other told pool = IsPool pool × ToldText told.call.source (spelling pool)
 
--- ---- a store
+-- ---- a check by searches, and a store
+
+-- the visits that each search may make, for the commands that check a certificate by searches
+abbrev pub searches_of : Option Asked → Option ℕ
+searches_of (Some (asks.Text (texts.Check it))) = Some it.nodes
+searches_of (Some (asks.Text (texts.Cover it))) = Some it.nodes
+searches_of other = None
 
 -- the words ask for a command over a store, other than `serve`
 abbrev pub uses_store : Option Asked → Bool

@@ -36,7 +36,6 @@ use Rattle.command_shell.specs.Formats.{pool_format}
 use Rattle.command_shell.specs.Lines.{keeper_fault_line, want_of_memory_line}
 use Rattle.command_shell.specs.Outcomes.{IsAboutSource, IsCutOff, IsInput, IsReadFault, IsStopped, IsTold, IsTooLong}
 use Rattle.command_shell.specs.Told.{Gains, HasFaulted}
-use Rattle.command_bundles.specs.declared.check.Check.{Check}
 use Rattle.command_covers.specs.declared.check_cover.CheckCover.{CheckCover}
 use Rattle.command_meanings.specs.Legs.{LegsMeans}
 use Rattle.command_meanings.specs.Lottery.{LotteryMeans}
@@ -60,7 +59,7 @@ use Rattle.command_office.specs.Steps.{step_command}
 use Rattle.command_office.specs.declared.asked.Asked.{Asked}
 use Rattle.command_office.specs.declared.asked.Asked.TheVariants as asks
 use Rattle.command_office.specs.declared.steps.Step.TheVariants as steps
-use Rattle.command_office.specs.About.{HeldBundle, HeldPool, IsItsPool, IsRoundPool, ToldPool, ToldText, uses_store}
+use Rattle.command_office.specs.About.{HeldBundle, HeldPool, IsItsPool, IsRoundPool, ToldPool, ToldText, searches_of, uses_store}
 use Rattle.command_office.specs.Again.{RepeatsChangeNothing}
 use Rattle.command_office.specs.Isolation.{TellsNothingOfOthers}
 use Rattle.command_office.specs.Records.{CallsAreRecorded}
@@ -162,8 +161,8 @@ pub record Keeps (it : Option Asked) (told : StoreTold) : Type 0 where
   -- 8, 9 and 12 aside: `panel`, `lottery`, `legs`, `make` and `solve`, about a pool that was told, have status 1 exactly if it has no quota panel and the opening search is within its budget
   pub exactly : (nodes : ℕ) (pool : Pool) → nodes_of it ≡ Some nodes → ToldPool it told pool → told.call.status ≢ 8 → told.call.status ≢ 9 → told.call.status ≢ 12 →
       told.call.status ≡ 1 ↔ ((panels pool ≡ []) × (visits_of pool ≤ nodes))
-  -- 5, 8 and 12 aside: if the text of a bundle was told, `check` has status 0 exactly if the certificate holds. Then the lottery is leximin greatest (`CheckMeans`)
-  pub certificate : (check : Check) → it ≡ Some (asks.Text (texts.Check check)) → (bundle : Bundle) → IsBundle bundle → ToldText told.call.source (bundle_spelling bundle) →
+  -- 5, 8 and 12 aside: if the text of a bundle was told, `check` and `cover` have status 0 exactly if the certificate holds. Then the lottery is leximin greatest (`CheckMeans`)
+  pub certificate : (nodes : ℕ) → searches_of it ≡ Some nodes → (bundle : Bundle) → IsBundle bundle → ToldText told.call.source (bundle_spelling bundle) →
       told.call.status ≢ 5 → told.call.status ≢ 8 → told.call.status ≢ 12 → told.call.status ≡ 0 ↔ Certifies bundle.pool bundle.answer.lottery bundle.answer.stages
   -- 8 and 12 aside: if the text of a proof was told, `verify` has status 0 exactly if the proof is valid. Then its lottery is leximin greatest, or its pool has no quota panel (`VerifyMeans`)
   pub proof : (verify : Verify) → it ≡ Some (asks.Text (texts.Verify verify)) → (proof : Proof) → IsProof proof → ToldText told.call.source (proof_spelling proof) →

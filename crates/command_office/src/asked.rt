@@ -160,6 +160,7 @@ fn asked_by<'a>(given: &Given<'a>) -> Option<Asked<'a>>
         | CommandName::Why
         | CommandName::LoosenByProof
         | CommandName::Check
+        | CommandName::Cover
         | CommandName::CheckCover => text_command_of(given),
     }
 }

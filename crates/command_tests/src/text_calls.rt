@@ -52,7 +52,7 @@ const USAGE_ROWS: &[Row] = &[
         FOUR,
         2,
         b"",
-        b"error: 'sortition' requires a subcommand but one was not provided\n  [subcommands: prove, keep, verify, bundle, explain, why, loosen-by-proof, page, seal, dice, tickets, draw, chances, short, short-draw, import-charter, import-rules, import-register, solve, drop, next-round, show, report, pool, serve, panel, loosen, lottery, legs, check, check-cover, make, help]\n\nUsage: sortition <COMMAND>\n\nFor more information, try '--help'.\n",
+        b"error: 'sortition' requires a subcommand but one was not provided\n  [subcommands: prove, keep, verify, bundle, explain, why, loosen-by-proof, page, seal, dice, tickets, draw, chances, short, short-draw, import-charter, import-rules, import-register, solve, drop, next-round, show, report, pool, serve, panel, loosen, lottery, legs, check, cover, check-cover, make, help]\n\nUsage: sortition <COMMAND>\n\nFor more information, try '--help'.\n",
     ),
     (
         &["panel", "--nodes", "x"],
@@ -301,7 +301,7 @@ const BUNDLE_ROWS: &[Row] = &[
     ),
 ];
 
-/// Calls of `dice`, `tickets`, `chances`, `check` and `check-cover`.
+/// Calls of `dice`, `tickets`, `chances`, `check`, `cover` and `check-cover`.
 const CHECK_ROWS: &[Row] = &[
     (
         &["dice"],
@@ -341,6 +341,17 @@ const CHECK_ROWS: &[Row] = &[
     (&["check"], FOUR, 3, b"", b"input\t1\t13\n"),
     (&["check"], MORE_BUNDLE, 3, b"", b"input\t18\t17\n"),
     (&["check"], STRANGER_BUNDLE, 3, b"", b"input\t14\t15\n"),
+    (&["cover"], FOUR_BUNDLE, 0, FOUR_COVER, b""),
+    (&["cover"], PASSED_CAP, 11, b"refused\t1\t8\t0\t3\n", b""),
+    (&["cover"], MEN_LEFT, 11, b"refused\t1\t10\t2\n", b""),
+    (
+        &["cover", "--nodes", "0"],
+        EITHER_BUNDLE,
+        5,
+        b"",
+        b"spent\tnodes\t0\t1\t0\t0\n",
+    ),
+    (&["cover"], FOUR, 3, b"", b"input\t1\t13\n"),
     (&["check-cover"], FOUR_COVER, 0, b"valid\n", b""),
     (
         &["check-cover"],

@@ -91,6 +91,7 @@ command_asked name.Why given = why_asked given
 command_asked name.LoosenByProof given = loosen_by_proof_asked given
 command_asked name.Page given = page_from (text_of (codes "drawn") given) (number_of (codes "tickets") given)
 command_asked name.Check given = option_map (λ nodes. text.Check (record { nodes = nodes })) (number_of (codes "nodes") given)
+command_asked name.Cover given = option_map (λ nodes. text.Cover (record { nodes = nodes })) (number_of (codes "nodes") given)
 command_asked name.CheckCover given = Some (text.CheckCover (record {}))
 command_asked other given = None
 

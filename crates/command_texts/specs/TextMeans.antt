@@ -4,6 +4,7 @@ use Rattle.std.specs.Prelude.{ℕ, List}
 use Rattle.command_bundles.specs.ShortDraw.{ShortDrawMeans}
 use Rattle.command_covers.specs.CheckCover.{CheckCoverMeans}
 use Rattle.command_covers.specs.CoverFormat.{cover_format}
+use Rattle.command_covers.specs.ItsCover.{CoverMeans}
 use Rattle.command_explain.specs.AnyTexts.{any_format}
 use Rattle.command_explain.specs.Explained.{Explains}
 use Rattle.command_loosen.specs.LoosenByProof.{LoosensWithin}
@@ -50,6 +51,7 @@ TextMeans (text.DrawnPage tickets digits) = OneAnswer bundle_or_proof_format (Dr
 TextMeans (text.Panel it) = OneAnswer pool_format (PanelMeans it.nodes)
 TextMeans (text.Loosen it) = OneAnswer pool_format (LoosenMeans it.nodes)
 TextMeans (text.Check it) = OneAnswer bundle_format (CheckMeans it.nodes)
+TextMeans (text.Cover it) = OneAnswer bundle_format (CoverMeans it.nodes)
 TextMeans (text.CheckCover it) = OneAnswer cover_format CheckCoverMeans
 -- all questions about a bundle
 TextMeans (text.Question it) = OneAnswer bundle_format (QuestionMeans it)

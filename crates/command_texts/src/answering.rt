@@ -69,6 +69,7 @@ pub fn answer_text(
             answer_about(alloc, &page, bytes)
         }
         TextCommand::Check(check) => answer_about(alloc, check, bytes),
+        TextCommand::Cover(cover) => answer_about(alloc, cover, bytes),
         TextCommand::CheckCover(check) => answer_about(alloc, check, bytes),
         TextCommand::Question(question) => answer_about(alloc, question, bytes),
         TextCommand::Explain(explain) => answer_about(alloc, explain, bytes),

@@ -17,7 +17,7 @@ ghost use Rattle.command_texts.specs.TextAsked.{
 
 use crate::commands::TextCommand;
 use command_bundles::{Check, Seal};
-use command_covers::CheckCover;
+use command_covers::{CheckCover, ItsCover};
 use command_explain::Explain;
 use command_loosen::{Loosen, LoosenByProof};
 use command_page::Page;
@@ -62,6 +62,10 @@ pub fn text_asked<'a>(given: &Given<'a>) -> Option<TextCommand<'a>>
         CommandName::Check => {
             let nodes = given.number("nodes")?;
             Some(TextCommand::Check(Check { nodes }))
+        }
+        CommandName::Cover => {
+            let nodes = given.number("nodes")?;
+            Some(TextCommand::Cover(ItsCover { nodes }))
         }
         CommandName::CheckCover => Some(TextCommand::CheckCover(CheckCover)),
         _ => None,

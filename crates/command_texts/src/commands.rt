@@ -1,7 +1,7 @@
 //! The commands that read one text, with their arguments.
 
 use command_bundles::{Check, Seal};
-use command_covers::CheckCover;
+use command_covers::{CheckCover, ItsCover};
 use command_explain::Explain;
 use command_loosen::{Loosen, LoosenByProof};
 use command_page::Page;
@@ -58,6 +58,8 @@ pub enum TextCommand<'a> {
     },
     /// The verdict on the certificate of a bundle.
     Check(Check),
+    /// A cover of a bundle.
+    Cover(ItsCover),
     /// The verdict on a cover.
     CheckCover(CheckCover),
     /// A text that answers a question about a bundle.

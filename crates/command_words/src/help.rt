@@ -34,6 +34,7 @@ To check what was published:
   chances          Prints each volunteer's chance in a bundle
   page             Prints a page to look at, with pictures of the lottery, also of a round in a store
   check            Checks the certificate of a bundle, by a search
+  cover            Makes a cover of a bundle, which shows without a search that its certificate holds
   check-cover      Checks a cover, front by front, without a search
   explain          Says in words what a text holds, or what is wrong with a file
 

@@ -351,6 +351,13 @@ const RUN_COMMANDS: &[TableCommand] = &[
         options: &[NODES],
     },
     CommandWords {
+        command: CommandName::Cover,
+        name: "cover",
+        help: "Prints a cover of the bundle on standard input, which shows without a search that its certificate holds",
+        example: "Example: sortition cover < city.bundle > city.cover",
+        options: &[NODES],
+    },
+    CommandWords {
         command: CommandName::CheckCover,
         name: "check-cover",
         help: "Checks the cover on standard input, front by front, without a search",

@@ -43,6 +43,8 @@ pub enum CommandName {
     Legs,
     /// The verdict on the certificate of a bundle.
     Check,
+    /// A cover of a bundle.
+    Cover,
     /// The verdict on a cover.
     CheckCover,
     /// The summary of the run over a made pool.

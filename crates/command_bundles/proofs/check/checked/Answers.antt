@@ -12,6 +12,6 @@ returns-in-Ok c =
 
 pub returns-in-Err : goal.returns-in-Err
 returns-in-Err c =
-    IfOk-weaker c.stopped.result _ _
+    IfOk-weaker c.check_stop_answer.result _ _
     (λ answer tells. stop_is_told c.args.nodes c.args.bundle.now c.in-Err.stop (saying answer) c.in-Err.ensures.answer tells)
-    c.stopped.ensures
+    c.check_stop_answer.ensures

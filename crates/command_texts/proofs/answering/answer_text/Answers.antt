@@ -46,5 +46,8 @@ returns-in-Question c = as_command _ _ _ _ c.in-Question.is c.answer_about-in-Qu
 pub returns-in-Explain : goal.returns-in-Explain
 returns-in-Explain c = as_command _ _ _ _ c.in-Explain.is c.answer_about-in-Explain.ensures
 
+pub returns-in-Cover : goal.returns-in-Cover
+returns-in-Cover c = as_command _ _ _ _ c.in-Cover.is c.answer_about-in-Cover.ensures
+
 pub returns-in-CheckCover : goal.returns-in-CheckCover
 returns-in-CheckCover c = as_command _ _ _ _ c.in-CheckCover.is c.answer_about-in-CheckCover.ensures

@@ -54,7 +54,7 @@ returns-clause-imports c = record {
 
 pub returns-clause-searches : goal.returns-clause-searches
 unfolding given_in command_table proof_commands draw_commands office_commands run_commands clap_on_literals
-returns-clause-searches c = record { panel = refl; panel_least = refl; panel_most = refl; panel_more = refl; loosen = refl; loosen_least = refl; loosen_most = refl; loosen_more = refl; why = refl; why_least = refl; why_most = refl; by_proof = refl; by_proof_more = refl; why_more = refl; check = refl; check_least = refl; check_most = refl; check_more = refl }
+returns-clause-searches c = record { panel = refl; panel_least = refl; panel_most = refl; panel_more = refl; loosen = refl; loosen_least = refl; loosen_most = refl; loosen_more = refl; why = refl; why_least = refl; why_most = refl; by_proof = refl; by_proof_more = refl; why_more = refl; cover = refl; cover_least = refl; cover_most = refl; cover_more = refl; check = refl; check_least = refl; check_most = refl; check_more = refl }
 
 pub returns-clause-lottery : goal.returns-clause-lottery
 unfolding given_in command_table proof_commands draw_commands office_commands run_commands clap_on_literals
