@@ -10,3 +10,4 @@ pub mod Lines
 pub mod Made
 pub mod MadeRanges
 pub mod FirstCauses
+pub mod Once

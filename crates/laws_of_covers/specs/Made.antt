@@ -57,3 +57,12 @@ InRangesWhereSearched = (pool : Pool) (earlier : List Stage) (stage : Stage) (li
 -- how many values the classes at a stage have in all categories is how many the pool has
 abbrev pub SameValueCount : Type 0
 SameValueCount = (pool : Pool) (stages : List Stage) → length (all_values (classes_at pool stages)) ≡ value_count pool
+
+-- a search has one list of lines
+abbrev pub SearchedOnce : Type 0
+SearchedOnce = (all : Classes) (closed : List Row) (row : Row) (first second : List FrontLine) → IsSearched all closed row first → IsSearched all closed row second → first ≡ second
+
+-- stages have one list of trees
+abbrev pub TreesSearchedOnce : Type 0
+TreesSearchedOnce = (pool : Pool) (earlier later : List Stage) (first second : List (List FrontLine)) → length first ≡ length later → length second ≡ length later →
+    TreesSearched pool earlier later first → TreesSearched pool earlier later second → first ≡ second

@@ -7,7 +7,7 @@
 
 ghost use Rattle.define_covers.specs.CoversHold.{CapsAreLeft, LiveWhereNoCause, TreesCoverCaps, ValidIsCertified, ValidWhereCovered};
 ghost use Rattle.laws_of_covers.specs.CoverSteps.{BeginsWithLottery, GoesOnByStages};
-ghost use Rattle.laws_of_covers.specs.Made.{CoversWhereSearched, InRangesWhereSearched, SameValueCount, TreesCoverWhereSearched};
+ghost use Rattle.laws_of_covers.specs.Made.{CoversWhereSearched, InRangesWhereSearched, SameValueCount, SearchedOnce, TreesCoverWhereSearched, TreesSearchedOnce};
 ghost use Rattle.laws_of_covers.specs.Laws.{LiveWhereNoneFirst, NoneAboveWhereCovered, ValidIsGreatest, ValidWhereChecked};
 
 /// A front is live exactly if no cause applies to it. So if the lines of a tree have no fault, a search at the stage finds nothing above the
@@ -30,6 +30,12 @@ pub fn searched_trees()
     ensures trees { TreesCoverWhereSearched }
     ensures values { SameValueCount }
     ensures in_ranges { InRangesWhereSearched }
+{}
+
+/// A search that finds nothing has one list of lines, and stages have one list of trees.
+pub fn made_once()
+    ensures lines { SearchedOnce }
+    ensures trees { TreesSearchedOnce }
 {}
 
 /// For each bundle, a cover is valid exactly if the certificate meets all but its caps, and each stage has a tree that covers it. It is
