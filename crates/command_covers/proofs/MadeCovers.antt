@@ -1,5 +1,5 @@
 -- The answers of `cover` for a cover that was made, for a refusal and for a stop are right by its meaning, and no others are.
-use Rattle.std.proofs.Common.{◌≡◌, ◌∙◌, ℕ, List, [], length, Result, Ok, ap, refl, sym, subst}
+use Rattle.std.proofs.Common.{◌≡◌, ◌∙◌, ℕ, List, [], length, Result, Ok, ap, ap₂, refl, sym, subst}
 use Rattle.std.specs.Prelude.{Err, IsFalse, MatchResult, Some, false}
 use Rattle.define_bundles.specs.BundleText.{Bundle, IsBundle}
 use Rattle.define_checks.specs.Reasons as check
@@ -62,13 +62,16 @@ cover_stop_is_told nodes bundle (NodesSpent stage) answer says tells =
     subst (IsRight (CoverMeans nodes bundle)) (sym tells) (record { stage = stage; verdict = says; line = refl })
 cover_stop_is_told nodes bundle OutOfMemory answer says tells = absurd tells
 
+abbrev cover_with : Bundle → List (List covers.FrontLine) → covers.Cover
+cover_with bundle trees = record { bundle = bundle; trees = trees }
+
 -- covers of one bundle with the lines of its searches are the same
 same_cover : (bundle : Bundle) (first second : covers.Cover) → IsCover first → IsCover second → IsMadeOf bundle first → IsMadeOf bundle second → first ≡ second
 same_cover bundle first second is also one two =
     let many = is.one_each ∙ ap (λ (b : Bundle). length b.answer.stages) one.same in
     let others = also.one_each ∙ ap (λ (b : Bundle). length b.answer.stages) two.same in
     let trees = trees_searched_once bundle.pool [] bundle.answer.stages first.trees second.trees many others one.searched two.searched in
-    cc (one.same, two.same, trees)
+    ap₂ cover_with (one.same ∙ sym two.same) trees
 
 pub cover_once : (nodes : ℕ) (bundle : Bundle) → HasOneAnswer (CoverMeans nodes bundle)
 cover_once nodes bundle (Prints Done one) (Prints Done two) first second =

@@ -1,5 +1,7 @@
 //! The input of `check-cover`: a cover, as `cover_text` reads it.
 
+ghost use Rattle.std.specs.Prelude.{◌≡◌};
+
 use command_shell::Subject;
 use cover_cert::Cover;
 use cover_text::{ReadCover, read_cover};

@@ -1,5 +1,5 @@
 -- The answers for a stop of the run are right by `LotteryMeans`, `LegsMeans` and `MakeMeans`.
-use Rattle.std.proofs.Common.{◌≡◌, ℕ, List, Err, refl, ap, sym, subst, tt}
+use Rattle.std.proofs.Common.{◌≡◌, ℕ, List, Err, refl, ap, sym, subst}
 use Rattle.define_legs.specs.Legs.{RunHasLegs}
 use Rattle.define_made_pools.specs.MadePools.{made_pool}
 use Rattle.define_made_pools.specs.Summary.{Sizes, summary_text}

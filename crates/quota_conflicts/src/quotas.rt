@@ -2,12 +2,12 @@
 //! `texts` use this.
 
 ghost use Rattle.std.specs.Prelude.{◌≡◌, ◌<◌, count_by, length, nat_lt, IsTrue, slice_index};
-ghost use Rattle.std.specs.List.{list_all};
-ghost use Rattle.define_pools.specs.Pool.{volunteer as volunteer_of};
+ghost use Rattle.std.specs.List.{list_all, list_any, range_with_len};
+ghost use Rattle.define_pools.specs.Pool.{share_household as share_of, volunteer as volunteer_of};
 ghost use Rattle.define_conflicts.specs.Quotas.{bound as bound_of, counts as counts_of, is_quota_of as is_of, meets as meets_of, miss as miss_of, side_bound, value_in as value_of};
 
 use define_conflicts::{Counted, Quota, Side};
-use pool_model::{BoundedValue, Category, Pool, share_household};
+use pool_model::{BoundedValue, Category, Pool, Volunteer, share_household};
 
 /// True if volunteer `i` is among those whom a quota counts.
 pub(crate) fn counts(pool: &Pool, counted: Counted, i: usize) -> bool
@@ -90,7 +90,14 @@ fn is_first(pool: &Pool, member: usize) -> bool
     let volunteers = pool.volunteers();
     member < volunteers.len()
         && share_household(volunteers, member, member)
-        && !(0..member).any(|other| share_household(volunteers, member, other))
+        && !shares_with_earlier(volunteers, member)
+}
+
+/// True if a volunteer shares a household with one of a lower number.
+fn shares_with_earlier(volunteers: &[Volunteer], member: usize) -> bool
+    ensures { result ≡ list_any (share_of volunteers.now member) (range_with_len 0 member) }
+{
+    (0..member).any(|other| share_household(volunteers, member, other))
 }
 
 /// True if the pool has a category and a value at these places.

@@ -1,5 +1,5 @@
 use Rattle.command_covers.proofs.check_cover.checked.Given as goal
 
 -- the ledger is that of the blank
-pub ghosts-judged : goal.ghosts-judged
+abbrev pub ghosts-judged : goal.ghosts-judged
 ghosts-judged a = record { name = a.blank.name; parts = a.blank.parts }
