@@ -119,6 +119,10 @@ pub(crate) const EITHER: &[u8] =
 pub(crate) const EITHER_BUNDLE: &[u8] =
     b"bundle\t1\npool\t1\nsize\t1\ncategory\tone\nvalue\tx\t0\t1\nvalue\ty\t0\t1\nvolunteer\ta\tx\nvolunteer\tb\ty\nend\ntotal\t2\npanel\t1\t0\npanel\t1\t1\nstage\t1\t1\t1\ndone\n";
 
+/// `EITHER_BUNDLE` with a cover: the empty front can't exceed the cap.
+pub(crate) const EITHER_COVER: &[u8] =
+    b"cover\t1\nbundle\t1\npool\t1\nsize\t1\ncategory\tone\nvalue\tx\t0\t1\nvalue\ty\t0\t1\nvolunteer\ta\tx\nvolunteer\tb\ty\nend\ntotal\t2\npanel\t1\t0\npanel\t1\t1\nstage\t1\t1\t1\ndone\ntree\t1\nfront\tcap\t0\nclose\n";
+
 /// Two women and two men. One woman is gone, and one man is seated.
 pub(crate) const REPLACED: &[u8] =
     b"pool\t1\nsize\t2\ncategory\tgender\nvalue\tfemale\t1\t1\nvalue\tmale\t1\t1\nvolunteer\ta\tfemale\nvolunteer\tb\tfemale\nvolunteer\tc\tmale\nvolunteer\td\tmale\ngone\ta\nseated\tc\nend\n";
