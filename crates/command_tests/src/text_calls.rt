@@ -2,10 +2,11 @@
 
 use crate::page_texts::{MARKED_BUNDLE, MARKED_PAGE};
 use crate::texts::{
-    COUPLE_PROOF, CROSSED, DOUBLED_PROOF, EITHER_BUNDLE, FIVE_BUNDLE, FOUR, FOUR_BUNDLE,
-    FOUR_BUNDLE_PROVED, FOUR_COVER, FOUR_PROOF, FOUR_PROVED, LATER, MEN_LEFT, MORE_BUNDLE, NOBODY,
-    ONE_WOMAN, ONE_WOMAN_BUNDLE, OPEN_COVER, PASSED_CAP, SHORT, SHORT_COVER, SHORT_PROVED,
-    STRANGER_BUNDLE, SURE_BUNDLE, TOTAL_OF_THREE, WIDE_BUNDLE, WRONG_COVER, WRONG_TOTAL,
+    COUPLE_PROOF, CROSSED, DOUBLED_PROOF, EITHER_BUNDLE, EITHER_COVER, FIVE_BUNDLE, FOUR,
+    FOUR_BUNDLE, FOUR_BUNDLE_PROVED, FOUR_COVER, FOUR_PROOF, FOUR_PROVED, LATER, MEN_LEFT,
+    MORE_BUNDLE, NOBODY, ONE_WOMAN, ONE_WOMAN_BUNDLE, OPEN_COVER, PASSED_CAP, SHORT, SHORT_COVER,
+    SHORT_PROVED, STRANGER_BUNDLE, SURE_BUNDLE, TOTAL_OF_THREE, WIDE_BUNDLE, WRONG_COVER,
+    WRONG_TOTAL,
 };
 use command_shell::{Answer, Status};
 use command_texts::{answer_text, text_asked};
@@ -342,6 +343,7 @@ const CHECK_ROWS: &[Row] = &[
     (&["check"], MORE_BUNDLE, 3, b"", b"input\t18\t17\n"),
     (&["check"], STRANGER_BUNDLE, 3, b"", b"input\t14\t15\n"),
     (&["cover"], FOUR_BUNDLE, 0, FOUR_COVER, b""),
+    (&["cover"], EITHER_BUNDLE, 0, EITHER_COVER, b""),
     (&["cover"], PASSED_CAP, 11, b"refused\t1\t8\t0\t3\n", b""),
     (&["cover"], MEN_LEFT, 11, b"refused\t1\t10\t2\n", b""),
     (
@@ -353,6 +355,7 @@ const CHECK_ROWS: &[Row] = &[
     ),
     (&["cover"], FOUR, 3, b"", b"input\t1\t13\n"),
     (&["check-cover"], FOUR_COVER, 0, b"valid\n", b""),
+    (&["check-cover"], EITHER_COVER, 0, b"valid\n", b""),
     (
         &["check-cover"],
         SHORT_COVER,
