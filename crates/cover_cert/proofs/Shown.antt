@@ -1,6 +1,6 @@
 -- If a cover is valid, its certificate holds, and its lottery is leximin greatest. A cover that is made of a bundle whose certificate holds is
 -- valid.
-use Rattle.std.proofs.Common.{◌≡◌, List, [], Result, Ok, Err, sym, ◌∙◌, subst}
+use Rattle.std.proofs.Common.{◌≡◌, [], Result, Ok, Err, sym, ◌∙◌, subst}
 use Rattle.std.specs.Prelude.{IfOk}
 use Rattle.std.specs.declared.alloc.AllocError.{AllocError}
 use Rattle.define_bundles.specs.Ranges.{IsInRanges}

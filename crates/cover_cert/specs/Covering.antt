@@ -1,5 +1,5 @@
 -- The answer of `cover`. Builds on Visits of `define_checks` and on Made of `laws_of_covers`. The promise of `cover` cites it.
-use Rattle.std.specs.Prelude.{◌≡◌, ℕ, List, [], Result, Ok, Err}
+use Rattle.std.specs.Prelude.{◌≡◌, ℕ, [], Result, Ok, Err}
 use Rattle.define_bundles.specs.BundleText.{Bundle}
 use Rattle.define_checks.specs.Reasons.{Refusal, Valid, Verdict}
 use Rattle.define_checks.specs.Reasons as check

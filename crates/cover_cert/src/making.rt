@@ -1,5 +1,5 @@
-//! The making of a cover: a check, and then for each stage a line for each front that the check's search tried and didn't enter. The fronts
-//! are gone through in their order, with no search of a second kind. Stands on `causes` and `order`. `cover` is the promise.
+//! The making of a cover: a check, and then for each stage the lines of its tree. The fronts are gone through one by one: after a live front
+//! comes its first child, after any other the next one in the order of the tree. Stands on `causes` and `order`. `cover` is the promise.
 
 ghost use Rattle.std.specs.Prelude.{◌≡◌, [], IfOk, IsTrue, length, reverse};
 ghost use Rattle.std.specs.List.{list_all};
@@ -27,10 +27,10 @@ use cover_model::{Cover, FrontLine, Fronts, value_count};
 use pool_model::{Pool, Stage};
 use std::alloc::{AllocError, Global};
 
-/// What the making of a cover answers.
+/// The answer of `cover`.
 #[derive(Debug, Drop)]
 pub enum Covered {
-    /// The certificate is valid, and this cover shows it.
+    /// The certificate is valid, and its cover shows it.
     Cover(Cover),
     /// The certificate is refused.
     Refused {
@@ -43,10 +43,10 @@ pub enum Covered {
     },
 }
 
-/// Checks the certificate of a bundle, and returns its cover if it is valid, else why it is refused. Each search of the check may make at
-/// most `nodes` visits. The lines of the cover are the fronts that these searches try and don't enter, each with the first cause that
-/// applies to it. `check_cover` finds the cover valid. Fails as `check` does: `NodesSpent` names the first stage whose search needs more
-/// visits.
+/// Checks the certificate of a bundle, and returns a cover if it is valid, else why it is refused. Each search of the check may make at most
+/// `nodes` visits. The lines of the cover are the fronts that these searches try and don't enter, each with the first cause that applies to
+/// it. `check_cover` finds the cover valid. Fails exactly as `check` does: with `NodesSpent`, which names the first stage whose search needs
+/// more visits, if no earlier reason refuses the certificate, and with `OutOfMemory` if memory runs out.
 pub fn cover(alloc: Global, bundle: &Bundle, nodes: u64) -> Result<Covered, CheckStop>
     ensures answer { AnswersCheck (check_answer bundle.now.pool bundle.now.answer nodes) result }
     ensures made { IfOk result (λ covered. IfCover covered (λ cover. IsMadeOf bundle.now cover)) }
@@ -104,7 +104,8 @@ fn trees_of(alloc: Global, pool: &Pool, stages: &[Stage]) -> Result<Vec<Fronts>,
     Ok(trees)
 }
 
-/// Returns the tree of a stage after the earlier stages, which are in their order. Its cap holds.
+/// Returns the tree of a stage whose cap holds, after the earlier stages, which are in their order. The pool has `values` values in all
+/// categories.
 fn tree_of(
     alloc: Global,
     pool: &Pool,
@@ -122,7 +123,8 @@ fn tree_of(
     Ok(Fronts::new(lines_of(alloc, &terms, values)?))
 }
 
-/// Returns the lines of a search that finds nothing. The classes have `values` values in all categories.
+/// Returns the lines of a search that finds nothing. The classes have `values` values in all categories. A front that is live is followed by
+/// its first child, and any other is a line.
 fn lines_of(alloc: Global, terms: &Terms, values: usize) -> Result<Vec<FrontLine>, AllocError>
     requires terms { AreTerms terms.now }
     requires values { values ≡ length (all_values terms.now.classes) }
@@ -147,5 +149,6 @@ fn lines_of(alloc: Global, terms: &Terms, values: usize) -> Result<Vec<FrontLine
             }
         }
     }
+    // the lines of so many turns fit no memory
     Err(AllocError)
 }

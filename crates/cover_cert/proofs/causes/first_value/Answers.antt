@@ -1,4 +1,4 @@
-use Rattle.std.proofs.Common.{◌≡◌, ℕ, ◌+◌, Bool, sym, ap, ◌∙◌, arith}
+use Rattle.std.proofs.Common.{ℕ, ◌+◌, Bool, sym, ◌∙◌, arith}
 use Rattle.define_pools.proofs.Found.{find_range-first, find_range-none}
 use Rattle.define_covers.specs.Causes.{applies}
 use Rattle.define_covers.specs.Covers.{ByValue}

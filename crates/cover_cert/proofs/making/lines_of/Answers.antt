@@ -1,4 +1,4 @@
-use Rattle.std.proofs.Common.{◌≡◌, List, length, Some, None, sym, ap, ◌∙◌, arith}
+use Rattle.std.proofs.Common.{List, length, Some, None, ap, arith}
 use Rattle.define_searches.specs.Classes.{Class}
 use Rattle.cover_model.specs.Causes.{seen_cause}
 use Rattle.laws_of_covers.proofs.Counts.{fits_few, fits_within}

@@ -1,5 +1,5 @@
 use Rattle.std.specs.Prelude.{reverse}
-use Rattle.cover_cert.proofs.MadeTrees.{none_above, searched_stage, values_same}
+use Rattle.cover_cert.proofs.MadeTrees.{none_above, values_same}
 use Rattle.cover_cert.proofs.making.tree_of.Goals as goal
 
 pub lines_of-requires-clause-values : goal.lines_of-requires-clause-values

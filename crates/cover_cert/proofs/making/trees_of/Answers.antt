@@ -1,7 +1,6 @@
-use Rattle.std.proofs.Common.{◌≡◌, ◌+◌, List, length, sym, subst, arith}
+use Rattle.std.proofs.Common.{◌≡◌, ◌+◌, length, sym, subst, arith}
 use Rattle.define_bundles.specs.Ranges.{is_stage}
 use Rattle.define_searches.proofs.Contained.{first_pass}
-use Rattle.define_covers.specs.Covers.{FrontLine}
 use Rattle.cover_cert.proofs.MadeTrees.{Grows, all_in_ranges, all_searched, cap_holds, no_tree, ranges_kept, tree_more}
 use Rattle.cover_cert.proofs.making.trees_of.Goals as goal
 
