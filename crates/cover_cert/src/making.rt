@@ -149,6 +149,6 @@ fn lines_of(alloc: Global, terms: &Terms, values: usize) -> Result<Vec<FrontLine
             }
         }
     }
-    // the lines of so many turns fit no memory
+    // After so many turns there would be more lines than memory holds.
     Err(AllocError)
 }
