@@ -6,9 +6,11 @@ A row of the list has the id and key of a row of the letters
 1. if both are the same in all columns of the list that both files have, but for capital letters and blanks, and no other row of either file is
    so; there has to be a name or an e-mail;
 2. else if the office says so, by --same;
-3. else if both have the same name, address and e-mail, none of them empty, and among the rows that are left no other of either file has these.
+3. else if both have the same name, address, e-mail and answers, none of them empty, and among the rows that are left no other of either file has
+   these. So what may have been corrected is a telephone number, or a note.
 
-Every other row is new. So two people with one name at one address are never taken for each other, unless all else is the same too, or the e-mail.
+Every other row is new, and is named if it may be somebody of the letters: whoever has the same name, the same e-mail, or all columns but one. So nobody
+has the key of somebody else of the same name at the same address, but by the word of the office, or where the files tell no difference.
 """
 import re
 from typing import Callable, Dict, Iterable, List, NamedTuple, Optional, Sequence, Tuple
@@ -38,13 +40,22 @@ class Entry(NamedTuple):
 
 class Shared(NamedTuple):
     """The columns that a list and the letters both have: their names, and their places in either file; and which of these columns are those of a
-    name, of an address and of an e-mail. These three are empty if one of their columns isn't in both files."""
+    name, of an address, of an e-mail and of answers. Each of these is empty if one of its columns isn't in both files."""
     columns: List[str]
     in_list: List[int]
     in_letters: List[int]
     name: List[int]
     address: List[int]
     mail: List[int]
+    answers: List[int]
+
+
+class Uses(NamedTuple):
+    """The places of those columns of a list that have a use: of a name, of an address, of an e-mail and of the answers."""
+    name: List[int]
+    address: List[int]
+    mail: List[int]
+    answers: List[int]
 
 
 Same = Tuple[int, str]     # the office says that this row of the list is the person with this id
@@ -90,8 +101,8 @@ def name_in_letters(name: str, own: Sequence[str]) -> str:
     return f'{name} (people)' if name in own else name
 
 
-def shared_columns(table: Table, letters: Letters, name: List[int], address: List[int], mail: List[int]) -> Shared:
-    """The columns that a list and the letters both have, once each. The last three are places in the list."""
+def shared_columns(table: Table, letters: Letters, uses: Uses) -> Shared:
+    """The columns that a list and the letters both have, once each."""
     own = ['id', 'key'] + ['household'] * (household_place(letters.table, table.heading) is not None)
     there = letters.table.heading
     pairs = [(place, there.index(name_in_letters(column, own))) for place, column in enumerate(table.heading)
@@ -100,7 +111,7 @@ def shared_columns(table: Table, letters: Letters, name: List[int], address: Lis
 
     def among(places: List[int]) -> List[int]:
         return [in_list.index(place) for place in places] if set(places) <= set(in_list) else []
-    shared = Shared([table.heading[place] for place in in_list], in_list, [place for _, place in pairs], among(name), among(address), among(mail))
+    shared = Shared([table.heading[place] for place in in_list], in_list, [place for _, place in pairs], *map(among, uses))
     if not shared.name and not shared.mail:
         raise Hopeless(f'{letters.table.name}: {table.name} and it have no column of names or e-mails in common, so nobody can be found in it; '
                        'see --name and --email')
@@ -127,9 +138,9 @@ def only_pairs(new: Iterable[Entry], old: Iterable[Entry], key: Callable[[Entry]
 
 
 def of_person(shared: Shared) -> Callable[[Entry], object]:
-    """The name, address and e-mail of a row, or None if one of them is empty."""
+    """The name, address, e-mail and answers of a row, or None if one of them is empty."""
     def key(row: Entry) -> object:
-        parts = tuple(said(row, columns) for columns in (shared.name, shared.address, shared.mail))
+        parts = tuple(said(row, columns) for columns in (shared.name, shared.address, shared.mail, shared.answers))
         return parts if all(parts) else None
     return key
 
@@ -141,7 +152,7 @@ def told_pairs(same: Sequence[Same], new: Dict[int, Entry], letters: Letters, fo
     for row, ident in same:
         word = f'--same {row}={ident}'
         if row not in new:
-            faults.append(f'{word}: row {row} isn\'t among the people who go into the register')
+            faults.append(f'{word}: row {row} isn\'t one of the people who go into the register')
         elif ident not in rows:
             faults.append(f'{word}: {letters.table.name} has no id {ident!r}')
         elif found.get(row) == rows[ident]:

@@ -40,7 +40,8 @@ from collections import Counter
 from typing import Callable, Dict, Iterable, Iterator, List, NamedTuple, Optional, Sequence, Tuple
 
 sys.dont_write_bytecode = True      # (no compiled files beside the tools)
-from letters import Letter, Letters, Same, Shared, entry, household_place, kept_letters, look_for_corrected, name_in_letters, read_letters, shared_columns
+from letters import (Letter, Letters, Same, Uses, entry, household_place, kept_letters, look_for_corrected, name_in_letters, read_letters,
+                     shared_columns)
 from sheets import (MOST_BYTES, Hopeless, Remarks, Table, answered, column_of, csv_text, folded, grouped, guarded, has_too_many, list_text, listed,
                     look_of, near, read_table, rows_named, unlike, why_not_a_name, write_all)
 
@@ -49,11 +50,13 @@ MOST_PEOPLE, MOST_CATEGORIES, MOST_VALUES, MOST_MEMBERS = 400, 20, 50, 200   # t
 CROWD = 6                              # so many people at one address are rather a house than a household
 CHARTER = '# What the assembly is called, and how many members its panel has.\ntitle = {}\nsize = {}\n'
 
-# How headings of an address begin or are spelled, without blanks and signs: those of a home, those of a place, and a number right behind a street.
-HOME_HEADING = re.compile('(street|strasse|ulice|rue|calle|via|indirizzo|adres|anschrift|flat|apartment|apt|appartement|hausn|housen|wohnung|stiege|door|'
-                          '(home|postal|living)?address).*')
-PLACE_HEADING = re.compile('(post(al)?code|zip(code)?|postleitzahl|plz|psč|codepostal|town|city|village|ort|wohnort|stadt|gemeinde|obec|město|ville)')
-NUMBER_HEADING = re.compile('(number|no|nr|nummer|numéro|číslo|čp)')
+# How headings of an address are spelled, without blanks and signs: those of a home, those of a place, and a number right behind a street.
+HOME_HEADING = re.compile('(home|postal|full)?(street|address|strasse|adresse|anschrift|ulice|adresa|rue|calle|via|indirizzo)(name|line)?[0-9]*'
+                          '|(flat|apartment|apt|door|stairs|appartement|wohnung|stiege|tür|byt)(no|number|nr|nummer)?'
+                          '|(house|building)(no|number|nr)|haus(nr|nummer)')
+PLACE_HEADING = re.compile('(post(al)?code|zip(code)?|postleitzahl|plz|psč|codepostal'
+                           '|town|city|village|ort|wohnort|stadt|gemeinde|obec|město|ville)')
+NUMBER_HEADING = re.compile('(number|no|nr|nummer|numéro|číslo(popisné|domu)?|čp)')
 
 Categories = Dict[str, Dict[str, Tuple[int, int]]]     # by name: its values by name, each with its bounds
 
@@ -63,13 +66,6 @@ class Person(NamedTuple):
     row: int
     cells: List[str]
     answers: List[str]
-
-
-class Uses(NamedTuple):
-    """The places of the columns of PEOPLE that have a use: those of a name, of an e-mail, and those that --household names."""
-    names: List[int]
-    mails: List[int]
-    home: List[int]
 
 
 class Own(NamedTuple):
@@ -168,9 +164,8 @@ def look_at_quotas(name: str, categories: Categories, people: List[Person], size
 # ---- people
 
 
-def people_of(table: Table, categories: Categories, remarks: Remarks) -> List[Person]:
-    """The people whose answers the quotas name. Says of each other row why it was left out."""
-    places = [column_of(table, category, 'which is a category of the quotas') for category in categories]
+def people_of(table: Table, categories: Categories, places: List[int], remarks: Remarks) -> List[Person]:
+    """The people whose answers, at these places, the quotas name. Says of each other row why it was left out."""
     people = []
     for number, cells in table.rows:
         answers = [cells[place].strip() for place in places]
@@ -251,32 +246,32 @@ def look_for_lookalikes(table: Table, people: List[Person], what: str, places: L
         first, *others = [group[0] for group in grouped(alike, lambda person: said_by(person, places)).values()]
         for other in others:
             one, two = shown_by(other, places), shown_by(first, places)
-            remarks.say(f'{table.name} rows {first.row} and {other.row}: the {what} {one!r} of row {other.row} looks like {two!r}: {unlike(one, two)}')
+            remarks.say(f'{table.name} row {other.row}: the {what} {one!r} looks like that of row {first.row}, {two!r}, and has {unlike(one, two)}')
 
 
 def without_repeats(table: Table, people: List[Person], uses: Uses, remarks: Remarks) -> List[Person]:
     """The people without rows that are as an earlier one in all columns. Says which these are, and who else may be there twice."""
-    if not uses.names and not uses.mails:
+    if not uses.name and not uses.mail:
         remarks.say(f'{table.name}: no column looks like a name or an e-mail, so who is there twice isn\'t found; see --name and --email')
         return people
     first: Dict[Tuple[str, ...], Person] = {}
     kept = []
     for person in people:
         earlier = first.setdefault(tuple(map(folded, person.cells)), person)
-        if earlier is not person and (said_by(person, uses.names) or said_by(person, uses.mails)):
+        if earlier is not person and (said_by(person, uses.name) or said_by(person, uses.mail)):
             remarks.note(f'{table.name} row {person.row}: left out: the same as row {earlier.row} in all columns')
         else:
             kept.append(person)
-    look_for_pairs(table, kept, 'name', uses.names, remarks)
-    look_for_pairs(table, kept, 'e-mail', uses.mails, remarks)
-    for what, places in (('name', uses.names), ('e-mail', uses.mails), ('address', uses.home)):
+    look_for_pairs(table, kept, 'name', uses.name, remarks)
+    look_for_pairs(table, kept, 'e-mail', uses.mail, remarks)
+    for what, places in (('name', uses.name), ('e-mail', uses.mail), ('address', uses.address)):
         look_for_lookalikes(table, kept, what, places, remarks)
     return kept
 
 
 def kept_people(table: Table, categories: Categories, uses: Uses, remarks: Remarks) -> List[Person]:
     """The people who go into the register: at least one, and as many as the office takes."""
-    people = without_repeats(table, people_of(table, categories, remarks), uses, remarks)
+    people = without_repeats(table, people_of(table, categories, uses.answers, remarks), uses, remarks)
     if not 1 <= len(people) <= MOST_PEOPLE:
         raise Hopeless(f'{table.name}: {len(people)} people are left, and the register takes 1 to {MOST_PEOPLE}')
     return people
@@ -331,11 +326,10 @@ def owns_of(table: Table, people: List[Person], home: List[int], kept: Dict[int,
     ordered = sorted((person for person in people if person.row in kept), key=lambda person: (len(kept[person.row].id), kept[person.row].id))
     ordered += secrets.SystemRandom().sample(new, len(new))
     rows = old.rows if old else []
-    place = household_place(old.table, table.heading) if old else None
-    codes = {letter.row: letter.cells[place].strip() for letter in rows if place is not None}
+    codes = old_codes(table, old) if old else {}
     ids = iter(codes_of('p', len(new), [letter.id for letter in rows]))
     keys = iter(keys_of(len(new), [letter.key for letter in rows]))
-    households = households_of(homes_of(table, ordered, home, remarks), {row: codes.get(letter.row, '') for row, letter in kept.items()}, codes.values())
+    households = households_of(homes_of(table, ordered, home, remarks), {row: codes[letter.id] for row, letter in kept.items()}, codes.values())
     owns = {}
     for person in ordered:
         letter = kept.get(person.row)
@@ -347,40 +341,41 @@ def owns_of(table: Table, people: List[Person], home: List[int], kept: Dict[int,
 # ---- the old letters
 
 
-def shared_with(table: Table, categories: Categories, uses: Uses, old: Letters) -> Shared:
-    """The columns that PEOPLE and the old letters both have. Without --household the columns that look like an address are the address."""
-    return shared_columns(table, old.table, uses.names, uses.home or address_columns(table, categories, []), uses.mails)
-
-
-def found_letters(table: Table, people: List[Person], shared: Shared, old: Letters, same: List[Same], remarks: Remarks) -> Dict[int, Letter]:
-    """The old letters of the people, by row. Names who may be in them, and who isn't in the list any more."""
+def found_letters(table: Table, people: List[Person], categories: Categories, uses: Uses, old: Letters, same: List[Same],
+                  remarks: Remarks) -> Dict[int, Letter]:
+    """The old letters of the people, by row. Names who may be in them, and who isn't in the list any more. Without --household the columns that look
+    like an address are the address."""
+    shared = shared_columns(table, old, uses._replace(address=uses.address or address_columns(table, categories, [])))
     rows = [entry(person.row, person.cells, shared.in_list) for person in people]
     kept = kept_letters(rows, old, shared, same)
     look_for_corrected(table.name, rows, old, shared, kept, remarks)
     ids = {letter.id for letter in kept.values()}
     for letter in old.rows:
         if letter.id not in ids:
-            remarks.say(f'{old.table.name} row {letter.row}: {letter.id} isn\'t among the people of {table.name} who go into the register; the row stays, at '
-                        'the end of letters.csv, and the id is given to nobody else')
+            remarks.say(f'{old.table.name} row {letter.row}: {letter.id} isn\'t among the people of {table.name} any more. The row stays at the end '
+                        f'of letters.csv, and a store that was filled before still has {letter.id}')
     return kept
 
 
-def look_for_changes(categories: Categories, people: List[Person], shared: Shared, kept: Dict[int, Letter], owns: Dict[int, Own], old: Letters,
+def old_codes(table: Table, old: Letters) -> Dict[str, str]:
+    """The codes of households in the old letters, by id."""
+    place = household_place(old.table, table.heading)
+    return {letter.id: '' if place is None else letter.cells[place].strip() for letter in old.rows}
+
+
+def look_for_changes(table: Table, categories: Categories, people: List[Person], kept: Dict[int, Letter], owns: Dict[int, Own], old: Letters,
                      remarks: Remarks) -> None:
-    """Names the ids whose row of the register isn't what it was."""
-    answers = {column: place for column, place in zip(shared.columns, shared.in_letters) if column in categories}
-    place = household_place(old.table, shared.columns)
-    changed = []
-    for person in people:
-        letter = kept.get(person.row)
-        if letter:
-            before = [letter.cells[answers[category]].strip() if category in answers else None for category in categories]
-            now = [guarded(answer) if category in answers else None for category, answer in zip(categories, person.answers)]
-            household = letter.cells[place].strip() if place is not None else ''
-            changed += [letter.id] * (list(map(guarded, filter(None, before))) != list(filter(None, now)) or household != owns[person.row].household)
+    """Names the ids whose row of the register isn't what it was, as far as the old letters show it."""
+    codes, there = old_codes(table, old), old.table.heading
+    places = [there.index(category) if there.count(category) == 1 else None for category in categories]
+
+    def is_changed(person: Person, letter: Letter) -> bool:
+        pairs = [(letter.cells[place].strip(), answer) for place, answer in zip(places, person.answers) if place is not None]
+        return codes[letter.id] != owns[person.row].household or any(guarded(before) != guarded(now) for before, now in pairs)
+    changed = [kept[person.row].id for person in people if person.row in kept and is_changed(person, kept[person.row])]
     if changed:
-        remarks.say(f'{old.table.name}: {listed(sorted(changed))} had another answer or household, so a store that has the old register refuses the new '
-                    'one: fill a new store. Ids and keys stay')
+        remarks.say(f'{old.table.name}: {listed(sorted(changed))} had another answer or household, so a store that was filled before refuses the new '
+                    'register: fill a new one. Ids and keys stay')
 
 
 # ---- writing
@@ -412,7 +407,7 @@ def drawer_of(table: Table, people: List[Person], owns: Dict[int, Own], has_hous
 
 def words_about(letters: int, kept: int, gone: int) -> List[str]:
     """What is said of the letters where there are old ones."""
-    return [f'letters.csv: {kept} keep their id and key, {letters - kept} are new, {gone} aren\'t in the list any more',
+    return [f'letters.csv: kept {kept}, new {letters - kept}, not in the list any more {gone}',
             f'letters-new.csv: people {letters - kept}; write letters to these alone']
 
 
@@ -463,25 +458,25 @@ def uses_of(table: Table, categories: Categories, asked: argparse.Namespace) -> 
     """The columns of PEOPLE that have a use."""
     home = [column_of(table, name, 'which --household names') for name in asked.household]
     used = [*categories, *asked.household]
-    names = columns_like(table, asked.name, '--name', lambda heading: heading.endswith('name'), used)
-    return Uses(names, columns_like(table, asked.email, '--email', lambda heading: 'mail' in heading, used), home)
+    names = columns_like(table, asked.name, '--name', lambda heading: heading.endswith('name') and not HOME_HEADING.fullmatch(heading), used)
+    mails = columns_like(table, asked.email, '--email', lambda heading: 'mail' in heading, used)
+    return Uses(names, home, mails, [column_of(table, category, 'which is a category of the quotas') for category in categories])
 
 
 def people_texts(table: Table, people: List[Person], categories: Categories, uses: Uses, asked: argparse.Namespace,
                  remarks: Remarks) -> Tuple[Dict[str, str], List[str]]:
     """The texts of the register and the letters, and lines that say what they have."""
     old = read_letters(asked.letters, remarks) if asked.letters is not None else None
-    shared = shared_with(table, categories, uses, old) if old else None
-    kept = found_letters(table, people, shared, old, asked.same, remarks) if old else {}
-    owns = owns_of(table, people, uses.home, kept, old, remarks)
+    kept = found_letters(table, people, categories, uses, old, asked.same, remarks) if old else {}
+    owns = owns_of(table, people, uses.address, kept, old, remarks)
     if old:
-        look_for_changes(categories, people, shared, kept, owns, old, remarks)
+        look_for_changes(table, categories, people, kept, owns, old, remarks)
     ids = {letter.id for letter in kept.values()}
-    drawer = drawer_of(table, people, owns, bool(uses.home), [letter for letter in old.rows if letter.id not in ids] if old else [], old)
+    drawer = drawer_of(table, people, owns, bool(uses.address), [letter for letter in old.rows if letter.id not in ids] if old else [], old)
 
     def letters(rows: Iterable[List[str]]) -> str:
         return list_text([drawer.heading, *rows], table.mark, table.delimiter)
-    texts = {'register.csv': register_text(people, categories, owns, bool(uses.home)), 'letters.csv': letters([*drawer.rows.values(), *drawer.gone])}
+    texts = {'register.csv': register_text(people, categories, owns, bool(uses.address)), 'letters.csv': letters([*drawer.rows.values(), *drawer.gone])}
     households = len({own.household for own in owns.values()} - {''})
     lines = [f'register.csv: people {len(people)} of {len(table.rows)}, households {households}',
              'letters.csv: who has which id and key; keep it in the drawer']
@@ -509,7 +504,7 @@ def prepare(asked: argparse.Namespace, remarks: Remarks) -> List[str]:
     if asked.household and 'household' in categories:
         raise Hopeless(f'{quotas.name}: a category is called \'household\', so the register has no column for households: rename it in both files')
     uses = uses_of(table, categories, asked)
-    look_for_addresses(table, categories, uses.home, remarks)
+    look_for_addresses(table, categories, uses.address, remarks)
     people = kept_people(table, categories, uses, remarks)
     look_at_quotas(quotas.name, categories, people, asked.size, remarks)
     rules = [[category, value, *bounds] for category, values in categories.items() for value, bounds in values.items()]
