@@ -123,6 +123,11 @@ def entry(row: int, cells: Sequence[str], places: Sequence[int]) -> Entry:
     return Entry(row, tuple(folded(guarded(cells[place])) for place in places))
 
 
+def old_entries(letters: Letters, shared: Shared) -> List[Entry]:
+    """The rows of the letters, as they are compared."""
+    return [entry(letter.row, letter.cells, shared.in_letters) for letter in letters.rows]
+
+
 def said(row: Entry, columns: Sequence[int]) -> str:
     """What the row says in these columns; empty if there is none, or all are empty."""
     return '\t'.join(row.cells[column] for column in columns).strip()
@@ -175,10 +180,6 @@ def kept_letters(new: List[Entry], letters: Letters, shared: Shared, same: Seque
     pairs.update(only_pairs(left, left_old, of_person(shared)))
     by_row = {letter.row: letter for letter in letters.rows}
     return {row: by_row[other] for row, other in pairs.items()}
-
-
-def old_entries(letters: Letters, shared: Shared) -> List[Entry]:
-    return [entry(letter.row, letter.cells, shared.in_letters) for letter in letters.rows]
 
 
 # ---- who may be who

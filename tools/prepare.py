@@ -42,7 +42,7 @@ from typing import Callable, Dict, Iterable, Iterator, List, NamedTuple, Optiona
 sys.dont_write_bytecode = True      # (no compiled files beside the tools)
 from letters import (Letter, Letters, Same, Uses, entry, household_place, kept_letters, look_for_corrected, name_in_letters, read_letters,
                      shared_columns)
-from sheets import (MOST_BYTES, Hopeless, Remarks, Table, answered, column_of, csv_text, folded, grouped, guarded, has_too_many, list_text, listed,
+from sheets import (Hopeless, Remarks, Table, answered, column_of, csv_text, folded, grouped, guarded, has_too_many, list_text, listed,
                     look_of, near, read_table, rows_named, unlike, why_not_a_name, write_all)
 
 KEY_LETTERS = '3479acdefhjkmnprtwxy'   # no two of these look alike
