@@ -9,8 +9,9 @@ A row of the list has the id and key of a row of the letters
 3. else if both have the same name, address, e-mail and answers, none of them empty, and among the rows that are left no other of either file has
    these. So what may have been corrected is a telephone number, or a note.
 
-Every other row is new, and is named if it may be somebody of the letters: whoever has the same name, the same e-mail, or all columns but one. So nobody
-has the key of somebody else of the same name at the same address, but by the word of the office, or where the files tell no difference.
+Every other row is new, and is named if it may be somebody of the letters: whoever has the same name, the same e-mail, or all columns but one.
+So nobody has the key of somebody else of the same name at the same address, but by the word of the office, or where the files tell no
+difference.
 """
 import re
 from typing import Callable, Dict, Iterable, List, NamedTuple, Optional, Sequence, Tuple
@@ -33,9 +34,11 @@ class Letters(NamedTuple):
 
 
 class Entry(NamedTuple):
-    """A row of the list, or of the letters, as the two are compared: its number, and what it says in the columns that both have."""
+    """A row of the list, or of the letters, as the two are compared: its number, and what it says in the columns that both have, without
+    differences that people don't see, and as it is spelled."""
     row: int
     cells: Tuple[str, ...]
+    spelled: Tuple[str, ...]
 
 
 class Shared(NamedTuple):
@@ -120,7 +123,8 @@ def shared_columns(table: Table, letters: Letters, uses: Uses) -> Shared:
 
 def entry(row: int, cells: Sequence[str], places: Sequence[int]) -> Entry:
     """A row as it is compared. Letters have an apostrophe before what might run as a formula."""
-    return Entry(row, tuple(folded(guarded(cells[place])) for place in places))
+    spelled = tuple(guarded(cells[place]) for place in places)
+    return Entry(row, tuple(map(folded, spelled)), spelled)
 
 
 def old_entries(letters: Letters, shared: Shared) -> List[Entry]:
@@ -213,5 +217,6 @@ def look_for_corrected(list_name: str, new: List[Entry], letters: Letters, share
 
 def apart_in(row: Entry, other: Entry, shared: Shared) -> str:
     """Words about the columns in which two rows differ."""
-    differ = [f'{column} is {one!r} and was {two!r}' for column, one, two in zip(shared.columns, row.cells, other.cells) if one != two]
-    return f': {listed(differ)}' if differ else ': more than one row is as this one'
+    differ = [f'{shared.columns[place]} was {other.spelled[place]!r} and is {row.spelled[place]!r}'
+              for place in range(len(row.cells)) if row.cells[place] != other.cells[place]]
+    return f': {"; ".join(differ)}' if differ else ': more than one row is as this one'

@@ -476,7 +476,8 @@ def people_texts(table: Table, people: List[Person], categories: Categories, use
 
     def letters(rows: Iterable[List[str]]) -> str:
         return list_text([drawer.heading, *rows], table.mark, table.delimiter)
-    texts = {'register.csv': register_text(people, categories, owns, bool(uses.address)), 'letters.csv': letters([*drawer.rows.values(), *drawer.gone])}
+    texts = {'register.csv': register_text(people, categories, owns, bool(uses.address)),
+             'letters.csv': letters([*drawer.rows.values(), *drawer.gone])}
     households = len({own.household for own in owns.values()} - {''})
     lines = [f'register.csv: people {len(people)} of {len(table.rows)}, households {households}',
              'letters.csv: who has which id and key; keep it in the drawer']
