@@ -83,7 +83,7 @@ def read_letters(path: str, remarks: Remarks) -> Letters:
     table = read_table(path, remarks)
     places = [column_of(table, name, 'which the letters of prepare.py have') for name in ('id', 'key')]
     rows = [Letter(number, *(cells[place].strip() for place in places), cells) for number, cells in table.rows]
-    faults = list(letter_faults(table, rows))
+    faults = list(letter_faults(table, rows)) if rows else [f'{table.name}: it has a heading and no row']
     if faults:
         raise Hopeless(*faults)
     return Letters(table, rows)

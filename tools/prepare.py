@@ -40,7 +40,7 @@ from collections import Counter
 from typing import Callable, Dict, Iterable, Iterator, List, NamedTuple, Optional, Sequence, Tuple
 
 sys.dont_write_bytecode = True      # (no compiled files beside the tools)
-from letters import (Letter, Letters, Same, Uses, entry, household_place, kept_letters, look_for_corrected, name_in_letters, read_letters,
+from letters import (Letter, Same, Uses, entry, household_place, kept_letters, look_for_corrected, name_in_letters, read_letters,
                      shared_columns)
 from sheets import (Hopeless, Remarks, Table, answered, column_of, csv_text, folded, grouped, guarded, has_too_many, list_text, listed,
                     look_of, near, read_table, rows_named, unlike, why_not_a_name, write_all)
@@ -68,11 +68,25 @@ class Person(NamedTuple):
     answers: List[str]
 
 
+class Before(NamedTuple):
+    """What the old letters hold: the name of the file; its rows; those of people who are in the list, by the row of the list, and the others; the
+    codes of households by id; and the places of the list's columns in it."""
+    name: str
+    letters: List[Letter]
+    kept: Dict[int, Letter]
+    gone: List[Letter]
+    codes: Dict[str, str]
+    columns: Dict[int, int]
+
+
 class Own(NamedTuple):
     """What the office gives to a person. The household is empty for whoever is alone at an address or has none."""
     id: str
     key: str
     household: str
+
+
+NOBODY = Before('', [], {}, [], {}, {})     # where there are no old letters
 
 
 # ---- quotas
@@ -320,16 +334,16 @@ def households_of(homes: List[List[Person]], before: Dict[int, str], taken: Iter
     return {person.row: code for home, one in zip(homes, kept) for code in [one or (next(new) if len(home) > 1 else '')] for person in home}
 
 
-def owns_of(table: Table, people: List[Person], home: List[int], kept: Dict[int, Letter], old: Optional[Letters], remarks: Remarks) -> Dict[int, Own]:
+def owns_of(table: Table, people: List[Person], home: List[int], before: Before, remarks: Remarks) -> Dict[int, Own]:
     """What the office gives to each person, by row, in the order of the register: first those who keep their ids, then the new ones, mixed."""
+    kept = before.kept
     new = [person for person in people if person.row not in kept]
     ordered = sorted((person for person in people if person.row in kept), key=lambda person: (len(kept[person.row].id), kept[person.row].id))
     ordered += secrets.SystemRandom().sample(new, len(new))
-    rows = old.rows if old else []
-    codes = old_codes(table, old) if old else {}
-    ids = iter(codes_of('p', len(new), [letter.id for letter in rows]))
-    keys = iter(keys_of(len(new), [letter.key for letter in rows]))
-    households = households_of(homes_of(table, ordered, home, remarks), {row: codes[letter.id] for row, letter in kept.items()}, codes.values())
+    ids = iter(codes_of('p', len(new), [letter.id for letter in before.letters]))
+    keys = iter(keys_of(len(new), [letter.key for letter in before.letters]))
+    homes = homes_of(table, ordered, home, remarks)
+    households = households_of(homes, {row: before.codes[letter.id] for row, letter in kept.items()}, before.codes.values())
     owns = {}
     for person in ordered:
         letter = kept.get(person.row)
@@ -341,40 +355,35 @@ def owns_of(table: Table, people: List[Person], home: List[int], kept: Dict[int,
 # ---- the old letters
 
 
-def found_letters(table: Table, people: List[Person], categories: Categories, uses: Uses, old: Letters, same: List[Same],
-                  remarks: Remarks) -> Dict[int, Letter]:
-    """The old letters of the people, by row. Names who may be in them, and who isn't in the list any more. Without --household the columns that look
-    like an address are the address."""
+def before_of(table: Table, people: List[Person], categories: Categories, uses: Uses, asked: argparse.Namespace, remarks: Remarks) -> Before:
+    """What the old letters hold. Names who may be in them, and who isn't in the list any more. Without --household the columns that look like an
+    address are the address."""
+    if asked.letters is None:
+        return NOBODY
+    old = read_letters(asked.letters, remarks)
     shared = shared_columns(table, old, uses._replace(address=uses.address or address_columns(table, categories, [])))
     rows = [entry(person.row, person.cells, shared.in_list) for person in people]
-    kept = kept_letters(rows, old, shared, same)
+    kept = kept_letters(rows, old, shared, asked.same)
     look_for_corrected(table.name, rows, old, shared, kept, remarks)
     ids = {letter.id for letter in kept.values()}
-    for letter in old.rows:
-        if letter.id not in ids:
-            remarks.say(f'{old.table.name} row {letter.row}: {letter.id} isn\'t among the people of {table.name} any more. The row stays at the end '
-                        f'of letters.csv, and a store that was filled before still has {letter.id}')
-    return kept
-
-
-def old_codes(table: Table, old: Letters) -> Dict[str, str]:
-    """The codes of households in the old letters, by id."""
+    gone = [letter for letter in old.rows if letter.id not in ids]
+    for letter in gone:
+        remarks.say(f'{old.table.name} row {letter.row}: {letter.id} isn\'t among the people of {table.name} any more. The row stays at the end '
+                    f'of letters.csv, and a store that was filled before still has {letter.id}')
     place = household_place(old.table, table.heading)
-    return {letter.id: '' if place is None else letter.cells[place].strip() for letter in old.rows}
+    codes = {letter.id: '' if place is None else letter.cells[place].strip() for letter in old.rows}
+    return Before(old.table.name, old.rows, kept, gone, codes, dict(zip(shared.in_list, shared.in_letters)))
 
 
-def look_for_changes(table: Table, categories: Categories, people: List[Person], kept: Dict[int, Letter], owns: Dict[int, Own], old: Letters,
-                     remarks: Remarks) -> None:
+def look_for_changes(people: List[Person], uses: Uses, before: Before, owns: Dict[int, Own], remarks: Remarks) -> None:
     """Names the ids whose row of the register isn't what it was, as far as the old letters show it."""
-    codes, there = old_codes(table, old), old.table.heading
-    places = [there.index(category) if there.count(category) == 1 else None for category in categories]
-
     def is_changed(person: Person, letter: Letter) -> bool:
-        pairs = [(letter.cells[place].strip(), answer) for place, answer in zip(places, person.answers) if place is not None]
-        return codes[letter.id] != owns[person.row].household or any(guarded(before) != guarded(now) for before, now in pairs)
-    changed = [kept[person.row].id for person in people if person.row in kept and is_changed(person, kept[person.row])]
+        there = [(before.columns[place], answer) for place, answer in zip(uses.answers, person.answers) if place in before.columns]
+        has_others = any(guarded(letter.cells[place].strip()) != guarded(answer) for place, answer in there)
+        return has_others or before.codes[letter.id] != owns[person.row].household
+    changed = [before.kept[person.row].id for person in people if person.row in before.kept and is_changed(person, before.kept[person.row])]
     if changed:
-        remarks.say(f'{old.table.name}: {listed(sorted(changed))} had another answer or household, so a store that was filled before refuses the new '
+        remarks.say(f'{before.name}: {listed(sorted(changed))} had another answer or household, so a store that was filled before refuses the new '
                     'register: fill a new one. Ids and keys stay')
 
 
@@ -388,27 +397,31 @@ def register_text(people: List[Person], categories: Categories, owns: Dict[int, 
     return csv_text([['id', 'key', *categories, *['household'] * has_households], *rows])
 
 
-class Drawer(NamedTuple):
-    """The rows of letters.csv: the heading, those of the people by row, and those of the old letters whose people aren't in the list any more."""
-    heading: List[str]
-    rows: Dict[int, List[str]]
-    gone: List[List[str]]
-
-
-def drawer_of(table: Table, people: List[Person], owns: Dict[int, Own], has_households: bool, gone: List[Letter], old: Optional[Letters]) -> Drawer:
-    """The rows of letters.csv, in the order of PEOPLE."""
+def letters_texts(table: Table, people: List[Person], owns: Dict[int, Own], has_households: bool, before: Before) -> Dict[str, str]:
+    """The texts of letters.csv, in the order of PEOPLE and with those behind who aren't in the list any more; and of letters-new.csv, which is made
+    where there are old letters."""
     own = ['id', 'key'] + ['household'] * has_households
     heading = own + [name_in_letters(name, own) for name in table.heading]
-    rows = {person.row: [*owns[person.row][:len(own)], *person.cells[:len(table.heading)]] for person in people}
-    there = old.table.heading if old else []
-    places = [there.index(name) if there.count(name) == 1 else None for name in heading]
-    return Drawer(heading, rows, [['' if place is None else letter.cells[place] for place in places] for letter in gone])
+    places = range(len(table.heading))
+    rows = {person.row: [*owns[person.row][:len(own)], *(person.cells[place] for place in places)] for person in people}
+    gone = [[letter.id, letter.key, *[before.codes[letter.id]] * has_households,
+             *(letter.cells[before.columns[place]] if place in before.columns else '' for place in places)] for letter in before.gone]
+
+    def text(some: Iterable[List[str]]) -> str:
+        return list_text([heading, *some], table.mark, table.delimiter)
+    texts = {'letters.csv': text([*rows.values(), *gone])}
+    if before.letters:
+        texts['letters-new.csv'] = text(row for number, row in rows.items() if number not in before.kept)
+    return texts
 
 
-def words_about(letters: int, kept: int, gone: int) -> List[str]:
-    """What is said of the letters where there are old ones."""
-    return [f'letters.csv: kept {kept}, new {letters - kept}, not in the list any more {gone}',
-            f'letters-new.csv: people {letters - kept}; write letters to these alone']
+def lines_about_letters(people: List[Person], before: Before) -> Iterator[str]:
+    """What the letters hold, a line each."""
+    yield 'letters.csv: who has which id and key; keep it in the drawer'
+    if before.letters:
+        new = len(people) - len(before.kept)
+        yield f'letters.csv: kept {len(before.kept)}, new {new}, not in the list any more {len(before.gone)}'
+        yield f'letters-new.csv: people {new}; write letters to these alone'
 
 
 # ---- the call
@@ -463,30 +476,6 @@ def uses_of(table: Table, categories: Categories, asked: argparse.Namespace) -> 
     return Uses(names, home, mails, [column_of(table, category, 'which is a category of the quotas') for category in categories])
 
 
-def people_texts(table: Table, people: List[Person], categories: Categories, uses: Uses, asked: argparse.Namespace,
-                 remarks: Remarks) -> Tuple[Dict[str, str], List[str]]:
-    """The texts of the register and the letters, and lines that say what they have."""
-    old = read_letters(asked.letters, remarks) if asked.letters is not None else None
-    kept = found_letters(table, people, categories, uses, old, asked.same, remarks) if old else {}
-    owns = owns_of(table, people, uses.address, kept, old, remarks)
-    if old:
-        look_for_changes(table, categories, people, kept, owns, old, remarks)
-    ids = {letter.id for letter in kept.values()}
-    drawer = drawer_of(table, people, owns, bool(uses.address), [letter for letter in old.rows if letter.id not in ids] if old else [], old)
-
-    def letters(rows: Iterable[List[str]]) -> str:
-        return list_text([drawer.heading, *rows], table.mark, table.delimiter)
-    texts = {'register.csv': register_text(people, categories, owns, bool(uses.address)),
-             'letters.csv': letters([*drawer.rows.values(), *drawer.gone])}
-    households = len({own.household for own in owns.values()} - {''})
-    lines = [f'register.csv: people {len(people)} of {len(table.rows)}, households {households}',
-             'letters.csv: who has which id and key; keep it in the drawer']
-    if old:
-        texts['letters-new.csv'] = letters(row for number, row in drawer.rows.items() if number not in kept)
-        lines += words_about(len(people), len(kept), len(drawer.gone))
-    return texts, lines
-
-
 def charter_text(asked: argparse.Namespace, remarks: Remarks) -> Optional[str]:
     """The text of charter.toml, or None if not all of it is given."""
     if asked.title is None or asked.size is None:
@@ -508,12 +497,17 @@ def prepare(asked: argparse.Namespace, remarks: Remarks) -> List[str]:
     look_for_addresses(table, categories, uses.address, remarks)
     people = kept_people(table, categories, uses, remarks)
     look_at_quotas(quotas.name, categories, people, asked.size, remarks)
+    before = before_of(table, people, categories, uses, asked, remarks)
+    owns = owns_of(table, people, uses.address, before, remarks)
+    look_for_changes(people, uses, before, owns, remarks)
     rules = [[category, value, *bounds] for category, values in categories.items() for value, bounds in values.items()]
-    texts = {'rules.csv': csv_text([['category', 'name', 'min', 'max'], *rules])}
-    lines = [f'rules.csv: categories {len(categories)}, values {len(rules)}']
-    more, more_lines = people_texts(table, people, categories, uses, asked, remarks)
-    texts.update(more)
-    lines += more_lines
+    has_households = bool(uses.address)
+    texts = {'rules.csv': csv_text([['category', 'name', 'min', 'max'], *rules]),
+             'register.csv': register_text(people, categories, owns, has_households),
+             **letters_texts(table, people, owns, has_households, before)}
+    lines = [f'rules.csv: categories {len(categories)}, values {len(rules)}',
+             f'register.csv: people {len(people)} of {len(table.rows)}, households {len({own.household for own in owns.values()} - {""})}',
+             *lines_about_letters(people, before)]
     charter = charter_text(asked, remarks)
     if charter is not None:
         texts['charter.toml'] = charter
