@@ -16,17 +16,18 @@ use Rattle.command_shell.specs.declared.status.Cause.TheVariants.{Input, Rule}
 use Rattle.command_shell.specs.Answers.{IsRight, IsTheAnswer, Prints, RightAnswers, Saying, Stops, bytes_of}
 use Rattle.command_shell.specs.Lines.{line}
 use Rattle.command_shell.specs.Subjects.{About, AboutFault, AboutValue, Format}
-use Rattle.command_covers.specs.CheckCover.{CheckCoverMeans}
+use Rattle.command_meanings.specs.CheckCover.{CheckCoverMeans}
 use Rattle.command_meanings.specs.Draw.{DrawMeans, drawn_lines, refused_draw_line, ticket_line, wrong_total_line}
 use Rattle.command_meanings.specs.ItsBundle.{BundleMeans, no_lottery_line}
 use Rattle.command_meanings.specs.Lines.{panel_line}
 use Rattle.command_meanings.specs.Seal.{SealMeans, bundle_seal}
 use Rattle.command_meanings.specs.Verify.{VerifyMeans}
-use Rattle.command_page.specs.Inputs.{bundle_in}
-use Rattle.command_page.specs.Page.{DrawnPageMeans, DrawnPageOfBundle, PageMeans, PageOfBundle, about}
-use Rattle.command_page.specs.declared.inputs.BundleOrProof.{BundleOrProof}
+use Rattle.command_shell.specs.BundlesOrProofs.{bundle_in}
+use Rattle.command_meanings.specs.Page.{DrawnPageMeans, DrawnPageOfBundle, PageMeans, PageOfBundle, about}
+use Rattle.command_shell.specs.declared.bundle_or_proof.BundleOrProof.{BundleOrProof}
 use Rattle.command_questions.specs.Chances.{lines_of_chances}
-use Rattle.command_questions.specs.Questions.{QuestionMeans}
+use Rattle.command_meanings.specs.Question.{QuestionMeans}
+use Rattle.command_questions.specs.Questions.{question_text}
 use Rattle.command_questions.specs.declared.questions.Question.TheVariants.{Chances}
 use Rattle.command_browser.specs.Told.{Answers, NotUtf8, Read, TextOf, TooLong, WithWords}
 
@@ -107,7 +108,7 @@ draw_some given digits bundle (Stops Input line) right = so _ _ right.line wrong
 draw_some given digits bundle (Stops Rule line) right = so _ _ right.line (refused_some given (bundle_seal bundle) right.refused)
 draw_some given digits bundle answer right = absurd right
 
-pub chances_some : (bundle : Bundle) → HasBytes (QuestionMeans Chances bundle)
+pub chances_some : (bundle : Bundle) → HasBytes (QuestionMeans (question_text Chances) bundle)
 chances_some bundle (Prints Done text) right = so _ _ right.answers (lines_some (lines_of_chances bundle) (grind (arith, length-append)))
 chances_some bundle (Stops Input line) right = so _ _ right.line wrong_total_some
 chances_some bundle answer right = absurd right

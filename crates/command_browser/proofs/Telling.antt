@@ -3,8 +3,8 @@ use Rattle.std.proofs.Common.{◌≡◌, ℕ, List, Result, Ok, Err, None, subst
 use Rattle.std.specs.Prelude.{IfErr, IfOk}
 use Rattle.command_shell.specs.Formats.{bundle_format}
 use Rattle.command_meanings.specs.Draw.{DrawMeans}
-use Rattle.command_page.specs.Inputs.{bundle_or_proof_format}
-use Rattle.command_page.specs.Page.{DrawnPageMeans}
+use Rattle.command_shell.specs.BundlesOrProofs.{bundle_or_proof_format}
+use Rattle.command_meanings.specs.Page.{DrawnPageMeans}
 use Rattle.command_browser.specs.Told.{IsPut, Tells, TextOf, Told, WantsMemory}
 
 pub told_so : {Text Error : Type 0} (items : Text → List ℕ) (Right : List ℕ → Type 0) (text : Result Text Error) (before after : List ℕ) (count : ℕ) →

@@ -3,15 +3,16 @@
 
 ghost use Rattle.std.specs.Prelude.{IsUtf8, None};
 ghost use Rattle.command_shell.specs.Formats.{bundle_format, proof_format};
-ghost use Rattle.command_covers.specs.CheckCover.{CheckCoverMeans};
+ghost use Rattle.command_meanings.specs.CheckCover.{CheckCoverMeans};
 ghost use Rattle.command_covers.specs.CoverFormat.{cover_format};
 ghost use Rattle.command_meanings.specs.Draw.{DrawMeans};
 ghost use Rattle.command_meanings.specs.ItsBundle.{BundleMeans};
 ghost use Rattle.command_meanings.specs.Seal.{SealMeans};
 ghost use Rattle.command_meanings.specs.Verify.{VerifyMeans};
-ghost use Rattle.command_page.specs.Inputs.{bundle_or_proof_format};
-ghost use Rattle.command_page.specs.Page.{DrawnPageMeans, PageMeans};
-ghost use Rattle.command_questions.specs.Questions.{QuestionMeans};
+ghost use Rattle.command_shell.specs.BundlesOrProofs.{bundle_or_proof_format};
+ghost use Rattle.command_meanings.specs.Page.{DrawnPageMeans, PageMeans};
+ghost use Rattle.command_meanings.specs.Question.{QuestionMeans};
+ghost use Rattle.command_questions.specs.Questions.{question_text};
 ghost use Rattle.command_questions.specs.declared.questions.Question.TheVariants.{Chances};
 ghost use Rattle.command_browser.specs.Told.{TextOf, Told, WithWords};
 
@@ -74,7 +75,7 @@ pub extern "C" fn tell_draw(
 /// Puts into `room` the text that `chances` answers about a bundle.
 #[unsafe(no_mangle)]
 pub extern "C" fn tell_chances(alloc: Global, bundle: &[u8], room: &mut [u8]) -> usize
-    ensures { Told (TextOf bundle_format (QuestionMeans Chances) bundle.now) room.old room.new result }
+    ensures { Told (TextOf bundle_format (QuestionMeans (question_text Chances)) bundle.now) room.old room.new result }
 {
     tell(text_of(alloc, &Question::Chances, bundle), room)
 }

@@ -7,8 +7,8 @@ ghost use Rattle.command_shell.specs.Formats.{bundle_format};
 ghost use Rattle.command_shell.specs.Lines.{input_line as words_of_input};
 ghost use Rattle.command_shell.specs.Subjects.{About};
 ghost use Rattle.command_meanings.specs.Draw.{DrawMeans};
-ghost use Rattle.command_page.specs.Inputs.{bundle_or_proof_format};
-ghost use Rattle.command_page.specs.Page.{DrawnPageMeans};
+ghost use Rattle.command_shell.specs.BundlesOrProofs.{bundle_or_proof_format};
+ghost use Rattle.command_meanings.specs.Page.{DrawnPageMeans};
 ghost use Rattle.command_browser.specs.Told.{TextAbout, TextOf, WithWords};
 
 use command_bundles::Draw;

@@ -1,3 +1,2 @@
 pub mod Stopped
 pub mod Checked
-pub mod ShortDraw

@@ -31,12 +31,16 @@ impl Meaning for Check {
 impl Command for Check {
     fn answer(&self, alloc: Global, bundle: &Bundle, _text: &[u8]) -> Result<Answer, AllocError> {
         check_has_one_answer();
-        checked(alloc, self.nodes, bundle)
+        check_bundle(alloc, self.nodes, bundle)
     }
 }
 
-/// Returns what `check` answers about `bundle`.
-fn checked(alloc: Global, nodes: u64, bundle: &Bundle) -> Result<Answer, AllocError>
+/// Returns what `check` answers about `bundle`, by searches of at most `nodes` visits. `prove` gives it too.
+///
+/// # Errors
+///
+/// Want of memory.
+pub fn check_bundle(alloc: Global, nodes: u64, bundle: &Bundle) -> Result<Answer, AllocError>
     ensures { IfOk result (λ answer. IsRight (CheckMeans nodes bundle.now) (saying answer)) }
 {
     match check(alloc, bundle, nodes) {

@@ -1,9 +1,8 @@
 //! The commands about a bundle: `seal`, `draw`, `short-draw` and `check`. Each is a struct of its arguments that answers about a bundle;
-//! `command_meanings` defines which answers are right, and `specs/ShortDraw.antt` those of `short-draw`. Stands on `sealed_draw`,
-//! `short_draws`, the checker, and the texts of bundles.
+//! `command_meanings` defines which answers are right. Stands on `sealed_draw`, `short_draws`, the checker, and the texts of bundles.
 //!
-//! Promises: the four commands, the answers for a verdict and for spent visits, which `command_covers` gives too, and the lines for valid
-//! and refused certificates, which `command_proofs` and `command_stores` print too.
+//! Promises: the four commands; `check_bundle`, which `command_proofs` asks too; the answers for a verdict and for spent visits, which
+//! `command_covers` gives too; and the lines for valid and refused certificates, which `command_proofs` and `command_stores` print too.
 #![tactic(auto)]
 
 mod check;
@@ -12,7 +11,7 @@ mod lines;
 mod seal;
 mod short_draw;
 
-pub use check::{Check, check_stop_answer, verdict_answer};
+pub use check::{Check, check_bundle, check_stop_answer, verdict_answer};
 pub use draw::Draw;
 pub use lines::{refused_line, valid_line};
 pub use seal::Seal;

@@ -4,7 +4,7 @@
 ghost use Rattle.std.specs.Prelude.{◌≡◌, ℕ, IfOk, List};
 ghost use Rattle.define_bundles.specs.BundleText.{Bundle as SeenBundle, bundle_spelling};
 ghost use Rattle.command_shell.specs.Answers.{HasOneAnswer, IsRight, saying};
-ghost use Rattle.command_bundles.specs.ShortDraw.{ShortDrawMeans};
+ghost use Rattle.command_meanings.specs.ShortDraw.{ShortDrawMeans};
 
 use crate::draw::{WRONG_TOTAL, stopped};
 use crate::lines::drawn_lines;
@@ -34,7 +34,7 @@ impl Meaning for ShortDraw<'_> {
     type About = Bundle;
 
     ghost use Rattle.command_shell.specs.Answers.{IsTheAnswer};
-    ghost use Rattle.command_bundles.specs.ShortDraw.{ShortDrawMeans};
+    ghost use Rattle.command_meanings.specs.ShortDraw.{ShortDrawMeans};
 
     ghost means = { λ command bundle. IsTheAnswer (ShortDrawMeans command.tickets command.seal.now command.digits.now bundle) };
 }

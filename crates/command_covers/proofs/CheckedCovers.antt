@@ -11,7 +11,7 @@ use Rattle.command_meanings.proofs.OneAnswer.{one_by}
 use Rattle.command_shell.specs.declared.status.Printed.TheVariants.{Done, Refused as Rejected}
 use Rattle.command_shell.specs.declared.status.Cause.TheVariants.{Input}
 use Rattle.command_shell.specs.Answers.{HasOneAnswer, IsRight, Prints, Saying, Stops}
-use Rattle.command_covers.specs.CheckCover.{CheckCoverMeans}
+use Rattle.command_meanings.specs.CheckCover.{CheckCoverMeans}
 
 pub verdict_is_told : (cover : Cover) (said : Verdict) (answer : Saying) → said ≡ verdict cover →
     (said ≡ Valid → Certifies cover.bundle.pool cover.bundle.answer.lottery cover.bundle.answer.stages) →

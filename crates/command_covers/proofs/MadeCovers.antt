@@ -16,7 +16,8 @@ use Rattle.define_pools.proofs.Greatest.{greatest_from_Certifies}
 use Rattle.laws_of_covers.proofs.Once.{trees_searched_once}
 use Rattle.cert_check.specs.declared.stops.CheckStop.{CheckStop}
 use Rattle.cert_check.specs.declared.stops.CheckStop.TheVariants.{NodesSpent, OutOfMemory}
-use Rattle.cover_cert.specs.Covering.{AnswersCheck, IfCover, IsMadeOf}
+use Rattle.cover_cert.specs.Covering.{AnswersCheck, IfCover}
+use Rattle.laws_of_covers.specs.Made.{IsMadeOf}
 use Rattle.cover_cert.specs.declared.making.Covered.{Covered}
 use Rattle.cover_cert.specs.declared.making.Covered.TheVariants.{Cover, Refused}
 use Rattle.command_bundles.specs.Checked.{TellsStop}
@@ -26,7 +27,7 @@ use Rattle.command_shell.specs.declared.status.Printed.TheVariants.{Done, Refuse
 use Rattle.command_shell.specs.declared.status.Cause.TheVariants.{Spent}
 use Rattle.command_shell.specs.Answers.{HasOneAnswer, IsRight, Prints, Saying, Stops}
 use Rattle.command_covers.specs.Covered.{TellsCovered}
-use Rattle.command_covers.specs.ItsCover.{CoverMeans}
+use Rattle.command_meanings.specs.ItsCover.{CoverMeans}
 
 -- if a check returns a verdict, it is the verdict of the definition
 said_is : (pool : Pool) (answer : Answer) (nodes : ℕ) (said : Verdict) → check_answer pool answer nodes ≡ Ok said → said ≡ check.verdict pool answer

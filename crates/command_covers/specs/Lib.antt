@@ -1,4 +1,2 @@
 pub mod CoverFormat
-pub mod CheckCover
-pub mod ItsCover
 pub mod Covered

@@ -7,7 +7,7 @@ ghost use Rattle.define_covers.specs.CoverVerdict.{verdict as verdict_of};
 ghost use Rattle.define_pools.specs.Certificate.{Certifies};
 ghost use Rattle.define_pools.specs.Lottery.{LeximinGreatest};
 ghost use Rattle.command_shell.specs.Answers.{HasOneAnswer, IsRight, saying};
-ghost use Rattle.command_covers.specs.CheckCover.{CheckCoverMeans};
+ghost use Rattle.command_meanings.specs.CheckCover.{CheckCoverMeans};
 
 use crate::given_cover::GivenCover;
 use command_bundles::verdict_answer;
@@ -30,7 +30,7 @@ impl Meaning for CheckCover {
     type About = GivenCover;
 
     ghost use Rattle.command_shell.specs.Answers.{IsTheAnswer};
-    ghost use Rattle.command_covers.specs.CheckCover.{CheckCoverMeans};
+    ghost use Rattle.command_meanings.specs.CheckCover.{CheckCoverMeans};
 
     ghost means = { λ command cover. IsTheAnswer (CheckCoverMeans cover) };
 }

@@ -3,7 +3,7 @@
 ghost use Rattle.std.specs.Prelude.{ℕ, IfOk};
 ghost use Rattle.define_bundles.specs.BundleText.{Bundle as SeenBundle};
 ghost use Rattle.command_shell.specs.Answers.{HasOneAnswer, IsRight, saying};
-ghost use Rattle.command_covers.specs.ItsCover.{CoverMeans};
+ghost use Rattle.command_meanings.specs.ItsCover.{CoverMeans};
 ghost use Rattle.command_covers.specs.Covered.{TellsCovered};
 
 use bundle_text::Bundle;
@@ -29,7 +29,7 @@ impl Meaning for ItsCover {
     type About = Bundle;
 
     ghost use Rattle.command_shell.specs.Answers.{IsTheAnswer};
-    ghost use Rattle.command_covers.specs.ItsCover.{CoverMeans};
+    ghost use Rattle.command_meanings.specs.ItsCover.{CoverMeans};
 
     ghost means = { λ command bundle. IsTheAnswer (CoverMeans command.nodes bundle) };
 }

@@ -1,6 +1,6 @@
 -- Whether bytes are the text of a pool, a bundle, a proof or a cover, and if they aren't, their first fault. The word that they begin with
 -- says how they are read: as a bundle, as a proof, as a cover, or else as a pool. Builds on the definitions of the texts.
-use Rattle.std.specs.Prelude.{◌≡◌, ℕ, Bool, List, take, codes, bytes_eq, if◌then◌else◌, Result, Ok, Err}
+use Rattle.std.specs.Prelude.{◌≡◌, ℕ, Bool, List, take, codes, bytes_eq, if◌then◌else◌, Option, Some, None, Result, Ok, Err}
 use Rattle.std.specs.Bool.{MatchBool}
 use Rattle.define_proofs.specs.ProofVerdict.{Proof}
 use Rattle.define_bundles.specs.BundleReading.{read_bundle}
@@ -29,6 +29,11 @@ begins_as_cover bytes = bytes_eq (codes "cover") (take 5 bytes)
 abbrev pub looked_as : {Value : Type 0} → Result Value Fault → AnyText
 looked_as (Ok value) = Right
 looked_as (Err fault) = Faulty (record { line = fault.line; kind = fault.kind })
+
+-- the first fault of the bytes; None if they are a text
+abbrev pub fault_in : AnyText → Option Fault
+fault_in Right = None
+fault_in (Faulty fault) = Some (record { line = fault.line; kind = fault.kind })
 
 -- `Right` if the bytes are a text, else `Faulty` with their first fault. The word that they begin with chooses the format
 abbrev pub looked_at : List ℕ → AnyText

@@ -4,7 +4,8 @@ ghost use Rattle.std.specs.Prelude.{IfOk};
 ghost use Rattle.std.specs.Io.{StartsWith};
 ghost use Rattle.command_shell.specs.Answers.{saying};
 ghost use Rattle.command_shell.specs.Lines.{input_line as words_of_input};
-ghost use Rattle.command_explain.specs.Explained.{Explains};
+ghost use Rattle.command_explain.specs.AnyTexts.{fault_in};
+ghost use Rattle.command_meanings.specs.Explain.{Explains};
 
 use crate::any_text::AnyText;
 use command_shell::{Answer, Cause, Command, Meaning, Printed, input_line};
@@ -19,9 +20,10 @@ pub struct Explain;
 impl Meaning for Explain {
     type About = AnyText;
 
-    ghost use Rattle.command_explain.specs.Explained.{Explains};
+    ghost use Rattle.command_explain.specs.AnyTexts.{fault_in};
+    ghost use Rattle.command_meanings.specs.Explain.{Explains};
 
-    ghost means = { λ command text. Explains text };
+    ghost means = { λ command text. Explains (fault_in text) };
 }
 
 impl Command for Explain {
@@ -32,7 +34,7 @@ impl Command for Explain {
 
 /// Returns the words about the bytes `text`, which were read as `about`.
 fn explained(alloc: Global, about: AnyText, text: &[u8]) -> Result<Answer, AllocError>
-    ensures { IfOk result (λ answer. Explains about (saying answer)) }
+    ensures { IfOk result (λ answer. Explains (fault_in about) (saying answer)) }
 {
     match about {
         AnyText::Right => Ok(Answer::Prints {

@@ -10,7 +10,7 @@ use Rattle.define_loosenings.proofs.Freed.{team_of_panel}
 use Rattle.define_pools.specs.Pool.{Pool, is_quota_panel, panels}
 use Rattle.define_searches.specs.Classes.{are_alike, classes_of}
 use Rattle.define_searches.specs.Compositions.{composition_of, first_panel}
-use Rattle.command_loosen.specs.Loosening.{IsLeastLoosening}
+use Rattle.command_meanings.specs.Loosening.{IsLeastLoosening}
 
 -- if there is no team, there is no quota panel, since each quota panel is a team
 pub no_panels : (pool : Pool) → ((team : List ℕ) → is_team pool team ≡ true → ⊥) → panels pool ≡ []

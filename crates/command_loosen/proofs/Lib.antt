@@ -1,3 +1,4 @@
 pub mod Pairs
 pub mod Least
 pub mod OneAnswer
+pub mod BySearch

@@ -5,8 +5,8 @@ use Rattle.define_pools.specs.Pool.{Pool}
 use Rattle.command_shell.specs.declared.status.Printed.TheVariants.{Done, NoPanel}
 use Rattle.command_shell.specs.declared.status.Cause.TheVariants.{Spent}
 use Rattle.command_shell.specs.Answers.{HasOneAnswer, Prints, Stops}
-use Rattle.command_loosen.specs.Lines.{loosening_text}
-use Rattle.command_loosen.specs.Loosening.{LoosenMeans}
+use Rattle.command_meanings.specs.LooseningLines.{loosening_text}
+use Rattle.command_meanings.specs.Loosening.{LoosenMeans}
 
 one_loosening : (pool : Pool) (a b : Loosening) → least_loosening pool ≡ Some a → least_loosening pool ≡ Some b → a ≡ b
 one_loosening pool a b x y = cc

@@ -1,10 +1,11 @@
 //! The commands `loosen` and `loosen-by-proof`: how to move bounds as little as possible in all so that a pool has a quota panel. Stands on
-//! `quota_loosen`, which searches all counts, `loosening_by_proof`, which searches by integer programs, `command_why` for how such a search
-//! stops, `define_loosenings`, which says what is found, `define_cost_bounds`, by which least totals are equal, the lines of
-//! `command_meanings` and `text_lines`, and the shell.
+//! `quota_loosen`, which searches all counts, `loosening_by_proof`, an engine that searches by integer programs, `define_loosenings`, which
+//! says what is found, `define_cost_bounds`, by which least totals are equal, the lines of `command_meanings` and `text_lines`, and the
+//! shell.
 //!
-//! Promises: `Loosen` answers as `specs/Loosening.antt` says, and the law that it has at most one right answer. `LoosenByProof` answers as
-//! `specs/LoosenByProof.antt` says, and the law that the totals of both are equal.
+//! Promises: `Loosen` answers as Loosening of `command_meanings` says, and the law that it has at most one right answer. `LoosenByProof` answers as
+//! LoosenByProof there says: it has no answer only where the search of `loosen` is spent. Laws: where `loosen` answers, the statuses
+//! of both are equal, and so are the totals.
 #![tactic(auto)]
 
 mod lines;
@@ -13,4 +14,6 @@ mod loosen_by_proof;
 mod worked;
 
 pub use loosen::{Loosen, loosen_has_one_answer};
-pub use loosen_by_proof::{LoosenByProof, loosen_totals_are_equal};
+pub use loosen_by_proof::{
+    LoosenByProof, loosen_by_proof_answers_where_loosen_does, loosen_totals_are_equal,
+};

@@ -6,7 +6,7 @@ ghost use Rattle.define_lines.specs.Lines.{tabbed, text_of};
 ghost use Rattle.define_loosenings.specs.Teams.{is_team};
 ghost use Rattle.define_pools.specs.Pool.{volunteer};
 ghost use Rattle.command_meanings.specs.Lines.{nodes_spent_line as words_of_nodes_spent, panel_line};
-ghost use Rattle.command_loosen.specs.Lines.{bound_line, is_moved as has_moved, loosening_text as words_of_loosening, moved_line, moved_lines, total_line};
+ghost use Rattle.command_meanings.specs.LooseningLines.{bound_line, is_moved as has_moved, loosening_text as words_of_loosening, moved_line, moved_lines, total_line};
 
 use itoa::Buffer;
 use pool_model::{BoundedValue, Category, Pool, Volunteer};

@@ -3,7 +3,7 @@
 ghost use Rattle.std.specs.Prelude.{ℕ, IfOk};
 ghost use Rattle.define_pools.specs.Pool.{Pool};
 ghost use Rattle.command_shell.specs.Answers.{HasOneAnswer, IsRight, saying};
-ghost use Rattle.command_loosen.specs.Loosening.{LoosenMeans};
+ghost use Rattle.command_meanings.specs.Loosening.{LoosenMeans};
 
 use crate::lines::{loosening_text, nodes_spent_line};
 use command_shell::{Answer, Cause, Command, Meaning, Printed, no_panel};
@@ -29,7 +29,7 @@ impl Meaning for Loosen {
     type About = Pool;
 
     ghost use Rattle.command_shell.specs.Answers.{IsTheAnswer};
-    ghost use Rattle.command_loosen.specs.Loosening.{LoosenMeans};
+    ghost use Rattle.command_meanings.specs.Loosening.{LoosenMeans};
 
     ghost means = { λ command pool. IsTheAnswer (LoosenMeans command.nodes pool) };
 }
@@ -41,8 +41,8 @@ impl Command for Loosen {
     }
 }
 
-/// Returns what `loosen` answers about `pool`.
-fn answered(alloc: Global, nodes: u64, pool: &Pool) -> Result<Answer, AllocError>
+/// Returns what `loosen` answers about `pool`. `loosen-by-proof` uses it too.
+pub(crate) fn answered(alloc: Global, nodes: u64, pool: &Pool) -> Result<Answer, AllocError>
     ensures { IfOk result (λ answer. IsRight (LoosenMeans nodes pool.now) (saying answer)) }
 {
     alike_make_classes();

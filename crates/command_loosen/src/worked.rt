@@ -7,7 +7,7 @@ ghost use Rattle.define_pools.specs.WorkedExamples.{couple, four, nobody};
 ghost use Rattle.command_shell.specs.declared.status.Printed.TheVariants.{Done, NoPanel};
 ghost use Rattle.command_shell.specs.declared.status.Cause.TheVariants.{Spent};
 ghost use Rattle.command_shell.specs.Answers.{IsRight, Prints, Stops};
-ghost use Rattle.command_loosen.specs.Loosening.{LoosenMeans};
+ghost use Rattle.command_meanings.specs.Loosening.{LoosenMeans};
 
 use define_loosenings::{cheapest_is_least, least_loosening_is_least};
 use define_searches::alike_make_classes;

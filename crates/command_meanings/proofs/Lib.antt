@@ -1,4 +1,5 @@
 pub mod RunEndings
+pub mod SharedEndings
 pub mod OneAnswer
 pub mod PanelLines
 pub mod LegEndings

@@ -2,6 +2,7 @@ pub mod Lines
 pub mod Panel
 pub mod Lottery
 pub mod Legs
+pub mod Sharing
 pub mod Make
 pub mod Seal
 pub mod Draw
@@ -9,3 +10,16 @@ pub mod Check
 pub mod Verify
 pub mod ItsBundle
 pub mod Prove
+pub mod ShortDraw
+pub mod CheckCover
+pub mod ItsCover
+pub mod LooseningLines
+pub mod Loosening
+pub mod LoosenByProof
+pub mod Why
+pub mod Page
+pub mod Explain
+pub mod Steps
+pub mod Imports
+pub mod RoundPages
+pub mod Question

@@ -12,6 +12,11 @@ use Rattle.command_meanings.specs.Lines.{panel_line, nodes_spent_line}
 abbrev pub visits_of : Pool → ℕ
 visits_of pool = (first_search (classes_of pool)).visits
 
+-- how many visits the searches may make that decide where the engines of `why` and `loosen-by-proof` have no answer: as many as those of
+-- `panel` and `loosen` without `--nodes`
+abbrev pub stated_visits : ℕ
+stated_visits = 50000000
+
 -- the quota panel has the first members of each class, as many as the first composition has of the class
 pub record IsFirstPanel (pool : Pool) (panel : List ℕ) : Type 0 where
   pub counts : List ℕ

@@ -1,27 +1,27 @@
 -- What `prove` answers: a valid proof over the pool of the input, or a reason why none was made.
 --
--- The run that makes the proof has no definition. So the meaning doesn't say whether a proof is found, nor which of the statuses 4, 5 and
--- 11 comes if none is. At 4, the line of any operation that passes 2^62 is right. At 5, the line that all turns of peeling are made
--- (`lottery`), or that a step was lost, is always right. At 11, which comes only if the input is a bundle, any trees may be the refused
--- ones: a refusal of the trees can be right even if the bundle's certificate holds.
-use Rattle.std.specs.Prelude.{◌≡◌, ℕ, List, [], ◌∷◌, codes, Option, None, Some, ⊤}
-use Rattle.std.specs.Fmt.{decimal, signed_decimal}
+-- The run that makes the proof has no definition: it is a shortcut, and of several proofs each may be printed. Every other answer has its
+-- cause. Where the shortcut has no lottery, the run of `lottery` takes over; where trees aren't found, the searches of `check`.
+use Rattle.std.specs.Prelude.{◌≡◌, ◌+◌, ℕ, not, List, [], ◌∷◌, codes, Ok, Option, None, Some, option_map, ⊤}
+use Rattle.std.specs.List.{position}
+use Rattle.std.specs.Fmt.{decimal}
 use Rattle.define_proofs.specs.ProofVerdict.{OfLottery, OfNoPanel, verdict}
-use Rattle.define_proofs.specs.Refusals.{RefusalMeans}
+use Rattle.define_proofs.specs.LeafSums.{is_stage_in_reach}
 use Rattle.define_proofs.specs.TreeLines.{TreeLine}
-use Rattle.define_checks.specs.Reasons.{Refusal, Refused, Valid}
-use Rattle.define_pools.specs.Certificate.{Answer}
+use Rattle.define_bundles.specs.BundleText.{Bundle}
+use Rattle.define_checks.specs.Reasons.{Valid}
+use Rattle.define_checks.specs.Visits.{check_answer}
+use Rattle.define_pools.specs.Certificate.{Answer, Stage}
 use Rattle.define_pools.specs.Pool.{Pool, panels}
 use Rattle.define_proofs.specs.ProofText.{proof_spelling}
-use Rattle.proof_limits.specs.Budgets.{Left, SpendsOn, unspent}
-use Rattle.proof_limits.specs.declared.passes.Op.{Op}
-use Rattle.proof_limits.specs.declared.passes.Op.TheVariants.{Mul, Add, Sub, Div}
-use Rattle.proof_limits.specs.Operations.{Operation, Passes}
+use Rattle.define_runs.specs.Run.{Limits, RunFinds}
+use Rattle.proof_limits.specs.Budgets.{Left}
 use Rattle.command_shell.specs.Answers.{RightAnswers, Saying, IsRight, no_answer}
 use Rattle.command_shell.specs.Lines.{line}
 use Rattle.command_shell.specs.declared.formats.PoolOrBundle.{PoolOrBundle}
 use Rattle.command_shell.specs.declared.formats.PoolOrBundle.TheVariants as either
-use Rattle.command_meanings.specs.Check.{IsGreatest, refused_line}
+use Rattle.command_meanings.specs.Check.{IsGreatest, PrintsRefusal, SpendsStage, refused_line}
+use Rattle.command_meanings.specs.Lottery.{PassesWidth, PrintsNone, SpendsBudget}
 
 -- ---- the input: a pool, or a bundle, whose answer is to be proved
 
@@ -33,26 +33,11 @@ abbrev pub given_in : PoolOrBundle → Option Answer
 given_in (either.Pool pool) = None
 given_in (either.Bundle bundle) = Some bundle.answer
 
--- ---- the lines of status 4 and status 5
-
-abbrev pub proof_operation : Op → List ℕ
-proof_operation Mul = codes "mul"
-proof_operation Add = codes "add"
-proof_operation Sub = codes "sub"
-proof_operation Div = codes "div"
-
--- the line of an operation that passes 2^62: the operation and its two numbers
-abbrev pub proof_wide_line : Operation → List ℕ
-proof_wide_line passed = line (codes "wide" ∷ proof_operation passed.op ∷ signed_decimal passed.x ∷ signed_decimal passed.y ∷ [])
+-- ---- the line of a spent budget
 
 -- the line of a spent budget: what is spent, and how much of it the run had
 abbrev pub proof_spent_line : List ℕ → ℕ → List ℕ
 proof_spent_line what most = line (codes "spent" ∷ what ∷ decimal most ∷ [])
-
--- the number in the line about spent turns of peeling: how many turns all rounds in `proof_peeling` have together. The one turn before the
--- first round isn't counted
-abbrev pub lottery_tries : ℕ
-lottery_tries = 168
 
 -- ---- the right answers, status by status
 
@@ -78,52 +63,93 @@ pub record PrintsProofOfNone (about : PoolOrBundle) (text : List ℕ) : Type 0 w
   pub none : panels (pool_in about) ≡ []
   pub proof : text ≡ proof_spelling (OfNoPanel (pool_in about) lines)
 
--- the exact result of the operation is above 2^62 by absolute value. Whether the run made this operation isn't said
-pub record PassesProofWidth (text : List ℕ) : Type 0 where
-  pub passed : Operation
-  pub passes : Passes passed
-  pub line : text ≡ proof_wide_line passed
+-- ---- the runs and the searches that stand behind the engine
 
--- the text is the line of a spent budget, or of a lost step, that is right if the run leaves `left` of its budget
-pub data SpendsProofBudget (left : Left) (text : List ℕ) : Type 0 where
-  -- no pivot is left
-  PivotsSpent : left.pivots ≡ 0 → text ≡ proof_spent_line (codes "pivots") left.most_pivots → SpendsProofBudget left text
-  -- no node is left
-  NodesSpent : left.nodes ≡ 0 → text ≡ proof_spent_line (codes "nodes") left.most_nodes → SpendsProofBudget left text
-  -- all turns of peeling are made; no condition is put on `left`
-  LotterySpent : text ≡ proof_spent_line (codes "lottery") lottery_tries → SpendsProofBudget left text
-  -- this is no budget: a step of the run led to a state that exact arithmetic never leads to, or the proof that the run made was refused.
-  -- No condition is put on `left`
-  StepLost : text ≡ proof_spent_line (codes "lost") 0 → SpendsProofBudget left text
+-- the limits of the run of `lottery` and of a solve, where the engine has no lottery: those that these have without words
+abbrev pub lottery_limits : Limits
+lottery_limits = record { bits = 127; pivots = 100000; nodes = 50000000 }
 
--- There are trees with which the lottery and the stages of the given bundle make a proof that is refused. Whether the run found these
--- trees isn't said. If the reason is below 11, the bundle's certificate doesn't hold; a reason from 11 on is about the trees alone
-pub record PrintsGivenRefusal (about : PoolOrBundle) (text : List ℕ) : Type 0 where
-  pub its : Answer
-  pub is_given : given_in about ≡ Some its
-  pub trees : List (List TreeLine)
-  pub refusal : Refusal
-  pub refuses : verdict (OfLottery (pool_in about) its trees) ≡ Refused refusal
-  pub means : RefusalMeans (OfLottery (pool_in about) its trees) refusal
-  pub line : text ≡ refused_line refusal
+-- the visits of each search of `check`, where no trees are found
+abbrev pub check_visits : ℕ
+check_visits = 50000000
 
--- what is right to answer, if the run leaves `left` of its budget
+-- the line that trees aren't found: `nodes` nodes of trees were visited
+abbrev pub trees_spent_line : ℕ → List ℕ
+trees_spent_line nodes = proof_spent_line (codes "trees") nodes
+
+-- the number of the first stage whose numbers pass what the lines of a proof hold, counted from 1
+abbrev pub first_beyond : List Stage → Option ℕ
+first_beyond stages = option_map (λ place. place + 1) (position (λ stage. not (is_stage_in_reach stage)) stages)
+
+-- the line of a stage whose numbers pass what the lines of a proof hold: reason 13, and nobody who shows it
+abbrev pub beyond_line : ℕ → List ℕ
+beyond_line stage = refused_line (record { stage = stage; reason = 13; who = [] })
+
+-- the pool of the input with this answer
+abbrev pub over : PoolOrBundle → Answer → Bundle
+over about its = record { pool = pool_in about; answer = its }
+
+-- a pool was given, and `Ends` holds of it: the run of `lottery` ends so
+abbrev pub EndsRun : (Limits → Pool → List ℕ → Type 0) → PoolOrBundle → List ℕ → Type 0
+EndsRun Ends (either.Pool pool) text = Ends lottery_limits pool text
+EndsRun Ends (either.Bundle bundle) text = ⊥
+
+-- a bundle was given, and `Tells` holds of it
+abbrev pub TellsGiven : (Bundle → List ℕ → Type 0) → PoolOrBundle → List ℕ → Type 0
+TellsGiven Tells (either.Pool pool) text = ⊥
+TellsGiven Tells (either.Bundle bundle) text = Tells bundle text
+
+-- the answer is the given one, or the one that the run of `lottery` finds for the given pool
+abbrev pub IsGivenOrFound : PoolOrBundle → Answer → Type 0
+IsGivenOrFound (either.Pool pool) its = RunFinds pool lottery_limits its
+IsGivenOrFound (either.Bundle bundle) its = its ≡ bundle.answer
+
+-- the certificate of this answer holds, by the searches of `check`. If an answer was given, it is this one
+pub record IsChecked (about : PoolOrBundle) (its : Answer) : Type 0 where
+  pub is_given : IsGiven (given_in about) its
+  pub valid : check_answer (pool_in about) its check_visits ≡ Ok Valid
+
+-- ---- the right answers at statuses 1, 5 and 11
+
+pub data PrintsNoPanel (about : PoolOrBundle) (text : List ℕ) : Type 0 where
+  -- a valid proof that there is no quota panel
+  ProvesNone : PrintsProofOfNone about text → PrintsNoPanel about text
+  -- the line of `lottery`, whose run finds that there is none
+  RunFindsNone : EndsRun PrintsNone about text → PrintsNoPanel about text
+
+-- the budget that is spent. `count` is what is left of the nodes of trees
+pub data SpendsProve (count : Left) (about : PoolOrBundle) (text : List ℕ) : Type 0 where
+  -- the run of `lottery` needs more than it may make
+  RunSpends : EndsRun SpendsBudget about text → SpendsProve count about text
+  -- a search of `check` needs more than its visits
+  CheckSpends : (its : Answer) → IsGivenOrFound about its → SpendsStage check_visits (over about its) text → SpendsProve count about text
+  -- no trees are found, though the certificate holds, and no stage's numbers pass what a proof's lines hold: all nodes of trees were visited
+  TreesSpent : (its : Answer) → IsChecked about its → first_beyond its.stages ≡ None → count.nodes ≡ 0 → text ≡ trees_spent_line count.most_nodes → SpendsProve count about text
+
+pub data RefusesProve (about : PoolOrBundle) (text : List ℕ) : Type 0 where
+  -- the certificate of the given bundle doesn't hold, by the searches of `check`
+  CheckRefuses : TellsGiven (PrintsRefusal check_visits) about text → RefusesProve about text
+  -- no proof can have the numbers of this stage, which is the first such stage; the certificate holds
+  StageBeyond : (its : Answer) → IsChecked about its → (stage : ℕ) → first_beyond its.stages ≡ Some stage → text ≡ beyond_line stage → RefusesProve about text
+
+-- what is right to answer, if `count` is left of the nodes of trees
 abbrev pub ProveMeans : Left → PoolOrBundle → RightAnswers
-ProveMeans left about = record no_answer {
+ProveMeans count about = record no_answer {
   -- status 0
   done = PrintsProof about;
   -- status 1
-  no_panel = PrintsProofOfNone about;
-  -- status 4
-  wide = PassesProofWidth;
+  no_panel = PrintsNoPanel about;
+  -- status 4: a number of the run of `lottery` passes its width
+  wide = EndsRun PassesWidth about;
   -- status 5
-  spent = SpendsProofBudget left;
+  spent = SpendsProve count about;
   -- status 11
-  refused = PrintsGivenRefusal about;
+  refused = RefusesProve about;
 }
 
--- what is right to answer, if the run begins with a budget of `pivots` pivots and `nodes` nodes, none of it spent
-pub record ProvesWithin (pivots nodes : ℕ) (about : PoolOrBundle) (answer : Saying) : Type 0 where
-  pub left : Left
-  pub spends : SpendsOn (unspent pivots nodes) left
-  pub right : IsRight (ProveMeans left about) answer
+-- what is right to answer, if trees have `nodes` nodes. That `count` was counted down from them node by node, the contract of `prove_within`
+-- says, whose counter nothing else can write
+pub record ProvesWithin (nodes : ℕ) (about : PoolOrBundle) (answer : Saying) : Type 0 where
+  pub count : Left
+  pub most : count.most_nodes ≡ nodes
+  pub right : IsRight (ProveMeans count about) answer

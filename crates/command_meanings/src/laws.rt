@@ -1,5 +1,6 @@
 //! Laws of what commands mean: at most one answer is right. The functions have no body; their contracts are the laws. `prove` has no such
-//! law, since the run that makes its proof has no definition.
+//! law, since of several proofs each is right. `lottery --share` has one of its own: it answers as `lottery`, unless a pricing spends its
+//! budget.
 
 ghost use Rattle.std.specs.Prelude.{ℕ, List};
 ghost use Rattle.define_proofs.specs.ProofVerdict.{Proof};
@@ -13,6 +14,7 @@ ghost use Rattle.command_meanings.specs.Lottery.{LotteryMeans};
 ghost use Rattle.command_meanings.specs.Make.{MakeMeans};
 ghost use Rattle.command_meanings.specs.Panel.{PanelMeans};
 ghost use Rattle.command_meanings.specs.Seal.{SealMeans};
+ghost use Rattle.command_meanings.specs.Sharing.{SharingAnswersAsLottery};
 ghost use Rattle.command_meanings.specs.Verify.{VerifyMeans};
 ghost use Rattle.define_pools.specs.Pool.{Pool};
 ghost use Rattle.define_runs.specs.Run.{Limits};
@@ -25,6 +27,11 @@ pub fn panel_has_one_answer()
 /// `lottery` has at most one right answer about a pool.
 pub fn lottery_has_one_answer()
     ensures { (limits : Limits) (pool : Pool) → HasOneAnswer (LotteryMeans limits pool) }
+{}
+
+/// If no pricing of the run spends its budget, `lottery --share` answers as `lottery` does. Else more than one answer may be right.
+pub fn sharing_answers_as_lottery()
+    ensures { SharingAnswersAsLottery }
 {}
 
 /// `legs` has at most one right answer about a pool.

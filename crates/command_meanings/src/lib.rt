@@ -1,14 +1,17 @@
-//! What ten commands answer: which text or line is right at which status. `panel`, `lottery`, `legs`, `make`, `check`, `prove`,
-//! `verify`, `bundle`, `seal` and `draw` each have a file in `specs/`. The meanings of all other commands, and of commands over a store, are in the
-//! crates of these commands. Stands on `command_shell`, the definitions of pools, checks, runs, draws and proofs, and `laws_of_legs`.
+//! What the commands answer: which text or line is right at which status. Each command has a file in `specs/`, which says it status by status;
+//! so has `lottery` with its flag `--share` (Sharing), and so have all questions about a bundle (Question), all commands of the office and
+//! texts about a round (Steps), and all imports (Imports). `prove` over a store is said in `command_stores`, and `serve` in `command_desk`.
+//! Stands on `command_shell` and on definitions.
 //!
 //! Promises: the laws in `laws.rt`.
 #![tactic(auto)]
 
 mod laws;
+mod office;
 
 pub use laws::{
     bundle_has_one_answer, check_has_one_answer, draw_has_one_answer, legs_has_one_answer,
     lottery_has_one_answer, make_has_one_answer, panel_has_one_answer, seal_has_one_answer,
-    verify_has_one_answer,
+    sharing_answers_as_lottery, verify_has_one_answer,
 };
+pub use office::{Import, RoundText, StoreText};

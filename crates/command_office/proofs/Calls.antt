@@ -5,13 +5,13 @@ use Rattle.command_desk.specs.ServeOutcomes.{SilentServeOutcome}
 use Rattle.office_http.specs.Visits.{LinkTold}
 use Rattle.outside.specs.Links.{DoorCall, DoorLinks}
 use Rattle.command_shell.specs.Told.{Told, object}
-use Rattle.command_stores.specs.Imports.{ImportMeans}
-use Rattle.command_stores.specs.Steps.{StepMeans, TextMeans}
+use Rattle.command_meanings.specs.Imports.{ImportMeans}
+use Rattle.command_meanings.specs.Steps.{StepMeans, TextMeans}
 use Rattle.command_stores.specs.StoreOutcomes.{SilentStoreOutcome, TextStoreOutcome}
 use Rattle.command_stores.specs.ProvedRounds.{ProvesRound}
-use Rattle.command_stores.specs.declared.imports.Import.{Import}
+use Rattle.command_meanings.specs.declared.office.Import.{Import}
 use Rattle.command_stores.specs.declared.proving.ProveRound.{ProveRound}
-use Rattle.command_stores.specs.declared.texts.StoreText.{StoreText}
+use Rattle.command_meanings.specs.declared.office.StoreText.{StoreText}
 use Rattle.define_offices.specs.Commands.{Command}
 use Rattle.command_stores.specs.StoreTold.{StoreTold, keeper_told, store_told}
 use Rattle.define_offices.specs.Tables.{Tables}

@@ -21,12 +21,12 @@ use Rattle.command_shell.specs.declared.status.Printed.TheVariants.{Done, Refuse
 use Rattle.command_shell.specs.Answers.{IsRight, IsTheAnswer, RightAnswers, Saying, Prints, Stops, status_of}
 use Rattle.command_shell.specs.Formats.{bundle_format, proof_format}
 use Rattle.command_shell.specs.Lines.{input_limit}
-use Rattle.command_shell.specs.Outcomes.{Answered, Ends, IsAboutSource, IsTold, ReadFault, TooLong, WantOfMemory, WriteFault}
+use Rattle.command_shell.specs.Outcomes.{Answered, Ends, IsAboutSource, IsTold, ReadFault, TextOutcome, TooLong, WantOfMemory, WriteFault}
 use Rattle.command_shell.specs.Subjects.{About, AboutFault, AboutValue, Format}
 use Rattle.command_shell.specs.Told.{Told}
-use Rattle.command_covers.specs.CheckCover.{CheckCoverMeans}
+use Rattle.command_meanings.specs.CheckCover.{CheckCoverMeans}
 use Rattle.command_covers.specs.CoverFormat.{cover_format}
-use Rattle.command_covers.specs.ItsCover.{CoverMeans}
+use Rattle.command_meanings.specs.ItsCover.{CoverMeans}
 use Rattle.command_meanings.specs.Check.{CheckMeans}
 use Rattle.command_meanings.specs.Verify.{VerifyMeans}
 use Rattle.command_texts.specs.declared.commands.TextCommand.TheVariants as texts
@@ -53,6 +53,31 @@ not_longer (Some left) (Some rest) text limit told within loses =
     let more = loses.1 in
     absurd (omega arith)
 
+module _ {Value : Type 0} (format : Format Value) (Means : Value → Saying → Type 0) (told : Told) where
+  -- a right answer about `value` was told, so it has the status of the call
+  pub record IsDueBy (value : Value) : Type 0 where
+    pub answer : Saying
+    pub right : Means value answer
+    pub tells : IsTold answer told
+    pub status : told.status ≡ status_of answer
+
+  due_of : (value : Value) (text : List ℕ) → format.read text ≡ Ok value → ToldText told.source text → (answer : Saying) → IsTold answer told →
+      (right : IsAboutSource (About format Means) told.source answer) → About format Means right.bytes answer → IsDueBy value
+  due_of value text reads_so from answer is right (AboutValue own reads spells means) =
+      let bytes = same_text told.source.before told.source.after text right.bytes from.told right.held in
+      let same : own ≡ value = cc (reads, reads_so, bytes) in
+      record { answer = answer; right = subst (λ v. Means v answer) same means; tells = is; status = its_status answer told is }
+  due_of value text reads_so from answer is right (AboutFault fault fails e) =
+      let bytes = same_text told.source.before told.source.after text right.bytes from.told right.held in
+      absurd (cc (fails, reads_so, bytes))
+
+  pub due_by : (value : Value) (text : List ℕ) → format.read text ≡ Ok value → ToldText told.source text → told.status ≢ 8 → told.status ≢ 12 → TextOutcome (About format Means) told → IsDueBy value
+  due_by value text reads_so from n8 n12 (Ends (Answered answer right is)) = due_of value text reads_so from answer is right right.means
+  due_by value text reads_so from n8 n12 (Ends (WriteFault printed cut_text right cut)) = absurd (n8 cut.status)
+  due_by value text reads_so from n8 n12 (Ends (WantOfMemory want)) = absurd (n12 want.status)
+  due_by value text reads_so from n8 n12 (TooLong long) = absurd (not_longer told.source.before told.source.after text input_limit from.told from.within long.held)
+  due_by value text reads_so from n8 n12 (ReadFault fault) = absurd (from.no_fault fault.faulted)
+
 module _ {Value : Type 0} (format : Format Value) (Means : Value → RightAnswers) (told : Told) where
   -- there is a right answer about `value` with the status of the call
   pub record IsDue (value : Value) : Type 0 where
@@ -60,22 +85,9 @@ module _ {Value : Type 0} (format : Format Value) (Means : Value → RightAnswer
     pub right : IsRight (Means value) answer
     pub status : told.status ≡ status_of answer
 
-  due_of : (value : Value) (text : List ℕ) → format.read text ≡ Ok value → ToldText told.source text → (answer : Saying) → IsTold answer told →
-      (right : IsAboutSource (About format (λ v. IsTheAnswer (Means v))) told.source answer) → About format (λ v. IsTheAnswer (Means v)) right.bytes answer → IsDue value
-  due_of value text reads_so from answer is right (AboutValue own reads spells means) =
-      let bytes = same_text told.source.before told.source.after text right.bytes from.told right.held in
-      let same : own ≡ value = cc (reads, reads_so, bytes) in
-      record { answer = answer; right = subst (λ v. IsRight (Means v) answer) same means.right; status = its_status answer told is }
-  due_of value text reads_so from answer is right (AboutFault fault fails e) =
-      let bytes = same_text told.source.before told.source.after text right.bytes from.told right.held in
-      absurd (cc (fails, reads_so, bytes))
-
   pub due : (value : Value) (text : List ℕ) → format.read text ≡ Ok value → ToldText told.source text → told.status ≢ 8 → told.status ≢ 12 → Answers format Means told → IsDue value
-  due value text reads_so from n8 n12 (Ends (Answered answer right is)) = due_of value text reads_so from answer is right right.means
-  due value text reads_so from n8 n12 (Ends (WriteFault printed cut_text right cut)) = absurd (n8 cut.status)
-  due value text reads_so from n8 n12 (Ends (WantOfMemory want)) = absurd (n12 want.status)
-  due value text reads_so from n8 n12 (TooLong long) = absurd (not_longer told.source.before told.source.after text input_limit from.told from.within long.held)
-  due value text reads_so from n8 n12 (ReadFault fault) = absurd (from.no_fault fault.faulted)
+  due value text reads_so from n8 n12 right =
+      let it = due_by format (λ v. IsTheAnswer (Means v)) told value text reads_so from n8 n12 right in record { answer = it.answer; right = it.right.right; status = it.status }
 
 -- if no budget is spent, the status of `check` is 0 exactly if the certificate holds
 certified : (nodes status : ℕ) (bundle : Bundle) (answer : Saying) → IsRight (CheckMeans nodes bundle) answer → status ≡ status_of answer → status ≢ 5 →

@@ -74,7 +74,9 @@ module _ (told : StoreTold) where
   pub call_ends : (it : Option Asked) → AnswersRightly it told → Ends it told
   call_ends None right = Usage refl right.call
   call_ends (Some (asks.Text command)) right = text_ends (Some (asks.Text command)) told (λ answer is. is) right.call
+  call_ends (Some (asks.Prove it)) right = text_ends (Some (asks.Prove it)) told (λ answer is. is) right.call
   call_ends (Some (asks.Lottery it)) right = text_ends (Some (asks.Lottery it)) told (λ answer is. is) right.call
+  call_ends (Some (asks.SharedLottery it)) right = text_ends (Some (asks.SharedLottery it)) told (λ answer is. is) right.call
   call_ends (Some (asks.Legs it)) right = text_ends (Some (asks.Legs it)) told (λ answer is. is) right.call
   call_ends (Some (asks.Make it)) right = outcome_ends (Some (asks.Make it)) told (λ answer is. is) right.call.ends
   call_ends (Some (asks.Step store step)) right = store_ends (Some (asks.Step store step)) told store (λ answer is. is) right.ends

@@ -1,6 +1,6 @@
 -- If the run is stated, and the pool was told, status 1 comes exactly if the pool has no quota panel and the opening search is within its budget.
 use Rattle.std.specs.Prelude.{◌≢◌, ◌↔◌, ◌≤◌}
-use Rattle.std.proofs.Common.{◌≡◌, ◌∙◌, ℕ, List, [], Option, Some, Ok, ap, sym, subst, arith}
+use Rattle.std.proofs.Common.{◌≡◌, ◌∙◌, ℕ, List, [], Option, Some, Ok, ap, refl, sym, subst, arith}
 use Rattle.define_leximin.proofs.Leximin.{leximin, panel_in}
 use Rattle.define_made_pools.specs.MadePools.{made_pool}
 use Rattle.define_offices.specs.Commands.{Change, Outcome, Solve}
@@ -16,6 +16,8 @@ use Rattle.define_runs.specs.Run.{Ending, Limits, RunEnds, run_limits}
 use Rattle.define_runs.proofs.OtherLimits.{one_ending}
 use Rattle.define_searches.specs.Classes.{are_alike, classes_of}
 use Rattle.define_searches.proofs.AlikeClasses.{alike_makes}
+use Rattle.define_sharing.specs.Sharing.{RunMayEnd}
+use Rattle.define_sharing.proofs.Shared.{sharing_keeps}
 use Rattle.laws_of_legs.proofs.Endings.{legs_end}
 use Rattle.laws_of_runs.proofs.NoPanels.{no_panel_is_within, no_panel_where_none, none_where_no_panel}
 use Rattle.command_shell.specs.declared.status.Printed.TheVariants.{Done, NoPanel as NonePrinted, Refused as Rejected}
@@ -29,7 +31,8 @@ use Rattle.command_meanings.specs.Legs.{LegsMeans}
 use Rattle.command_meanings.specs.Lottery.{LotteryMeans, PassesWidth, SpendsBudget, TellsBudget, TellsWidth}
 use Rattle.command_meanings.specs.Make.{MakeMeans}
 use Rattle.command_meanings.specs.Panel.{PanelMeans, visits_of}
-use Rattle.command_stores.specs.Steps.{StepMeans, TellsOutcome}
+use Rattle.command_meanings.specs.Sharing.{SharedLotteryMeans}
+use Rattle.command_meanings.specs.Steps.{StepMeans, TellsOutcome}
 use Rattle.command_stores.specs.StoreOutcomes as over
 use Rattle.command_stores.specs.StoreOutcomes.{StoreOutcome}
 use Rattle.command_stores.specs.StoreTold.{StoreTold}
@@ -40,7 +43,7 @@ use Rattle.command_office.specs.declared.steps.Step.TheVariants as steps
 use Rattle.command_office.specs.Office.{AnswersRightly}
 use Rattle.command_office.specs.About.{ToldPool, ToldRoundPool}
 use Rattle.command_office.specs.Headline.{nodes_of}
-use Rattle.command_office.proofs.Checkers.{due}
+use Rattle.command_office.proofs.Checkers.{due, due_by}
 use Rattle.command_office.proofs.Reading.{its_status}
 use Rattle.std.specs.Prelude.{IfSome}
 
@@ -79,6 +82,19 @@ module _ (status : ℕ) (pool : Pool) where
     lottery_exact (Stops Spent line) right is = (λ s. absurd (cc (is, s)), λ (none, within). absurd (not_spent line right none within))
     lottery_exact (Stops Input line) right is = absurd right
     lottery_exact (Stops Rule line) right is = absurd right
+
+    -- ---- workers that share a bound
+
+    only_none_shared : (ending : Ending) → RunMayEnd pool limits ending → (panels pool ≡ []) → visits_of pool ≤ limits.nodes → ending ≡ run.NoPanel
+    only_none_shared ending may none within = sharing_keeps (classes_of pool) (run_limits limits) run.NoPanel ending (ends_none none within) refl may
+
+    shared_exact : (answer : Saying) → IsRight (SharedLotteryMeans limits pool) answer → status ≡ status_of answer → IsExactly status limits.nodes pool
+    shared_exact (Prints Done text) right is = (λ s. absurd (cc (is, s)), λ (none, within). absurd ((leximin pool right.answer.lottery right.finds.greatest).exists none))
+    shared_exact (Stops Wide line) right is =
+        (λ s. absurd (cc (is, s)), λ (none, within). absurd (subst (λ e. TellsWidth e line) (only_none_shared right.ending right.ends none within) right.tells))
+    shared_exact (Stops Spent line) right is =
+        (λ s. absurd (cc (is, s)), λ (none, within). absurd (subst (λ e. TellsBudget limits e line) (only_none_shared right.ending right.ends none within) right.tells))
+    shared_exact answer right is = lottery_exact answer right is
 
     -- `legs` makes the same run
     legs_exact : (answer : Saying) → IsRight (LegsMeans limits pool) answer → status ≡ status_of answer → IsExactly status limits.nodes pool
@@ -154,6 +170,10 @@ module _ (told : StoreTold) (nodes : ℕ) (pool : Pool) where
       let own = due pool_format (LotteryMeans it.limits) told.call pool (spelling pool) (spelled_is_read pool is_pool) from n8 n12 right.call in
       let same : it.limits.nodes ≡ nodes = cc in
       subst Exact same (lottery_exact told.call.status pool it.limits own.answer own.right own.status)
+  exactly (Some (asks.SharedLottery it)) right has (is_pool, from) n8 n9 n12 =
+      let own = due_by pool_format (λ pool. IsRight (SharedLotteryMeans it.limits pool)) told.call pool (spelling pool) (spelled_is_read pool is_pool) from n8 n12 right.call in
+      let same : it.limits.nodes ≡ nodes = cc in
+      subst Exact same (shared_exact told.call.status pool it.limits own.answer own.right own.status)
   exactly (Some (asks.Legs it)) right has (is_pool, from) n8 n9 n12 =
       let own = due pool_format (LegsMeans it.limits) told.call pool (spelling pool) (spelled_is_read pool is_pool) from n8 n12 right.call in
       let same : it.limits.nodes ≡ nodes = cc in

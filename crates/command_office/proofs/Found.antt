@@ -35,17 +35,17 @@ use Rattle.command_shell.specs.Outcomes.{IsAboutSource, IsTold}
 use Rattle.command_shell.specs.Subjects.{About, AboutFault, AboutValue, Format}
 use Rattle.command_shell.specs.Told.{Gains, HeldAll}
 use Rattle.command_meanings.specs.ItsBundle.{BundleMeans}
-use Rattle.command_meanings.specs.Prove.{IsGiven, given_in, pool_in}
+use Rattle.command_meanings.specs.Prove.{IsGiven, PrintsNoPanel, ProvesNone, RunFindsNone, given_in, lottery_limits, pool_in}
 use Rattle.command_meanings.specs.Seal.{bundle_seal}
-use Rattle.command_page.specs.Inputs.{bundle_in}
-use Rattle.command_page.specs.Page.{DrawnPageOfBundle, PageOfBundle, about}
-use Rattle.command_stores.specs.Imports.{Does, HasFault, ImportMeans, NoRules, keeping}
-use Rattle.command_stores.specs.ProvedRounds.{AsSolve, IsOpenWith, Keeps as KeepsProof, NoProof, ProvesRound}
-use Rattle.command_stores.specs.Steps.{StepMeans, change_of, text_or_refusal}
+use Rattle.command_shell.specs.BundlesOrProofs.{bundle_in}
+use Rattle.command_meanings.specs.Page.{DrawnPageOfBundle, PageOfBundle, about}
+use Rattle.command_meanings.specs.Imports.{Does, HasFault, ImportMeans, NoRules, keeping}
+use Rattle.command_stores.specs.ProvedRounds.{AsSolve, IsOpenWith, Keeps as KeepsProof, ProvesRound}
+use Rattle.command_meanings.specs.Steps.{StepMeans, change_of, text_or_refusal}
 use Rattle.command_stores.specs.StoreOutcomes.{IsAnswered, StoreMeaning}
 use Rattle.command_stores.specs.StoreTold.{StoreTold}
-use Rattle.command_stores.specs.declared.imports.Import.{Import}
-use Rattle.command_stores.specs.declared.imports.Import.TheVariants as imports
+use Rattle.command_meanings.specs.declared.office.Import.{Import}
+use Rattle.command_meanings.specs.declared.office.Import.TheVariants as imports
 use Rattle.command_stores.specs.declared.proving.ProveRound.{ProveRound}
 use Rattle.command_texts.specs.declared.commands.TextCommand.TheVariants as texts
 use Rattle.command_office.specs.declared.asked.Asked.{Asked}
@@ -55,9 +55,9 @@ use Rattle.command_office.specs.Steps.{step_command}
 use Rattle.command_office.specs.About.{HeldBundle, HeldEither, HeldPool, IsItsPool, IsRoundPool}
 use Rattle.command_office.specs.Headline.{AnswersLottery, DrawsSealed, GotBundle, HadBundle as HadIts, IsRightAnswer, IsSealedDraw, SolvesRound}
 use Rattle.command_office.proofs.KeptRounds.{keep_comes, keep_done, keep_none}
-use Rattle.command_office.proofs.Plain.{file_plain, is_plain_command, is_plain_import, plain_comes, solve_plain}
+use Rattle.command_office.proofs.Plain.{file_plain, is_plain_command, is_plain_import, plain_comes}
 use Rattle.command_office.proofs.Quiet.{comes_none, comes_text, unchanged}
-use Rattle.command_office.proofs.SolvedRounds.{HadBundle, Opened, SettlesRound, solve_at_once, solve_done, solve_none}
+use Rattle.command_office.proofs.SolvedRounds.{HadBundle, Opened, SettlesRound, solve_done, solve_none}
 use Rattle.std.proofs.lemmas.Bool.{false≢true}
 
 -- ---- what a printed answer about a text is about
@@ -137,10 +137,9 @@ module _ (told : StoreTold) where
       SettlesRound it.round is.tables is.change (λ pool answer. ⊤)
   proof_solves path it text is (KeepsProof pool proof of same valid means) =
       keep_done is.tables it.round is.loaded.is proof means.is_command is.change text (keep_comes is.tables it.round proof (Replies is.change (Lines text)) (comes_text (Keep it.round proof) is.tables is.change text means))
-  proof_solves path it text is (NoProof pool left of spends right none) = absurd right
-  proof_solves path it text is (AsSolve limits no_run means) =
-      no_also it.round is.tables is.change (λ pool answer. RunFinds pool limits answer)
-      (solve_done is.tables it.round limits is.loaded.is means.is_command is.change text (comes_text (Solve it.round limits) is.tables is.change text means))
+  proof_solves path it text is (AsSolve means) =
+      no_also it.round is.tables is.change (λ pool answer. RunFinds pool lottery_limits answer)
+      (solve_done is.tables it.round lottery_limits is.loaded.is means.is_command is.change text (comes_text (Solve it.round lottery_limits) is.tables is.change text means))
 
   -- ---- status 0
 
@@ -153,7 +152,15 @@ module _ (told : StoreTold) where
         leximin = leximin own.value prints.answer.lottery prints.finds.greatest;
         told = (held_pool own.value own.bytes own.held own.spells, prints.finds.ends, subst (Gains told.call.out) prints.bundle is.out);
       }
-  done (Some (asks.Text (texts.Prove it))) text right is =
+  done (Some (asks.SharedLottery it)) text right is =
+      let own = printed_about _ _ told Done text right in
+      let prints = own.means in record {
+        pool = own.value;
+        answer = prints.answer;
+        leximin = leximin own.value prints.answer.lottery prints.finds.greatest;
+        told = (held_pool own.value own.bytes own.held own.spells, prints.finds.ends, subst (Gains told.call.out) prints.bundle is.out);
+      }
+  done (Some (asks.Prove it)) text right is =
       let own = printed_about _ _ told Done text right in
       let prints = own.means.right in record {
         pool = pool_in own.value;
@@ -252,6 +259,11 @@ module _ (told : StoreTold) where
 
   -- ---- status 1
 
+  no_panel_told : (about : PoolOrBundle) (text : List ℕ) → PrintsNoPanel about text → panels (pool_in about) ≡ []
+  no_panel_told about text (ProvesNone proof) = proof.none
+  no_panel_told (either.Pool pool) text (RunFindsNone line) = line.finds.none
+  no_panel_told (either.Bundle bundle) text (RunFindsNone line) = absurd line
+
   bundle_none : (proof : Proof) (text : List ℕ) → IsRight (BundleMeans proof) (Prints NonePrinted text) → ⊥
   bundle_none (OfLottery pool its trees) text right = right
   bundle_none (OfNoPanel pool lines) text right = right
@@ -290,10 +302,9 @@ module _ (told : StoreTold) where
   proof_none : (it : ProveRound) (tables : Tables) (change : Option Change) (text : List ℕ) → IsTables tables → ProvesRound it tables (Prints NonePrinted text) change →
       (pool : Pool) × IsOpenWith tables it.round pool × (panels pool ≡ [])
   proof_none it tables change text keeps (KeepsProof pool proof of same valid means) = kept_none it.round proof tables change text keeps means
-  proof_none it tables change text keeps (NoProof pool left of spends right none) = absurd right
-  proof_none it tables change text keeps (AsSolve limits no_run means) =
-      let comes = comes_none (Solve it.round limits) tables change text means in
-      absurd (false≢true (solve_plain tables it.round (named_round tables.rounds it.round) (Replies (change_of means.outcome) NoPanel) (solve_at_once tables it.round limits (Replies (change_of means.outcome) NoPanel) no_run comes)))
+  proof_none it tables change text keeps (AsSolve means) =
+      let (ran, empty) = solve_none tables it.round lottery_limits (change_of means.outcome) (comes_none (Solve it.round lottery_limits) tables change text means) in
+      (ran.pool, record { open_now = ran.open_now; is = ran.is }, empty)
 
   plain_none : (command : Command) (tables : Tables) (change : Option Change) (text : List ℕ) → is_plain_command command ≡ true → StepMeans command tables (Prints NonePrinted text) change → ⊥
   plain_none command tables change text plain means = false≢true (plain_comes tables command (Replies (change_of means.outcome) NoPanel) plain (comes_none command tables change text means))
@@ -311,17 +322,19 @@ module _ (told : StoreTold) where
   none None text right = absurd right
   none (Some (asks.Lottery it)) text right =
       let own = printed_about _ _ told NonePrinted text right in (own.value, held_pool own.value own.bytes own.held own.spells, own.means.right.finds.none)
+  none (Some (asks.SharedLottery it)) text right =
+      let own = printed_about _ _ told NonePrinted text right in (own.value, held_pool own.value own.bytes own.held own.spells, own.means.finds.none)
   none (Some (asks.Legs it)) text right =
       let own = printed_about _ _ told NonePrinted text right in (own.value, held_pool own.value own.bytes own.held own.spells, own.means.right.finds.none)
   none (Some (asks.Make it)) text right = (made_pool it.seed it.volunteers, refl, right.right.finds.none)
-  none (Some (asks.Text (texts.Prove it))) text right =
-      let own = printed_about _ _ told NonePrinted text right in (pool_in own.value, held_either own.value own.bytes own.held own.spells, own.means.right.none)
+  none (Some (asks.Prove it)) text right =
+      let own = printed_about _ _ told NonePrinted text right in (pool_in own.value, held_either own.value own.bytes own.held own.spells, no_panel_told own.value text own.means.right)
   none (Some (asks.Text (texts.Panel it))) text right =
       let own = printed_about _ _ told NonePrinted text right in (own.value, held_pool own.value own.bytes own.held own.spells, own.means.right.none)
   none (Some (asks.Text (texts.Loosen it))) text right =
       let own = printed_about _ _ told NonePrinted text right in (own.value, held_pool own.value own.bytes own.held own.spells, own.means.right.none)
   none (Some (asks.Text (texts.LoosenByProof it))) text right =
-      let own = printed_about _ _ told NonePrinted text right in (own.value, held_pool own.value own.bytes own.held own.spells, own.means.right.none)
+      let own = printed_about _ _ told NonePrinted text right in (own.value, held_pool own.value own.bytes own.held own.spells, own.means.none)
   none (Some (asks.Text (texts.Bundle it))) text right = let own = printed_about _ _ told NonePrinted text right in absurd (bundle_none own.value text own.means.right)
   none (Some (asks.Text (texts.Page it))) text right = let own = printed_about _ _ told NonePrinted text right in absurd (page_none (bundle_in own.value) text own.means.right)
   none (Some (asks.Text (texts.DrawnPage tickets digits))) text right =
@@ -331,7 +344,7 @@ module _ (told : StoreTold) where
   none (Some (asks.Text (texts.Seal it))) text right = absurd ((printed_about _ _ told NonePrinted text right).means.right)
   none (Some (asks.Text (texts.Draw seal digits))) text right = absurd ((printed_about _ _ told NonePrinted text right).means.right)
   none (Some (asks.Text (texts.ShortDraw tickets seal digits))) text right = absurd ((printed_about _ _ told NonePrinted text right).means.right)
-  none (Some (asks.Text (texts.Why it))) text right = absurd ((printed_about _ _ told NonePrinted text right).means.right)
+  none (Some (asks.Text (texts.Why it))) text right = absurd ((printed_about _ _ told NonePrinted text right).means)
   none (Some (asks.Text (texts.Check it))) text right = absurd ((printed_about _ _ told NonePrinted text right).means.right)
   none (Some (asks.Text (texts.Cover it))) text right = absurd ((printed_about _ _ told NonePrinted text right).means.right)
   none (Some (asks.Text (texts.CheckCover it))) text right = absurd ((printed_about _ _ told NonePrinted text right).means.right)

@@ -4,9 +4,9 @@ use Rattle.std.proofs.Common.{◌≡◌, ℕ, Bool, true, false, cond, not, ◌=
 use Rattle.std.specs.Str.{bytes_eq}
 use Rattle.std.specs.List.{list_all}
 use Rattle.std.proofs.lemmas.Bool.{false≢true}
-use Rattle.command_stores.specs.Imports.{ReadsFile, ReadsRegister, as_command}
-use Rattle.command_stores.specs.declared.imports.Import.{Import}
-use Rattle.command_stores.specs.declared.imports.Import.TheVariants as imports
+use Rattle.command_meanings.specs.Imports.{ReadsFile, ReadsRegister, as_command}
+use Rattle.command_meanings.specs.declared.office.Import.{Import}
+use Rattle.command_meanings.specs.declared.office.Import.TheVariants as imports
 use Rattle.define_imports.specs.Cells.{Fault}
 use Rattle.define_draws.specs.Draw as draws
 use Rattle.define_draws.specs.Draw.{draw}

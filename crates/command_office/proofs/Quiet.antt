@@ -12,12 +12,13 @@ use Rattle.define_offices.specs.Tables.{Tables}
 use Rattle.command_shell.specs.declared.status.Cause.TheVariants.{Input}
 use Rattle.command_shell.specs.declared.status.Printed.TheVariants.{Done, NoPanel as NonePrinted, Refused as Rejected}
 use Rattle.command_shell.specs.Answers.{Saying, Prints, Stops as StopsBy, status_of}
-use Rattle.command_stores.specs.Imports.{Does, HasFault, ImportMeans, NoRules, keeping}
-use Rattle.command_stores.specs.ProvedRounds.{AsSolve, Keeps as KeepsProof, NoProof, ProvesRound}
+use Rattle.command_meanings.specs.Imports.{Does, HasFault, ImportMeans, NoRules, keeping}
+use Rattle.command_meanings.specs.Prove.{lottery_limits}
+use Rattle.command_stores.specs.ProvedRounds.{AsSolve, Keeps as KeepsProof, ProvesRound}
 use Rattle.command_stores.specs.declared.proving.ProveRound.{ProveRound}
-use Rattle.command_stores.specs.declared.imports.Import.{Import}
-use Rattle.command_stores.specs.declared.imports.Import.TheVariants as imports
-use Rattle.command_stores.specs.Steps.{StepMeans, TellsEnding, TellsOutcome, TellsStop, change_of}
+use Rattle.command_meanings.specs.declared.office.Import.{Import}
+use Rattle.command_meanings.specs.declared.office.Import.TheVariants as imports
+use Rattle.command_meanings.specs.Steps.{StepMeans, TellsEnding, TellsOutcome, TellsStop, change_of}
 use Rattle.command_office.specs.declared.steps.Step.{Step}
 use Rattle.command_office.specs.declared.steps.Step.TheVariants as steps
 use Rattle.command_office.specs.Steps.{step_command}
@@ -118,8 +119,7 @@ module _ (tables : Tables) (answer : Saying) (change : Option Change) (n0 : stat
 
   pub round_quiet : (it : ProveRound) → ProvesRound it tables answer change → change ≡ None
   round_quiet it (KeepsProof pool proof is of valid means) = keep_quiet it.round proof means
-  round_quiet it (NoProof pool left is spends right none) = none
-  round_quiet it (AsSolve limits no_run means) = solve_quiet it.round limits means
+  round_quiet it (AsSolve means) = solve_quiet it.round lottery_limits means
 
   -- the command that a proof is read as is the keeping of it
   read_quiet : (round : ℕ) (result : Result Proof lines.Fault) (command : Command) → Ok command ≡ keeping round result → StepMeans command tables answer change → change ≡ None

@@ -12,7 +12,6 @@ use Rattle.define_offices.specs.Facts.{IsCommand}
 use Rattle.define_offices.specs.Steps.{AtOnce, Comes, LeadThrough, applied, tables_after}
 use Rattle.define_offices.specs.Tables.{Entry, Tables, first_tables}
 use Rattle.office_core.specs.Acting.{IsLoaded}
-use Rattle.proof_limits.specs.Budgets.{Left}
 use Rattle.office_http.specs.Visits.{CutOff, EndsBy, FromBytes, FromTables, IsReply, Kept, NoMemory as WantsMemory, RepliesTo, Unavailable, Unread as BrokeUnread, Visit}
 use Rattle.office_http.specs.declared.attending.LinkFault.{LinkFault}
 use Rattle.command_shell.specs.Answers.{Prints, Saying, Stops as StopsBy, IsRight, status_of}
@@ -20,14 +19,14 @@ use Rattle.command_shell.specs.Told.{HeldAll}
 use Rattle.command_shell.specs.declared.status.Cause.TheVariants.{Input, Wide, Spent, Rule}
 use Rattle.command_shell.specs.declared.status.Printed.{Printed}
 use Rattle.command_shell.specs.declared.status.Printed.TheVariants.{Done, NoPanel as NonePrinted, Refused as Rejected}
-use Rattle.command_proofs.specs.Proved.{NoProofMeans}
-use Rattle.command_stores.specs.Imports.{Does, HasFault, ImportMeans, NoRules}
-use Rattle.command_stores.specs.ProvedRounds.{AsSolve, Keeps as KeepsProof, NoProof, ProvesRound}
-use Rattle.command_stores.specs.Steps.{StepMeans, TextMeans, change_of}
+use Rattle.command_meanings.specs.Prove.{lottery_limits}
+use Rattle.command_meanings.specs.Imports.{Does, HasFault, ImportMeans, NoRules}
+use Rattle.command_stores.specs.ProvedRounds.{AsSolve, Keeps as KeepsProof, ProvesRound}
+use Rattle.command_meanings.specs.Steps.{StepMeans, TextMeans, change_of}
 use Rattle.command_stores.specs.StoreOutcomes.{Answered as Tells, KeeperFault, NoMemory, NotAttached, Read, ReadFault, StoreOutcome, TextStoreOutcome, TooLong, WantOfMemory, WriteFault}
-use Rattle.command_stores.specs.declared.imports.Import.{Import}
+use Rattle.command_meanings.specs.declared.office.Import.{Import}
 use Rattle.command_stores.specs.declared.proving.ProveRound.{ProveRound}
-use Rattle.command_stores.specs.declared.texts.StoreText.{StoreText}
+use Rattle.command_meanings.specs.declared.office.StoreText.{StoreText}
 use Rattle.command_desk.specs.DeskTold.{DeskTold}
 use Rattle.command_desk.specs.ServeOutcomes.{Done as ServedDone, DoorFault, HasServed, KeeperFault as NoKeeper, ServeOutcome, WantOfMemory as WantsRoom, WriteFault as CutLine}
 use Rattle.command_desk.specs.Serving.{AreVisits}
@@ -197,21 +196,6 @@ record Did (it : Option Asked) (told : DeskTold) (before left : Tables) : Type 0
   done : CommandsOf it told commands
   leading : Leading before commands left
 
--- a refusal for want of proof has status 4 or 5
-no_proof_status : (left : Left) (answer : Saying) → IsRight (NoProofMeans left) answer → is_one_of (4 ∷ 5 ∷ 9 ∷ 12 ∷ []) (status_of answer) ≡ true
-no_proof_status left (Prints Done text) right = absurd right
-no_proof_status left (Prints NonePrinted text) right = absurd right
-no_proof_status left (Prints Rejected text) right = absurd right
-no_proof_status left (StopsBy Input line) right = absurd right
-no_proof_status left (StopsBy Wide line) right = refl
-no_proof_status left (StopsBy Spent line) right = refl
-no_proof_status left (StopsBy Rule line) right = absurd right
-
-no_proof_prints : (left : Left) (printed : Printed) (text : List ℕ) → IsRight (NoProofMeans left) (Prints printed text) → ⊥
-no_proof_prints left Done text right = right
-no_proof_prints left NonePrinted text right = right
-no_proof_prints left Rejected text right = right
-
 module _ (told : DeskTold) (before left : Tables) (b : told.store.keeper.object.before ≡ Some before) (a : told.store.keeper.object.after ≡ Some left) where
   same_left : told.store.keeper.object.after ≡ told.store.keeper.object.before → left ≡ before
   same_left h = same_tables before left _ _ b a h
@@ -269,30 +253,26 @@ module _ (told : DeskTold) (before left : Tables) (b : told.store.keeper.object.
   -- ---- proofs of rounds
 
   abbrev undone_proof : List ℕ
-  undone_proof = 4 ∷ 5 ∷ 9 ∷ 12 ∷ []
+  undone_proof = 9 ∷ 12 ∷ []
 
   round_did : (it : ProveRound) (tables : Tables) (answer : Saying) (change : Option Change) → IsLoaded told.store.keeper.object.before tables →
-      told.store.keeper.object.after ≡ option_map (λ kept. applied kept change) told.store.keeper.object.before →
-      ((budget : Left) → IsRight (NoProofMeans budget) answer → is_one_of undone_proof told.store.call.status ≡ true) → ProvesRound it tables answer change →
+      told.store.keeper.object.after ≡ option_map (λ kept. applied kept change) told.store.keeper.object.before → ProvesRound it tables answer change →
       (commands : List Command) × DidOne (IsOfRound it.round) undone_proof told.store commands × Leading before commands left
-  round_did it tables answer change loaded stored unproved (KeepsProof pool proof is same valid means) = (
+  round_did it tables answer change loaded stored (KeepsProof pool proof is same valid means) = (
     Keep it.round proof ∷ [],
     DidIt (Keep it.round proof) (inl (proof, refl)) means.is_command refl,
     did_step before left _ _ b a (Keep it.round proof) tables answer change loaded means stored,
   )
-  round_did it tables answer change loaded stored unproved (NoProof pool budget is spends right none) = none_did _ (stayed before left _ _ b a change none stored) (unproved budget right)
-  round_did it tables answer change loaded stored unproved (AsSolve limits no_run means) = (
-    Solve it.round limits ∷ [],
-    DidIt (Solve it.round limits) (inr (limits, refl)) means.is_command refl,
-    did_step before left _ _ b a (Solve it.round limits) tables answer change loaded means stored,
+  round_did it tables answer change loaded stored (AsSolve means) = (
+    Solve it.round lottery_limits ∷ [],
+    DidIt (Solve it.round lottery_limits) (inr (lottery_limits, refl)) means.is_command refl,
+    did_step before left _ _ b a (Solve it.round lottery_limits) tables answer change loaded means stored,
   )
 
   proof_did : (path : List ℕ) (it : ProveRound) → StoreOutcome path (ProvesRound it) told.store →
       (commands : List Command) × DidOne (IsOfRound it.round) undone_proof told.store commands × Leading before commands left
-  proof_did path it (Tells answer is tells) =
-      round_did it is.tables answer is.change is.loaded is.stored (λ budget right. ap (is_one_of undone_proof) (its_status answer told.store.call tells) ∙ no_proof_status budget answer right) is.means
-  proof_did path it (WriteFault printed text is cut) =
-      round_did it is.tables (Prints printed text) is.change is.loaded is.stored (λ budget right. absurd (no_proof_prints budget printed text right)) is.means
+  proof_did path it (Tells answer is tells) = round_did it is.tables answer is.change is.loaded is.stored is.means
+  proof_did path it (WriteFault printed text is cut) = round_did it is.tables (Prints printed text) is.change is.loaded is.stored is.means
   proof_did path it (KeeperFault failed stopped) = none_did _ (same_left failed.same) (ap (is_one_of undone_proof) stopped.status)
   proof_did path it (WantOfMemory nothing stopped) = none_did _ (same_left nothing.same) (ap (is_one_of undone_proof) stopped.status)
 
@@ -322,7 +302,9 @@ module _ (told : DeskTold) (before left : Tables) (b : told.store.keeper.object.
   asks_did : (it : Option Asked) → EndsRightly it told → Did it told before left
   asks_did None right = record { commands = []; done = refl; leading = lead_none before left (same_left right.call.keeper.object.same) }
   asks_did (Some (asks.Text it)) right = record { commands = []; done = refl; leading = lead_none before left (same_left right.call.keeper.object.same) }
+  asks_did (Some (asks.Prove it)) right = record { commands = []; done = refl; leading = lead_none before left (same_left right.call.keeper.object.same) }
   asks_did (Some (asks.Lottery it)) right = record { commands = []; done = refl; leading = lead_none before left (same_left right.call.keeper.object.same) }
+  asks_did (Some (asks.SharedLottery it)) right = record { commands = []; done = refl; leading = lead_none before left (same_left right.call.keeper.object.same) }
   asks_did (Some (asks.Legs it)) right = record { commands = []; done = refl; leading = lead_none before left (same_left right.call.keeper.object.same) }
   asks_did (Some (asks.Make it)) right = record { commands = []; done = refl; leading = lead_none before left (same_left right.call.keeper.object.same) }
   asks_did (Some (asks.Step store step)) right =
@@ -344,7 +326,9 @@ module _ (told : DeskTold) (before left : Tables) (b : told.store.keeper.object.
       by : (it : Option Asked) → Did it told before left
       by None = record { commands = []; done = refl; leading = lead_none before left same }
       by (Some (asks.Text it)) = record { commands = []; done = refl; leading = lead_none before left same }
+      by (Some (asks.Prove it)) = record { commands = []; done = refl; leading = lead_none before left same }
       by (Some (asks.Lottery it)) = record { commands = []; done = refl; leading = lead_none before left same }
+      by (Some (asks.SharedLottery it)) = record { commands = []; done = refl; leading = lead_none before left same }
       by (Some (asks.Legs it)) = record { commands = []; done = refl; leading = lead_none before left same }
       by (Some (asks.Make it)) = record { commands = []; done = refl; leading = lead_none before left same }
       by (Some (asks.Step store step)) =

@@ -17,7 +17,6 @@ use Rattle.define_offices.specs.Facts.{IsTables}
 use Rattle.define_offices.specs.Pools.{pool_of}
 use Rattle.define_offices.specs.Steps.{AtOnce, ByRun, Comes}
 use Rattle.define_offices.specs.Tables.{Round, Open, Solved, Sealed, Drawn, Tables, bundle_of, named_round}
-use Rattle.command_stores.specs.ProvedRounds.{NeedsNoRun}
 use Rattle.laws_of_offices.proofs.Steps.{Answers, Leaves, Settles, Stays, solve_settles}
 use Rattle.define_leximin.specs.Leximin.{IsLeximin}
 use Rattle.define_leximin.proofs.Leximin.{leximin}
@@ -55,12 +54,6 @@ module _ (tables : Tables) (number : ℕ) (limits : Limits) where
   ran : (n : ℕ) (l : Limits) (pool : Pool) (ending : Ending) → Solve number limits ≡ Solve n l → asked tables (Solve number limits) ≡ NeedsRun pool → RunEnds pool l ending → Ran ending
   ran n l pool ending same needs ends =
       let equal : l ≡ limits = cc in ran_over (named_round tables.rounds number) pool ending refl needs (subst (λ x. RunEnds pool x ending) equal ends)
-
-  -- ---- a solve that needs no run
-
-  pub solve_at_once : (outcome : Outcome) → NeedsNoRun tables number → Comes tables (Solve number limits) outcome → solve_in tables number (named_round tables.rounds number) ≡ IsDecided outcome
-  solve_at_once outcome no_run (AtOnce h) = h
-  solve_at_once outcome (own, decided) (ByRun n l pool ending same needs ends comes) = absurd (cc (decided, needs))
 
   -- ---- a solve that replies that there is no panel
 

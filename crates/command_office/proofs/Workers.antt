@@ -1,20 +1,27 @@
 -- Two calls of one command tell the same if their words differ in the number of workers alone.
-use Rattle.std.proofs.Common.{◌≡◌, ◌∙◌, ◌≤◌, ℕ, List, length, Some, ap, sym, subst, inl, inr}
+use Rattle.std.proofs.Common.{◌≡◌, ◌∙◌, ◌≤◌, ℕ, false, List, length, Some, ap, sym, subst, inl, inr}
 use Rattle.std.specs.Prelude.{IfSome, option_map}
 use Rattle.define_offices.specs.Commands.{Solve}
 use Rattle.define_offices.specs.Steps.{applied}
 use Rattle.define_offices.specs.Tables.{Tables}
-use Rattle.define_runs.specs.Run.{Limits}
+use Rattle.define_bundles.specs.PoolText.{spelling}
+use Rattle.define_bundles.proofs.PoolReadAgain.{spelled_is_read}
+use Rattle.define_pools.specs.Pool.{IsPool, Pool}
+use Rattle.define_runs.specs.Keeps.{AreLimits}
+use Rattle.define_runs.specs.Run.{Ending, Limits, RunEnds}
+use Rattle.define_sharing.specs.Sharing.{spends_pricing}
 use Rattle.office_core.specs.Acting.{IsLoaded}
 use Rattle.command_shell.specs.Answers.{IsRight, IsTheAnswer, RightAnswers, Saying}
 use Rattle.command_shell.specs.Formats.{pool_format}
 use Rattle.command_shell.specs.Lines.{input_limit}
-use Rattle.command_shell.specs.Outcomes.{Answered, Ends, IsAboutSource, IsTold, Outcome, ReadFault, TooLong, WantOfMemory, WriteFault}
+use Rattle.command_shell.specs.Outcomes.{Answered, Ends, IsAboutSource, IsTold, Outcome, ReadFault, TextOutcome, TooLong, WantOfMemory, WriteFault}
 use Rattle.command_shell.specs.Subjects.{About, AboutFault, AboutValue, Format}
 use Rattle.command_meanings.specs.Legs.{LegsMeans}
 use Rattle.command_meanings.specs.Lottery.{LotteryMeans}
 use Rattle.command_meanings.specs.Make.{MakeMeans}
-use Rattle.command_stores.specs.Steps.{StepMeans, StepsAnswerOnce}
+use Rattle.command_meanings.specs.Sharing.{SharedLotteryMeans}
+use Rattle.command_meanings.proofs.SharedEndings.{shared_as_lottery}
+use Rattle.command_meanings.specs.Steps.{StepMeans, StepsAnswerOnce}
 use Rattle.command_stores.specs.StoreOutcomes as over
 use Rattle.command_stores.specs.StoreOutcomes.{StoreOutcome}
 use Rattle.command_stores.specs.StoreTold.{StoreTold}
@@ -22,7 +29,8 @@ use Rattle.command_desk.specs.DeskTold.{DeskTold}
 use Rattle.command_office.specs.Office.{Answers, Asks, EndsRightly, NoMemory}
 use Rattle.command_office.specs.declared.asked.Asked.{Asked}
 use Rattle.command_office.specs.Workers.{IsClear, OfEachTwo, TellTheSame, WorkersChangeNothing}
-use Rattle.command_office.proofs.Checkers.{not_longer, same_text}
+use Rattle.command_office.specs.About.{ToldText}
+use Rattle.command_office.proofs.Checkers.{due_by, not_longer, same_text}
 
 module _ {Value : Type 0} (format : Format Value) (Means : Value → RightAnswers) where
   abbrev OneAbout : List ℕ → Saying → Type 0
@@ -96,6 +104,16 @@ module _ (first second : StoreTold) (clear : IsClear first) (also : IsClear seco
     solved_same path other_path (over.Answered one is tells) (over.KeeperFault failed stopped) = absurd (also.keeper stopped.status)
     solved_same path other_path (over.Answered one is tells) (over.WantOfMemory nothing stopped) = absurd (also.memory stopped.status)
 
+-- `lottery` and `lottery --share` over the same pool tell the same, if no pricing of `lottery` spends its budget
+module _ (limits : Limits) (pool : Pool) (ending : Ending) (is_pool : IsPool pool) (ranges : AreLimits limits) (ends : RunEnds pool limits ending) (kept : spends_pricing ending ≡ false) where
+  shares_same : (first second : StoreTold) → IsClear first → IsClear second → ToldText first.call.source (spelling pool) → ToldText second.call.source (spelling pool) →
+      Answers pool_format (LotteryMeans limits) first.call → TextOutcome (About pool_format (λ it. IsRight (SharedLotteryMeans limits it))) second.call → TellTheSame first.call second.call
+  shares_same first second clear also from from_too one two =
+      let own = due_by pool_format (λ it. IsTheAnswer (LotteryMeans limits it)) first.call pool (spelling pool) (spelled_is_read pool is_pool) from clear.out clear.memory one in
+      let other = due_by pool_format (λ it. IsRight (SharedLotteryMeans limits it)) second.call pool (spelling pool) (spelled_is_read pool is_pool) from_too also.out also.memory two in
+      let same = own.right.only other.answer (shared_as_lottery limits pool ending is_pool ranges ends kept other.answer other.right) in
+      inl (own.answer, own.tells, subst (λ answer. IsTold answer second.call) same other.tells)
+
 -- what holds of each two calls that end rightly holds of each two right calls
 of_each : (it other : Asked) (Same : StoreTold → StoreTold → Type 0) →
     ((first second : DeskTold) → EndsRightly (Some it) first → EndsRightly (Some other) second → IsClear first.store → IsClear second.store → Same first.store second.store) → OfEachTwo it other Same
@@ -108,6 +126,8 @@ pub workers_change_nothing : StepsAnswerOnce → WorkersChangeNothing
 workers_change_nothing once = record {
   lottery = λ limits workers others. of_each _ _ _ (λ first second one two clear also text told also_told.
       tell_the_same pool_format (LotteryMeans limits) first.store second.store clear also text told also_told one.call.call two.call.call);
+  share = λ limits workers others. of_each _ _ _ (λ first second one two clear also pool ending is_pool ranges ends kept from from_too.
+      shares_same limits pool ending is_pool ranges ends kept first.store second.store clear also from from_too one.call.call two.call.call);
   legs = λ limits workers others. of_each _ _ _ (λ first second one two clear also text told also_told.
       tell_the_same pool_format (LegsMeans limits) first.store second.store clear also text told also_told one.call.call two.call.call);
   make = λ seed volunteers limits workers others. of_each _ _ _ (λ first second one two clear also. silent_same first.store second.store clear also (MakeMeans seed volunteers limits) one.call.call.ends two.call.call.ends);

@@ -12,7 +12,7 @@ use Rattle.office_core.specs.Acting.{IsLoaded}
 use Rattle.command_shell.specs.Lines.{input_limit}
 use Rattle.command_shell.specs.Told.{Bytes, HasFaulted, HeldAll}
 use Rattle.command_stores.specs.StoreTold.{StoreTold}
-use Rattle.command_stores.specs.declared.imports.Import.TheVariants as imports
+use Rattle.command_meanings.specs.declared.office.Import.TheVariants as imports
 use Rattle.command_office.specs.declared.asked.Asked.{Asked}
 use Rattle.command_office.specs.declared.asked.Asked.TheVariants as asks
 use Rattle.command_office.specs.declared.steps.Step.TheVariants as steps
@@ -43,7 +43,7 @@ pub record IsRoundPool (round : ℕ) (told : StoreTold) (pool : Pool) : Type 0 w
 
 abbrev pub IsItsPool : Option Asked → StoreTold → Pool → Type 0
 IsItsPool (Some (asks.Make it)) told pool = pool ≡ made_pool it.seed it.volunteers
-IsItsPool (Some (asks.Text (texts.Prove it))) told pool = HeldEither told.call.source pool
+IsItsPool (Some (asks.Prove it)) told pool = HeldEither told.call.source pool
 IsItsPool (Some (asks.Step store (steps.Solve round limits workers))) told pool = IsRoundPool round told pool
 IsItsPool (Some (asks.Import store (imports.Proof round))) told pool = IsRoundPool round told pool
 IsItsPool (Some (asks.ProveRound store it)) told pool = IsRoundPool it.round told pool

@@ -1,13 +1,13 @@
 -- What the words of a call ask for: a command with its arguments. `given_in` (command_words) matches the words to the program's table of
 -- commands and options; this file tests the ranges of the numbers and makes the command. The contract of `office` cites it.
-use Rattle.std.specs.Prelude.{◌&&◌, ℕ, List, Option, Some, None, codes, if◌then◌else◌, nat_le, option_and_then, option_map}
+use Rattle.std.specs.Prelude.{◌&&◌, ℕ, Bool, true, false, List, Option, Some, None, codes, if◌then◌else◌, nat_le, option_and_then, option_map}
 use Rattle.command_desk.specs.declared.calling.Serve.{Serve}
-use Rattle.command_stores.specs.declared.imports.Import.{Import}
-use Rattle.command_stores.specs.declared.imports.Import.TheVariants as imports
-use Rattle.command_stores.specs.declared.texts.StoreText.{StoreText}
-use Rattle.command_stores.specs.declared.texts.StoreText.TheVariants as stored
+use Rattle.command_meanings.specs.declared.office.Import.{Import}
+use Rattle.command_meanings.specs.declared.office.Import.TheVariants as imports
+use Rattle.command_meanings.specs.declared.office.RoundText.{RoundText}
+use Rattle.command_meanings.specs.declared.office.RoundText.TheVariants as stored
 use Rattle.command_texts.specs.TextAsked.{prove_in, text_asked}
-use Rattle.command_words.specs.Given.{Given, number_of, text_of}
+use Rattle.command_words.specs.Given.{Given, flag_of, number_of, text_of}
 use Rattle.command_words.specs.Words.{given_in}
 use Rattle.command_words.specs.declared.words.CommandName.{CommandName}
 use Rattle.command_words.specs.declared.words.CommandName.TheVariants as name
@@ -52,9 +52,14 @@ make_asked given =
     option_map (λ workers. asks.Make (record { seed = seed; volunteers = volunteers; limits = limits; workers = workers }))
     (workers_in given)) (limits_in given)) (volunteers_in given)) (number_of (codes "seed") given)
 
+-- `lottery`; if the flag `share` is given, its workers share a bound
+abbrev pub lottery_from : Bool → Limits → ℕ → Asked
+lottery_from true limits workers = asks.SharedLottery (record { limits = limits; workers = workers })
+lottery_from false limits workers = asks.Lottery (record { limits = limits; workers = workers })
+
 abbrev pub lottery_asked : Given → Option Asked
 lottery_asked given =
-    option_and_then (λ limits. option_map (λ workers. asks.Lottery (record { limits = limits; workers = workers })) (workers_in given)) (limits_in given)
+    option_and_then (λ limits. option_map (lottery_from (flag_of (codes "share") given) limits) (workers_in given)) (limits_in given)
 
 abbrev pub legs_asked : Given → Option Asked
 legs_asked given =
@@ -72,9 +77,10 @@ step_asked step given = option_map (λ store. asks.Step store step) (text_of (co
 abbrev pub import_asked : Import → Given → Option Asked
 import_asked import given = option_map (λ store. asks.Import store import) (text_of (codes "store") given)
 
--- a text that is made of the tables of the store that the words name; None if they name none
-abbrev pub store_text_asked : StoreText → Given → Option Asked
-store_text_asked it given = option_map (λ store. asks.StoreText store it) (text_of (codes "store") given)
+-- a text about a round of the store that the words name; None if they name none
+abbrev pub round_text_asked : RoundText → Given → Option Asked
+round_text_asked it given =
+    option_and_then (λ round. option_map (λ store. asks.StoreText store (record { text = it; round = round })) (text_of (codes "store") given)) (round_in given)
 
 -- a command that reads one text; None if the words ask for none
 abbrev pub text_command_asked : Given → Option Asked
@@ -87,7 +93,7 @@ round_proof_asked given store =
 -- `prove`: for a round of the store if the words name one, else for the pool or bundle that is read
 abbrev pub prove_from : Given → Option (List ℕ) → Option Asked
 prove_from given (Some store) = round_proof_asked given store
-prove_from given None = text_command_asked given
+prove_from given None = option_map asks.Prove (prove_in given)
 
 -- `seal`: of a round of the store if the words name one, else of the bundle that is read
 abbrev pub seal_from : Given → Option (List ℕ) → Option Asked
@@ -109,7 +115,7 @@ draw_from given None = text_command_asked given
 abbrev pub round_page_from : Given → Option (List ℕ) → Option ℕ → Option Asked
 round_page_from given (Some digits) tickets = None
 round_page_from given None (Some number) = None
-round_page_from given None None = option_and_then (λ round. store_text_asked (stored.Page round) given) (round_in given)
+round_page_from given None None = round_text_asked stored.Page given
 
 -- `page`: about a round of the store if the words name one, else about the bundle or proof that is read
 abbrev pub page_from : Given → Option (List ℕ) → Option Asked
@@ -152,8 +158,8 @@ command_asked name.Solve given = solve_asked given
 command_asked name.Drop given = drop_asked given
 command_asked name.NextRound given = option_and_then (λ after. step_asked (steps.NextRound after) given) (number_of (codes "after") given)
 command_asked name.Show given = option_and_then (λ round. step_asked (steps.Show round) given) (round_in given)
-command_asked name.Report given = option_and_then (λ round. store_text_asked (stored.Report round) given) (round_in given)
-command_asked name.Pool given = option_and_then (λ round. store_text_asked (stored.Pool round) given) (round_in given)
+command_asked name.Report given = round_text_asked stored.Report given
+command_asked name.Pool given = round_text_asked stored.Pool given
 command_asked name.Keep given = option_and_then (λ round. import_asked (imports.Proof round) given) (round_in given)
 command_asked name.ImportCharter given = import_asked imports.Charter given
 command_asked name.ImportRules given = import_asked imports.Rules given

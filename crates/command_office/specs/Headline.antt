@@ -3,7 +3,7 @@
 --
 -- One step behind this page: pools, quota panels, lotteries and certificates (define_pools); what leximin greatest says part by part (define_leximin); when a proof or a cover is
 -- valid (define_proofs, define_covers); the stated run (define_runs); what the words ask for (`asked`); how an answer is told (`Outcomes`); each command's meaning, status by
--- status (`TextMeans`, `LotteryMeans`, `LegsMeans`, `MakeMeans`; over a store `StepMeans`, `ImportMeans`, `ProvesRound`). `told` is what the call did: its status, and its source,
+-- status (`TextMeans`, `ProveMeans`, `LotteryMeans`, `SharedLotteryMeans`, `LegsMeans`, `MakeMeans`; over a store `StepMeans`, `ImportMeans`, `ProvesRound`). `told` is what the call did: its status, and its source,
 -- out, errs and keeper before and after it. Lotteries have whole weights, and are compared with such alone. What a clause says of bytes or tables it says of an object that tells
 -- them, as one in memory does: of a terminal, a file, a pipe or a store on disk it is true of some bytes and tables, and no contract can say that they are the real ones.
 use Rattle.std.specs.Prelude.{◌≡◌, ◌≢◌, ◌↔◌, ◌⊎◌, ◌≤◌, ℕ, IsTrue, IsFalse, List, [], Option, Some, None, Ok, option_and_then, option_map, ⊤}
@@ -31,26 +31,29 @@ use Rattle.define_runs.specs.Run.{Ending, RunEnds, RunFinds}
 use Rattle.define_short_draws.specs.Short.{shortened}
 use Rattle.office_core.specs.Acting.{IsLoaded}
 use Rattle.command_shell.specs.declared.status.Printed.{Printed}
-use Rattle.command_shell.specs.Answers.{IsTheAnswer, Prints, Saying}
-use Rattle.command_shell.specs.Formats.{pool_format}
+use Rattle.command_shell.specs.Answers.{IsRight, IsTheAnswer, Prints, Saying}
+use Rattle.command_shell.specs.Formats.{pool_format, pool_or_bundle_format}
 use Rattle.command_shell.specs.Lines.{keeper_fault_line, want_of_memory_line}
 use Rattle.command_shell.specs.Outcomes.{IsAboutSource, IsCutOff, IsInput, IsReadFault, IsStopped, IsTold, IsTooLong}
+use Rattle.command_shell.specs.Subjects.{About}
 use Rattle.command_shell.specs.Told.{Gains, HasFaulted}
 use Rattle.command_covers.specs.declared.check_cover.CheckCover.{CheckCover}
 use Rattle.command_meanings.specs.Legs.{LegsMeans}
 use Rattle.command_meanings.specs.Lottery.{LotteryMeans}
 use Rattle.command_meanings.specs.Make.{MakeMeans, sizes_of}
 use Rattle.command_meanings.specs.Panel.{visits_of}
+use Rattle.command_meanings.specs.Prove.{ProvesWithin}
 use Rattle.command_meanings.specs.Seal.{bundle_seal}
+use Rattle.command_meanings.specs.Sharing.{MayFind, SharedLotteryMeans}
 use Rattle.command_proofs.specs.declared.verify.Verify.{Verify}
 use Rattle.command_texts.specs.TextMeans.{OneAnswer, TextMeans}
 use Rattle.command_texts.specs.declared.commands.TextCommand.TheVariants as texts
-use Rattle.command_stores.specs.Imports.{ImportMeans}
+use Rattle.command_meanings.specs.Imports.{ImportMeans}
 use Rattle.command_stores.specs.ProvedRounds.{ProvesRound}
-use Rattle.command_stores.specs.Steps.{StepMeans, TextMeans as StoreTextMeans}
+use Rattle.command_meanings.specs.Steps.{StepMeans, TextMeans as StoreTextMeans}
 use Rattle.command_stores.specs.StoreOutcomes.{IsAnswered}
 use Rattle.command_stores.specs.StoreTold.{IsLeftAlone, KeepsTables, StoreTold}
-use Rattle.command_stores.specs.declared.imports.Import.TheVariants as imports
+use Rattle.command_meanings.specs.declared.office.Import.TheVariants as imports
 use Rattle.command_desk.specs.DeskTold.{DeskTold, IsUnopened}
 use Rattle.command_desk.specs.ServeOutcomes.{SilentServeOutcome}
 use Rattle.command_office.specs.Asked.{asked}
@@ -71,7 +74,9 @@ use Rattle.command_office.specs.Workers.{WorkersChangeNothing}
 -- from the store, about both (an import), or about the made pool. Over a store, the change that comes with the answer is kept (`IsAnswered`)
 abbrev pub IsRightAnswer : Option Asked → StoreTold → Saying → Type 0
 IsRightAnswer (Some (asks.Text it)) told answer = IsAboutSource (TextMeans it) told.call.source answer
+IsRightAnswer (Some (asks.Prove it)) told answer = IsAboutSource (About pool_or_bundle_format (ProvesWithin it.nodes)) told.call.source answer
 IsRightAnswer (Some (asks.Lottery it)) told answer = IsAboutSource (OneAnswer pool_format (LotteryMeans it.limits)) told.call.source answer
+IsRightAnswer (Some (asks.SharedLottery it)) told answer = IsAboutSource (About pool_format (λ pool. IsRight (SharedLotteryMeans it.limits pool))) told.call.source answer
 IsRightAnswer (Some (asks.Legs it)) told answer = IsAboutSource (OneAnswer pool_format (LegsMeans it.limits)) told.call.source answer
 IsRightAnswer (Some (asks.Make it)) told answer = IsTheAnswer (MakeMeans it.seed it.volunteers it.limits) answer
 IsRightAnswer (Some (asks.Step store it)) told answer = IsAnswered store (StepMeans (step_command it)) told.keeper answer
@@ -117,7 +122,8 @@ pub data SolvesRound (round : ℕ) (told : StoreTold) (ByRun : Pool → Answer �
 -- what status 0 means for `lottery`, `prove`, `make`, `solve` and `keep`
 abbrev pub AnswersLottery : Option Asked → StoreTold → Type 0
 AnswersLottery (Some (asks.Lottery it)) told = Finds (λ pool answer. HeldPool told.call.source pool × RunFinds pool it.limits answer × Gains told.call.out (bundle_text pool answer))
-AnswersLottery (Some (asks.Text (texts.Prove it))) told = Finds (λ pool answer. (HeldPool told.call.source pool ⊎ HeldBundle told.call.source (record { pool = pool; answer = answer })) ×
+AnswersLottery (Some (asks.SharedLottery it)) told = Finds (λ pool answer. HeldPool told.call.source pool × MayFind it.limits pool answer × Gains told.call.out (bundle_text pool answer))
+AnswersLottery (Some (asks.Prove it)) told = Finds (λ pool answer. (HeldPool told.call.source pool ⊎ HeldBundle told.call.source (record { pool = pool; answer = answer })) ×
     ((trees : List (List TreeLine)) × (verdict (OfLottery pool answer trees) ≡ Valid) × Gains told.call.out (proof_spelling (OfLottery pool answer trees))))
 AnswersLottery (Some (asks.Make it)) told = Finds (λ pool answer. (pool ≡ made_pool it.seed it.volunteers) ×
     ((last : Table) × RunEnds pool it.limits (Ending.Found last answer) × Gains told.call.out (summary_text pool answer (sizes_of last))))
@@ -130,6 +136,7 @@ AnswersLottery other told = ⊤
 abbrev pub nodes_of : Option Asked → Option ℕ
 nodes_of (Some (asks.Text (texts.Panel it))) = Some it.nodes
 nodes_of (Some (asks.Lottery it)) = Some it.limits.nodes
+nodes_of (Some (asks.SharedLottery it)) = Some it.limits.nodes
 nodes_of (Some (asks.Legs it)) = Some it.limits.nodes
 nodes_of (Some (asks.Make it)) = Some it.limits.nodes
 nodes_of (Some (asks.Step store (steps.Solve round limits workers))) = Some limits.nodes
@@ -188,7 +195,8 @@ Headline words told = Promises (asked words) told
 -- ---- what is promised of several calls
 
 pub record OfSeveralCalls : Type 0 where
-  -- over the same told input, faults and 12 aside, the number of workers changes no byte of an answer of `lottery`, `legs`, `make` or `solve`, and no table
+  -- over the same told input, faults and 12 aside, the number of workers changes no byte of an answer of `lottery` without `--share`, `legs`, `make` or `solve`, and no table. With `--share`
+  -- the answer is that of `lottery`, unless a pricing of `lottery` spends its budget
   pub workers : WorkersChangeNothing
   -- the desk's reply to a key depends on the key's own row and dropouts, the last round's phase, and what is published: a sealed bundle has every volunteer of its pool
   pub isolation : TellsNothingOfOthers

@@ -6,15 +6,17 @@ use Rattle.std.specs.Prelude.{ℕ, List, [], ◌∷◌, codes, Option, Some, Non
 use Rattle.command_meanings.specs.Legs.{LegsMeans}
 use Rattle.command_meanings.specs.Lottery.{LotteryMeans}
 use Rattle.command_meanings.specs.Make.{MakeMeans}
-use Rattle.command_shell.specs.Answers.{IsTheAnswer, RightAnswers}
-use Rattle.command_shell.specs.Formats.{pool_format}
+use Rattle.command_meanings.specs.Prove.{ProvesWithin}
+use Rattle.command_meanings.specs.Sharing.{SharedLotteryMeans}
+use Rattle.command_shell.specs.Answers.{IsRight, IsTheAnswer, RightAnswers}
+use Rattle.command_shell.specs.Formats.{pool_format, pool_or_bundle_format}
 use Rattle.command_shell.specs.Lines.{line, want_of_memory_line}
 use Rattle.command_shell.specs.Outcomes.{IsStopped, SilentOutcome, TextOutcome}
-use Rattle.command_shell.specs.Subjects.{Format}
+use Rattle.command_shell.specs.Subjects.{About, Format}
 use Rattle.command_shell.specs.Told.{Told, IsUntouched}
-use Rattle.command_stores.specs.Imports.{ImportMeans}
+use Rattle.command_meanings.specs.Imports.{ImportMeans}
 use Rattle.command_stores.specs.ProvedRounds.{ProvesRound}
-use Rattle.command_stores.specs.Steps.{StepMeans, TextMeans as StoreTextMeans}
+use Rattle.command_meanings.specs.Steps.{StepMeans, TextMeans as StoreTextMeans}
 use Rattle.command_stores.specs.StoreOutcomes.{SilentStoreOutcome, TextStoreOutcome}
 use Rattle.command_stores.specs.StoreTold.{IsLeftAlone, StoreTold}
 use Rattle.command_desk.specs.DeskTold.{DeskTold, IsUnopened}
@@ -42,9 +44,14 @@ abbrev pub AnswersAlone : Option Asked → Told → Type 0
 AnswersAlone None told = IsUsage told
 -- all commands that read one text and start no threads
 AnswersAlone (Some (asks.Text it)) told = TextOutcome (TextMeans it) told
+-- of several proofs each may be told; every other answer has its cause
+AnswersAlone (Some (asks.Prove it)) told = TextOutcome (About pool_or_bundle_format (ProvesWithin it.nodes)) told
 -- the number of workers is no part of this meaning, so what is told is the same with any number. That holds for `legs`, for `make`
 -- and for a solve over a store too
 AnswersAlone (Some (asks.Lottery it)) told = Answers pool_format (LotteryMeans it.limits) told
+-- More than one answer may be right with `--share`. It is that of `lottery`, unless a pricing of `lottery` spends its budget
+-- (`sharing_answers_as_lottery` of `command_meanings`)
+AnswersAlone (Some (asks.SharedLottery it)) told = TextOutcome (About pool_format (λ pool. IsRight (SharedLotteryMeans it.limits pool))) told
 AnswersAlone (Some (asks.Legs it)) told = Answers pool_format (LegsMeans it.limits) told
 AnswersAlone (Some (asks.Make it)) told = SilentOutcome (IsTheAnswer (MakeMeans it.seed it.volunteers it.limits)) told
 AnswersAlone other told = ⊥
@@ -62,7 +69,7 @@ AnswersRightly (Some (asks.Step store step)) told = SilentStoreOutcome store (St
 -- all imports, and `keep`, which solves an open round by a given proof. The answer is about the file that the source held. At most one
 -- answer is right (`imports_answer_once`)
 AnswersRightly (Some (asks.Import store import)) told = TextStoreOutcome store (ImportMeans import) told
--- a proof of the pool of an open round, which the round keeps. As for `prove` without a store, nothing says whether the run finds one
+-- a proof of the pool of an open round, which the round keeps, or else the outcome of a solve
 AnswersRightly (Some (asks.ProveRound store proving)) told = SilentStoreOutcome store (ProvesRound proving) told
 -- all texts that are made of the store's tables
 AnswersRightly (Some (asks.StoreText store text)) told = SilentStoreOutcome store (StoreTextMeans text) told

@@ -19,9 +19,9 @@ use Rattle.define_runs.specs.Run.{Limits}
 use Rattle.office_core.specs.Acting.{IsLoaded}
 use Rattle.office_http.specs.Visits.{RepliesTo, Visit}
 use Rattle.command_shell.specs.Told.{HeldAll}
-use Rattle.command_stores.specs.Imports.{ReadsFile}
+use Rattle.command_meanings.specs.Imports.{ReadsFile}
 use Rattle.command_stores.specs.StoreTold.{StoreTold}
-use Rattle.command_stores.specs.declared.imports.Import.{Import}
+use Rattle.command_meanings.specs.declared.office.Import.{Import}
 use Rattle.command_desk.specs.DeskTold.{DeskTold, IsUnopened}
 use Rattle.command_desk.specs.ServeOutcomes.{HasServed}
 use Rattle.command_office.specs.Asked.{asked}
@@ -57,7 +57,7 @@ abbrev pub IsReadFrom : Import → StoreTold → Command → Type 0
 IsReadFrom file told command =
     (bytes : List ℕ) × HeldAll told.call.source bytes × ((tables : Tables) × IsLoaded told.keeper.object.before tables × ReadsFile file tables bytes (Ok command))
 
--- a proof is kept for the round; or the round needs no run, and the command is a solve of it
+-- a proof is kept for the round; or the command is a solve of it
 abbrev pub IsOfRound : ℕ → Command → Type 0
 IsOfRound round command = ((proof : Proof) × (command ≡ Keep round proof)) ⊎ ((limits : Limits) × (command ≡ Solve round limits))
 
@@ -102,7 +102,7 @@ ServedAll path connections told commands = ((visits : List Visit) × HasServed p
 abbrev pub CommandsOf : Option Asked → DeskTold → List Command → Type 0
 CommandsOf (Some (asks.Step store step)) told commands = DidOne (λ command. command ≡ step_command step) (9 ∷ 12 ∷ []) told.store commands
 CommandsOf (Some (asks.Import store file)) told commands = DidOne (IsReadFrom file told.store) (3 ∷ 6 ∷ 7 ∷ 9 ∷ 12 ∷ []) told.store commands
-CommandsOf (Some (asks.ProveRound store proving)) told commands = DidOne (IsOfRound proving.round) (4 ∷ 5 ∷ 9 ∷ 12 ∷ []) told.store commands
+CommandsOf (Some (asks.ProveRound store proving)) told commands = DidOne (IsOfRound proving.round) (9 ∷ 12 ∷ []) told.store commands
 CommandsOf (Some (asks.Serve store serve)) told commands = ServedAll store serve.connections told commands
 CommandsOf other told commands = commands ≡ []
 

@@ -1,13 +1,19 @@
 -- The number of workers changes no byte of an answer: a law about two calls whose words differ in this number alone. Workers price for
--- `lottery`, `legs`, `make` and `solve`.
-use Rattle.std.specs.Prelude.{◌≡◌, ◌≢◌, ◌⊎◌, ℕ, List, Some}
+-- `lottery`, `legs`, `make` and `solve`. If the workers of `lottery` share a bound, they change no byte either, unless a pricing spends its
+-- budget.
+use Rattle.std.specs.Prelude.{◌≡◌, ◌≢◌, ◌⊎◌, ℕ, IsFalse, List, Some}
+use Rattle.define_bundles.specs.PoolText.{spelling}
 use Rattle.define_offices.specs.Tables.{Tables}
-use Rattle.define_runs.specs.Run.{Limits}
+use Rattle.define_pools.specs.Pool.{IsPool, Pool}
+use Rattle.define_runs.specs.Keeps.{AreLimits}
+use Rattle.define_runs.specs.Run.{Ending, Limits, RunEnds}
+use Rattle.define_sharing.specs.Sharing.{spends_pricing}
 use Rattle.command_shell.specs.Answers.{Saying}
 use Rattle.command_shell.specs.Outcomes.{IsTold, IsTooLong}
 use Rattle.command_shell.specs.Told.{HasFaulted, Told}
 use Rattle.command_stores.specs.StoreTold.{StoreTold}
 use Rattle.command_desk.specs.DeskTold.{DeskTold}
+use Rattle.command_office.specs.About.{ToldText}
 use Rattle.command_office.specs.Asked.{asked}
 use Rattle.command_office.specs.Office.{OfficeIsRight}
 use Rattle.command_office.specs.declared.asked.Asked.{Asked}
@@ -34,6 +40,10 @@ pub record WorkersChangeNothing : Type 0 where
   -- over the same text
   pub lottery : (limits : Limits) (workers others : ℕ) → OfEachTwo (asks.Lottery (record { limits = limits; workers = workers })) (asks.Lottery (record { limits = limits; workers = others }))
       (λ first second. (text : List ℕ) → first.call.source.before ≡ Some text → second.call.source.before ≡ Some text → TellTheSame first.call second.call)
+  -- with `--share` the answer is that of `lottery` over the same pool, unless a pricing of `lottery` spends its budget
+  pub share : (limits : Limits) (workers others : ℕ) → OfEachTwo (asks.Lottery (record { limits = limits; workers = workers })) (asks.SharedLottery (record { limits = limits; workers = others }))
+      (λ first second. (pool : Pool) (ending : Ending) → IsPool pool → AreLimits limits → RunEnds pool limits ending → IsFalse (spends_pricing ending) →
+      ToldText first.call.source (spelling pool) → ToldText second.call.source (spelling pool) → TellTheSame first.call second.call)
   pub legs : (limits : Limits) (workers others : ℕ) → OfEachTwo (asks.Legs (record { limits = limits; workers = workers })) (asks.Legs (record { limits = limits; workers = others }))
       (λ first second. (text : List ℕ) → first.call.source.before ≡ Some text → second.call.source.before ≡ Some text → TellTheSame first.call second.call)
   pub make : (seed volunteers : ℕ) (limits : Limits) (workers others : ℕ) →

@@ -13,6 +13,7 @@ ghost use Rattle.command_office.specs.Asked.{
   legs_asked as words_of_legs,
   limits_in,
   lottery_asked as words_of_lottery,
+  lottery_from as words_of_lottery_from,
   make_asked as words_of_make,
   page_from as words_of_page,
   prove_from as words_of_prove,
@@ -24,7 +25,7 @@ ghost use Rattle.command_office.specs.Asked.{
   serve_from as words_of_serve_from,
   solve_asked as words_of_solve,
   step_asked as words_of_step,
-  store_text_asked as words_of_store_text,
+  round_text_asked as words_of_round_text,
   text_command_asked as words_of_text_command,
   volunteers_in,
   workers_from as words_of_workers,
@@ -33,8 +34,10 @@ ghost use Rattle.command_office.specs.Asked.{
 
 use crate::steps::Step;
 use command_desk::Serve;
-use command_pools::{Legs, Lottery, Make, Volunteers};
-use command_stores::{Import, ProveRound, StoreText};
+use command_meanings::{Import, RoundText, StoreText};
+use command_pools::{Legs, Lottery, Make, SharedLottery, Volunteers};
+use command_proofs::Prove;
+use command_stores::ProveRound;
 use command_texts::{TextCommand, prove_in, text_asked};
 use command_words::{CommandName, Given, Word, WordsStop, read_words};
 use define_runs::{Limits, Workers};
@@ -50,8 +53,12 @@ const OUT_OF_RANGE: &str =
 pub enum Asked<'a> {
     /// A command that reads one text.
     Text(TextCommand<'a>),
+    /// The lottery of a pool or of a bundle, with a proof.
+    Prove(Prove),
     /// The lottery of a pool, by the stated run.
     Lottery(Lottery),
+    /// The lottery of a pool, by the stated run, whose workers share a bound.
+    SharedLottery(SharedLottery),
     /// The legs of the run over a pool.
     Legs(Legs),
     /// The summary of the run over a made pool.
@@ -131,14 +138,8 @@ fn asked_by<'a>(given: &Given<'a>) -> Option<Asked<'a>>
             let round = round_of(given)?;
             step_of(given, Step::Show { round })
         }
-        CommandName::Report => {
-            let round = round_of(given)?;
-            store_text_of(given, StoreText::Report { round })
-        }
-        CommandName::Pool => {
-            let round = round_of(given)?;
-            store_text_of(given, StoreText::Pool { round })
-        }
+        CommandName::Report => round_text_of(given, RoundText::Report),
+        CommandName::Pool => round_text_of(given, RoundText::Pool),
         CommandName::Keep => {
             let round = round_of(given)?;
             import_of(given, Import::Proof { round })
@@ -178,7 +179,7 @@ fn prove_from<'a>(given: &Given<'a>, store: Option<Word<'a>>) -> Option<Asked<'a
 {
     match store {
         Some(store) => round_proof_of(given, store),
-        None => text_command_of(given),
+        None => Some(Asked::Prove(prove_in(given)?)),
     }
 }
 
@@ -243,7 +244,18 @@ fn lottery_of<'a>(given: &Given<'a>) -> Option<Asked<'a>>
 {
     let limits = limits_of(given)?;
     let workers = workers_of(given)?;
-    Some(Asked::Lottery(Lottery { limits, workers }))
+    Some(lottery_from(given.flag("share"), limits, workers))
+}
+
+/// Returns `lottery`, whose workers share a bound if `share` is true.
+fn lottery_from<'a>(share: bool, limits: Limits, workers: Workers) -> Asked<'a>
+    ensures { result ≡ words_of_lottery_from share limits workers }
+{
+    if share {
+        Asked::SharedLottery(SharedLottery { limits, workers })
+    } else {
+        Asked::Lottery(Lottery { limits, workers })
+    }
 }
 
 fn legs_of<'a>(given: &Given<'a>) -> Option<Asked<'a>>
@@ -278,11 +290,13 @@ fn import_of<'a>(given: &Given<'a>, import: Import) -> Option<Asked<'a>>
     Some(Asked::Import { store, import })
 }
 
-/// Returns a text that is made of the tables of the store that the words name, or None if they name none.
-fn store_text_of<'a>(given: &Given<'a>, text: StoreText) -> Option<Asked<'a>>
-    ensures { result ≡ words_of_store_text text given.now }
+/// Returns a text about a round of the store that the words name, or None if they name none.
+fn round_text_of<'a>(given: &Given<'a>, text: RoundText) -> Option<Asked<'a>>
+    ensures { result ≡ words_of_round_text text given.now }
 {
+    let round = round_of(given)?;
     let store = given.text("store")?;
+    let text = StoreText { text, round };
     Some(Asked::StoreText { store, text })
 }
 
@@ -298,10 +312,7 @@ fn round_page_from<'a>(
         Some(_) => None,
         None => match tickets {
             Some(_) => None,
-            None => {
-                let round = round_of(given)?;
-                store_text_of(given, StoreText::Page { round })
-            }
+            None => round_text_of(given, RoundText::Page),
         },
     }
 }

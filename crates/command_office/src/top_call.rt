@@ -13,7 +13,8 @@ ghost use Rattle.command_office.specs.Headline.{Headline};
 use crate::asked::{Asked, read_asked};
 use crate::steps::command_of;
 use command_desk::call_serve;
-use command_pools::{call_legs, call_lottery, call_make};
+use command_pools::{call_legs, call_lottery, call_make, call_shared_lottery};
+use command_proofs::call_prove;
 use command_shell::{Resources, Status, call, refuse_words, want_memory};
 use command_stores::{call_import, call_prove_round, call_step, call_text};
 use command_words::WordsStop;
@@ -30,8 +31,9 @@ use std::thread::Threads;
 ///
 /// If the door tells its links, the caller must show that no more links came back to it than it gave. A new door has given none.
 ///
-/// For `lottery`, `legs` and `make`, workers search the pieces of a pricing on threads, and `watch` is told of each piece as it starts. No answer
-/// depends on the workers or the watch.
+/// For `lottery`, `legs` and `make`, workers search the pieces of a pricing on threads, and `watch` is told of each piece as it starts, also of
+/// the one worker of `prove`. No answer depends on the workers or the watch, except whether `lottery --share` says that a pricing spent its
+/// budget.
 #[tactic(auto, using(crate::proofs::Kept::keeps))]
 pub fn office<R: Threads + Sync, S: Source, O: Sink, E: Sink, K: Keeper, D: Door, W: Watch + Sync>(
     rt: &R,
@@ -100,7 +102,11 @@ fn run<R: Threads + Sync, W: Watch + Sync, S: Source, O: Sink, E: Sink, K: Keepe
     let alloc = resources.alloc;
     match asked {
         Asked::Text(command) => call(alloc, &command, source, out, errs),
+        Asked::Prove(prove) => call_prove(resources, &prove, source, out, errs),
         Asked::Lottery(lottery) => call_lottery(resources, &lottery, source, out, errs),
+        Asked::SharedLottery(lottery) => {
+            call_shared_lottery(resources, &lottery, source, out, errs)
+        }
         Asked::Legs(legs) => call_legs(resources, &legs, source, out, errs),
         Asked::Make(make) => call_make(resources, &make, out, errs),
         Asked::Step { store, step } => match command_of(alloc, &step) {

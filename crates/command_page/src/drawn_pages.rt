@@ -7,16 +7,16 @@ ghost use Rattle.command_meanings.specs.Seal.{bundle_seal};
 ghost use Rattle.bundle_page.specs.Drawn.{seen_draw};
 ghost use Rattle.bundle_page.specs.Page.{drawn_page_text};
 ghost use Rattle.command_shell.specs.Answers.{HasOneAnswer, IsRight, saying};
-ghost use Rattle.command_page.specs.declared.inputs.BundleOrProof.{BundleOrProof as SeenInput};
-ghost use Rattle.command_page.specs.Page.{DrawnPageMeans, DrawnPageOfBundle, draw_means, lottery_in};
+ghost use Rattle.command_shell.specs.declared.bundle_or_proof.BundleOrProof.{BundleOrProof as SeenInput};
+ghost use Rattle.command_meanings.specs.Page.{DrawnPageMeans, DrawnPageOfBundle, draw_means, lottery_in};
 ghost use Rattle.sealed_draw.specs.Answers.{DrawSays};
 
-use crate::inputs::{BundleOrProof, bundle_in};
+use crate::inputs::bundle_in;
 use crate::pages::{WRONG_TOTAL, without_lottery};
 use bundle_page::write_drawn_page;
 use bundle_text::{Bundle, write_bundle};
 use command_bundles::{Draw, ShortDraw};
-use command_shell::{Answer, Cause, Command, Meaning, Printed, input_line};
+use command_shell::{Answer, BundleOrProof, Cause, Command, Meaning, Printed, input_line};
 use sealed_draw::{Draw as Drawn, DrawStop, draw, seal, total_agrees};
 use short_draws::{TicketCount, draw_short};
 use std::alloc::{AllocError, Global};
@@ -39,7 +39,7 @@ impl Meaning for DrawnPage<'_> {
     type About = BundleOrProof;
 
     ghost use Rattle.command_shell.specs.Answers.{IsTheAnswer};
-    ghost use Rattle.command_page.specs.Page.{DrawnPageMeans};
+    ghost use Rattle.command_meanings.specs.Page.{DrawnPageMeans};
 
     ghost means = { λ command input. IsTheAnswer (DrawnPageMeans command.tickets command.digits.now input) };
 }

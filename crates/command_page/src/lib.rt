@@ -3,7 +3,7 @@
 //! on `sealed_draw` and `short_draws`, which seal and draw, on the commands `draw` and `short-draw` of `command_bundles`, which tell why
 //! nothing is drawn, on the texts of bundles and proofs, and on the shell.
 //!
-//! Promises: `Page` and `DrawnPage` answer as `specs/Page.antt` says, and the laws that each has at most one right answer.
+//! Promises: `Page` and `DrawnPage` answer as Page of `command_meanings` says, and the laws that each has at most one right answer.
 #![tactic(auto)]
 
 mod drawn_pages;
@@ -11,5 +11,4 @@ mod inputs;
 mod pages;
 
 pub use drawn_pages::{DrawnPage, drawn_page_has_one_answer};
-pub use inputs::BundleOrProof;
 pub use pages::{Page, page_has_one_answer};

@@ -5,13 +5,13 @@ ghost use Rattle.define_pools.specs.Lottery.{TotalAgrees};
 ghost use Rattle.command_meanings.specs.Seal.{bundle_seal};
 ghost use Rattle.command_shell.specs.Answers.{HasOneAnswer, IsRight, saying};
 ghost use Rattle.bundle_page.specs.Page.{page_text};
-ghost use Rattle.command_page.specs.declared.inputs.BundleOrProof.{BundleOrProof as SeenInput};
-ghost use Rattle.command_page.specs.Page.{PageMeans, PageOfBundle, WithoutLottery};
+ghost use Rattle.command_shell.specs.declared.bundle_or_proof.BundleOrProof.{BundleOrProof as SeenInput};
+ghost use Rattle.command_meanings.specs.Page.{PageMeans, PageOfBundle, WithoutLottery};
 
-use crate::inputs::{BundleOrProof, bundle_in};
+use crate::inputs::bundle_in;
 use bundle_page::write_page;
 use bundle_text::{Bundle, write_bundle};
-use command_shell::{Answer, Cause, Command, Meaning, Printed, input_line};
+use command_shell::{Answer, BundleOrProof, Cause, Command, Meaning, Printed, input_line};
 use sealed_draw::{seal, total_agrees};
 use std::alloc::{AllocError, Global};
 use text_lines::push_line;
@@ -32,7 +32,7 @@ impl Meaning for Page {
     type About = BundleOrProof;
 
     ghost use Rattle.command_shell.specs.Answers.{IsTheAnswer};
-    ghost use Rattle.command_page.specs.Page.{PageMeans};
+    ghost use Rattle.command_meanings.specs.Page.{PageMeans};
 
     ghost means = { λ command input. IsTheAnswer (PageMeans input) };
 }

@@ -17,7 +17,7 @@ use Rattle.command_shell.specs.Answers.{IsRight, Saying, Stops}
 use Rattle.command_meanings.specs.Legs.{LegsMeans}
 use Rattle.command_meanings.specs.Lottery.{LotteryMeans, PassesWidth, SpendsBudget}
 use Rattle.command_meanings.specs.Make.{MakeMeans, sizes_of}
-use Rattle.command_pools.specs.Found.{TellsStop}
+use Rattle.command_pools.specs.Found.{StopMeans, TellsStop}
 
 -- the answer says that the run stops because a number is too great (status 4) or a budget is spent (status 5)
 data TellsRefusal (limits : Limits) (pool : Pool) (answer : Saying) : Type 0 where
@@ -44,6 +44,15 @@ stop_is_right limits pool stop ends below answer is = right (refused limits pool
     right : TellsRefusal limits pool answer → IsRight (LotteryMeans limits pool) answer
     right (IsWidth line passes e) = subst (IsRight (LotteryMeans limits pool)) (sym e) passes
     right (IsBudget line spends e) = subst (IsRight (LotteryMeans limits pool)) (sym e) spends
+
+-- the same answer, if nothing but a stop is told
+pub early_is_right : (limits : Limits) (pool : Pool) (stop : Stop) → TellsEnding (classes_of pool) (run_limits limits) (Err stop) →
+    SpendsBelowLegs (classes_of pool) (run_limits limits) stop → (answer : Saying) → TellsStop limits stop answer → IsRight (StopMeans limits pool) answer
+early_is_right limits pool stop ends below answer is = right (refused limits pool stop ends below answer is)
+  where
+    right : TellsRefusal limits pool answer → IsRight (StopMeans limits pool) answer
+    right (IsWidth line passes e) = subst (IsRight (StopMeans limits pool)) (sym e) passes
+    right (IsBudget line spends e) = subst (IsRight (StopMeans limits pool)) (sym e) spends
 
 -- `legs` answers to a stop as `lottery` does
 pub legs_stop_is_right : (limits : Limits) (pool : Pool) (stop : Stop) → TellsEnding (classes_of pool) (run_limits limits) (Err stop) →

@@ -1,6 +1,6 @@
 //! The command `lottery`: the bundle of a pool and of the answer that the run finds for it.
 
-ghost use Rattle.std.specs.Prelude.{IfOk};
+ghost use Rattle.std.specs.Prelude.{◌≡◌, IfOk};
 ghost use Rattle.std.specs.Thread.{IsSync};
 ghost use Rattle.command_shell.specs.Answers.{IsRight, IsTheAnswer, status_number, saying};
 ghost use Rattle.command_shell.specs.Formats.{pool_format};
@@ -8,19 +8,21 @@ ghost use Rattle.command_shell.specs.Outcomes.{TextOutcome};
 ghost use Rattle.command_shell.specs.Subjects.{About};
 ghost use Rattle.command_shell.specs.Told.{object, told};
 ghost use Rattle.command_meanings.specs.Lottery.{LotteryMeans};
-ghost use Rattle.command_pools.specs.Found.{TellsStop};
+ghost use Rattle.command_meanings.specs.Prove.{lottery_limits as limits_without_words};
+ghost use Rattle.command_pools.specs.Found.{EndsSo, TellsStop};
+ghost use Rattle.define_bundles.specs.Ranges.{IsInRanges};
 
 use crate::lines::{nodes_spent_line, pivots_spent_line, total_line, wide_line};
-use bundle_text::write_bundle;
+use bundle_text::{Bundle, write_bundle};
 use command_meanings::lottery_has_one_answer;
 use command_shell::{
     Answer, Cause, Meaning, Printed, Resources, Status, call_answered_by, no_panel,
 };
-use define_runs::Workers;
+use define_runs::{MOST_BITS, Workers};
 use laws_of_runs::no_panel_where_none;
 use leximin_run::{Limits, Solved, Stop, solve};
 use outside::{Sink, Source, Watch};
-use pool_model::Pool;
+use pool_model::{Answer as PoolAnswer, Pool};
 use std::alloc::{AllocError, Global};
 use std::thread::Threads;
 
@@ -104,7 +106,61 @@ fn solved<R: Threads + Sync, W: Watch + Sync>(
     }
 }
 
-/// Returns the answer for a run that stops early: a number is too wide, or a budget is spent. Want of memory is `Err`. `make` uses it too.
+/// How the run of `lottery` over a pool ends.
+#[derive(Debug, Drop)]
+pub enum LotteryRun {
+    /// It finds a lottery: the bundle of the pool and of the lottery with its stages.
+    Found(Bundle),
+    /// It finds that there is no quota panel.
+    NoPanel,
+    /// It stops early. This is what `lottery` answers.
+    Stopped(Answer),
+}
+
+/// Returns the limits that `lottery` has without words.
+pub fn lottery_limits() -> Limits
+    ensures { result ≡ limits_without_words }
+{
+    let Some(limits) = Limits::new(MOST_BITS, 100_000, 50_000_000) else {
+        unreachable!()
+    };
+    limits
+}
+
+/// Makes the run of `lottery` over `pool`, on one worker. `prove` goes on with it.
+///
+/// # Errors
+///
+/// Want of memory.
+pub fn run_lottery<R: Threads + Sync, W: Watch + Sync>(
+    resources: &Resources<'_, R, W>,
+    limits: Limits,
+    pool: &Pool,
+) -> Result<LotteryRun, AllocError>
+    ensures { IfOk result (EndsSo limits pool.now) }
+{
+    no_panel_where_none();
+    let Resources { rt, alloc, watch } = *resources;
+    match solve(rt, alloc, pool, limits, 1, watch) {
+        Ok(Solved::Found(answer)) => Ok(LotteryRun::Found(bundle_of(pool.copy()?, answer))),
+        Ok(Solved::NoPanel) => Ok(LotteryRun::NoPanel),
+        Err(stop) => Ok(LotteryRun::Stopped(stop_answer(alloc, limits, &stop)?)),
+    }
+}
+
+/// Returns the bundle of a pool and of an answer in its ranges.
+fn bundle_of(pool: Pool, answer: PoolAnswer) -> Bundle
+    requires { IsInRanges pool answer }
+    ensures { result ≡ record { pool = pool; answer = answer } }
+{
+    let Some(bundle) = Bundle::new(pool, answer) else {
+        unreachable!()
+    };
+    bundle
+}
+
+/// Returns the answer for a run that stops early: a number is too wide, or a budget is spent. Want of memory is `Err`. `make` and
+/// `lottery --share` use it too.
 pub fn stop_answer(alloc: Global, limits: Limits, stop: &Stop) -> Result<Answer, AllocError>
     ensures { IfOk result (λ answer. TellsStop limits stop.now (saying answer)) }
 {

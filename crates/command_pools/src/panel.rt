@@ -1,7 +1,9 @@
 //! The command `panel`: the first quota panel of a pool.
 
-ghost use Rattle.std.specs.Prelude.{IfOk};
-ghost use Rattle.command_shell.specs.Answers.{IsRight, saying};
+ghost use Rattle.std.specs.Prelude.{◌≡◌, None, IfOk};
+ghost use Rattle.command_shell.specs.declared.status.Cause.TheVariants as cause;
+ghost use Rattle.command_shell.specs.Answers.{IsRight, Stops, saying};
+ghost use Rattle.command_meanings.specs.Lines.{nodes_spent_line as words_of_nodes_spent};
 ghost use Rattle.command_meanings.specs.Panel.{PanelMeans};
 ghost use Rattle.command_pools.specs.Found.{FirstSays};
 
@@ -42,23 +44,34 @@ impl Command for FirstPanel {
 fn panel(alloc: Global, nodes: u64, pool: &Pool) -> Result<Answer, AllocError>
     ensures { IfOk result (λ answer. IsRight (PanelMeans nodes pool.now) (saying answer)) }
 {
-    match first_of(alloc, nodes, pool) {
+    match first_panel_within(alloc, nodes, pool) {
         Ok(Some(panel)) => Ok(Answer::Prints {
             printed: Printed::Done,
             text: panel_line(alloc, pool, &panel)?,
         }),
         Ok(None) => no_panel(alloc),
-        Err(SearchStop::Spent) => Ok(Answer::Stops {
-            cause: Cause::Spent,
-            line: nodes_spent_line(alloc, nodes, &At::Opening)?,
-        }),
+        Err(SearchStop::Spent) => visits_spent(alloc, nodes),
         Err(SearchStop::OutOfMemory) => Err(AllocError),
     }
 }
 
+/// Returns the answer for a search that needs more than `nodes` visits. Fails for want of memory. `why` uses it too.
+pub fn visits_spent(alloc: Global, nodes: u64) -> Result<Answer, AllocError>
+    ensures { IfOk result (λ answer. saying answer ≡ Stops cause.Spent (words_of_nodes_spent nodes None)) }
+{
+    Ok(Answer::Stops {
+        cause: Cause::Spent,
+        line: nodes_spent_line(alloc, nodes, &At::Opening)?,
+    })
+}
+
 /// Returns the panel of the first composition, with the first members of each class, or None if there is no quota panel. Fails with `Spent`
-/// if the search needs more than `nodes` visits.
-fn first_of(alloc: Global, nodes: u64, pool: &Pool) -> Result<Option<Panel>, SearchStop>
+/// if the search needs more than `nodes` visits. `why` uses it too.
+pub fn first_panel_within(
+    alloc: Global,
+    nodes: u64,
+    pool: &Pool,
+) -> Result<Option<Panel>, SearchStop>
     ensures { FirstSays nodes pool.now result }
 {
     alike_make_classes();

@@ -2,16 +2,15 @@
 
 ghost use Rattle.std.specs.Prelude.{◌≡◌, IfOk};
 ghost use Rattle.define_pools.specs.Pool.{Pool as SeenPool};
-ghost use Rattle.proof_limits.specs.Budgets.{Left, SpendsOn};
+ghost use Rattle.proof_limits.specs.Budgets.{SpendsOn};
 ghost use Rattle.proof_run.specs.Made.{IsOfPool};
 ghost use Rattle.command_proofs.specs.Proved.{MakesOf};
 
-use crate::proving_lines::{lost, stopped};
-use command_shell::Answer;
+use bundle_text::Bundle;
 use pool_model::Pool;
 use proof_limits::Budget;
 use proof_model::Proof;
-use proof_run::make_proof;
+use proof_run::{RunMade, make_proof};
 use proof_verify::verify;
 use std::alloc::{AllocError, Global};
 
@@ -20,8 +19,10 @@ use std::alloc::{AllocError, Global};
 pub enum Made {
     /// A valid proof of the pool.
     Valid(Proof),
-    /// No proof. This is the answer that says why, with status 4 or 5.
-    Stopped(Answer),
+    /// A lottery with its stages, but no trees.
+    Lottery(Bundle),
+    /// No lottery.
+    Nothing,
 }
 
 /// Makes a proof of `pool` by a run under `budget`, and verifies it. Afterwards `budget` is what the run left of it.
@@ -30,22 +31,23 @@ pub enum Made {
 ///
 /// Want of memory alone.
 pub fn proof_within(alloc: Global, budget: &mut Budget, pool: &Pool) -> Result<Made, AllocError>
-    ensures makes { IfOk result (MakesOf budget.new pool.now) }
+    ensures makes { IfOk result (MakesOf pool.now) }
     ensures spends { SpendsOn budget.old budget.new }
 {
-    match make_proof(alloc, pool, budget) {
-        Ok(proof) => verified(alloc, proof),
-        Err(stop) => Ok(Made::Stopped(stopped(alloc, budget, &stop)?)),
+    match make_proof(alloc, pool, budget)? {
+        RunMade::Proof(proof) => verified(alloc, proof),
+        RunMade::Lottery(bundle) => Ok(Made::Lottery(bundle)),
+        RunMade::Nothing => Ok(Made::Nothing),
     }
 }
 
-/// Returns the proof if it is valid, else the answer that a step of the run was lost.
+/// Returns the proof if it is valid, else nothing.
 fn verified(alloc: Global, proof: Proof) -> Result<Made, AllocError>
-    ensures { IfOk result (λ made. (left : Left) (pool : SeenPool) → IsOfPool pool proof → MakesOf left pool made) }
+    ensures { IfOk result (λ made. (pool : SeenPool) → IsOfPool pool proof → MakesOf pool made) }
 {
     let verdict = verify(alloc, &proof)?;
     match verdict.refusal() {
         None => Ok(Made::Valid(proof)),
-        Some(_) => Ok(Made::Stopped(lost(alloc)?)),
+        Some(_) => Ok(Made::Nothing),
     }
 }

@@ -1,35 +1,39 @@
-//! The command `prove`: the lottery of a pool, or of a bundle, with a proof that is verified before it is printed.
+//! The command `prove`: the lottery of a pool, or of a bundle, with a proof that is verified before it is printed. Where the engine has no
+//! lottery, the run of `lottery` takes over; where it finds no trees, the searches of `check`.
 
-ghost use Rattle.std.specs.Prelude.{◌≡◌, IfOk};
-ghost use Rattle.define_bundles.specs.BundleText.{Bundle as SeenBundle};
-ghost use Rattle.command_shell.specs.Answers.{IsRight, saying};
+ghost use Rattle.std.specs.Prelude.{IfOk};
+ghost use Rattle.std.specs.Thread.{IsSync};
+ghost use Rattle.command_meanings.specs.Lottery.{FindsNone};
+ghost use Rattle.command_meanings.specs.Prove.{ProvesWithin, lottery_limits as limits_without_words};
+ghost use Rattle.command_proofs.specs.Proved.{IsNowRight, IsValidOf};
+ghost use Rattle.command_shell.specs.Answers.{saying, status_number};
+ghost use Rattle.command_shell.specs.Formats.{pool_or_bundle_format};
+ghost use Rattle.command_shell.specs.Outcomes.{TextOutcome};
+ghost use Rattle.command_shell.specs.Subjects.{About};
+ghost use Rattle.command_shell.specs.Told.{object, told};
 ghost use Rattle.command_shell.specs.declared.formats.PoolOrBundle.TheVariants as either;
-ghost use Rattle.command_meanings.specs.Prove.{ProveMeans, ProvesWithin};
 ghost use Rattle.define_pools.specs.Pool.{Pool as SeenPool};
 ghost use Rattle.proof_limits.specs.Budgets.{Left, SpendsOn};
-ghost use Rattle.proof_model.specs.Parts.{seen};
-ghost use Rattle.proof_run.specs.Made.{IsOfBundle};
-ghost use Rattle.command_proofs.specs.Proved.{IsValidOf, TellsOfBundle, ending, proof_said};
 
 use crate::making::{Made, proof_within};
-use crate::proving_lines::stopped;
+use crate::settling::{Settled, if_valid, proof_answer, settle};
 use bundle_text::Bundle;
-use command_bundles::refused_line;
-use command_shell::{Answer, Command, Meaning, PoolOrBundle, Printed};
+use command_pools::{LotteryRun, lottery_limits, run_lottery};
+use command_shell::{Answer, Meaning, PoolOrBundle, Resources, Status, call_answered_by, no_panel};
+use outside::{Sink, Source, Watch};
 use pool_model::Pool;
 use proof_limits::Budget;
-use proof_model::{Parts, Proof};
-use proof_run::prove_bundle;
-use proof_text::write_proof;
-use proof_verify::{Verdict, verify};
+use proof_model::Proof;
+use proof_run::prove_none;
 use std::alloc::{AllocError, Global};
+use std::thread::Threads;
 
 /// `prove`: the proof of a pool or of a bundle, by a run under a budget.
 #[derive(Clone, Copy, Debug)]
 pub struct Prove {
-    /// The most pivots of the whole run, from 0 to 1,000,000,000.
+    /// The most pivots of the run that looks for a lottery, from 0 to 1,000,000,000.
     pub pivots: u64,
-    /// The most nodes of the whole run, from 0 to 1,000,000,000,000.
+    /// The most nodes of that run, and the most nodes of trees, from 0 to 1,000,000,000,000.
     pub nodes: u64,
 }
 
@@ -38,118 +42,142 @@ impl Meaning for Prove {
 
     ghost use Rattle.command_meanings.specs.Prove.{ProvesWithin};
 
-    ghost means = { λ command about. ProvesWithin command.pivots command.nodes about };
+    ghost means = { λ command about. ProvesWithin command.nodes about };
 }
 
-impl Command for Prove {
-    fn answer(
-        &self,
-        alloc: Global,
-        about: &PoolOrBundle,
-        _text: &[u8],
-    ) -> Result<Answer, AllocError> {
-        proved(alloc, self.pivots, self.nodes, about)
-    }
+/// Makes one call of `prove`. A closure answers it, since the run of `lottery` starts threads, which a method of a trait can't do.
+pub fn call_prove<R: Threads + Sync, W: Watch + Sync, S: Source, O: Sink, E: Sink>(
+    resources: &Resources<'_, R, W>,
+    command: &Prove,
+    source: &mut S,
+    out: &mut O,
+    errs: &mut E,
+) -> Status
+    ensures { TextOutcome (About pool_or_bundle_format (ProvesWithin command.now.nodes)) (told (status_number result)
+        (object (S.left source.old) (S.left source.new) (S.faults source.old) (S.faults source.new))
+        (object (O.written out.old) (O.written out.new) (O.faults out.old) (O.faults out.new))
+        (object (E.written errs.old) (E.written errs.new) (E.faults errs.old) (E.faults errs.new))) }
+{
+    // The resources are taken apart before the closure: Rattle drops the `ensures` of a closure that captures a value whose type names a
+    // lifetime.
+    let Resources { rt, alloc, watch } = *resources;
+    call_answered_by(
+        alloc,
+        command,
+        |about: &PoolOrBundle| -> Result<Answer, AllocError>
+            requires { IsSync R.row × IsSync W.row }
+            ensures { IfOk result (λ answer. ProvesWithin command.entry.now.nodes about.now (saying answer)) }
+        { proved(&Resources { rt, alloc, watch }, command, about) },
+        source,
+        out,
+        errs,
+    )
 }
 
-/// Returns what `prove` answers by a run with a new budget.
-fn proved(
-    alloc: Global,
-    pivots: u64,
-    nodes: u64,
+/// Returns what `prove` answers by a run with a new budget, and with a new count of nodes for trees. Pivots don't end a search for trees.
+fn proved<R: Threads + Sync, W: Watch + Sync>(
+    resources: &Resources<'_, R, W>,
+    command: &Prove,
     about: &PoolOrBundle,
 ) -> Result<Answer, AllocError>
-    ensures { IfOk result (λ answer. ProvesWithin pivots nodes about.now (saying answer)) }
+    ensures { IfOk result (λ answer. ProvesWithin command.now.nodes about.now (saying answer)) }
 {
-    let mut budget = Budget::new(pivots, nodes);
-    prove_within(alloc, &mut budget, about)
+    let mut budget = Budget::new(command.pivots, command.nodes);
+    let mut trees = Budget::new(u64::MAX, command.nodes);
+    prove_within(resources, &mut budget, &mut trees, about)
 }
 
-/// Returns what `prove` answers by a run under `budget`. Afterwards `budget` is what the run left of it.
+/// Returns what `prove` answers by a run under `budget`, if the nodes of `trees` are left for trees. Afterwards both are what is left of
+/// them: so the line that no trees are found comes only if the nodes of `trees` were visited, one by one.
 ///
 /// # Errors
 ///
 /// Want of memory alone.
-pub fn prove_within(
-    alloc: Global,
+pub fn prove_within<R: Threads + Sync, W: Watch + Sync>(
+    resources: &Resources<'_, R, W>,
     budget: &mut Budget,
+    trees: &mut Budget,
     about: &PoolOrBundle,
 ) -> Result<Answer, AllocError>
-    ensures right { IfOk result (λ answer. IsRight (ProveMeans budget.new about.now) (saying answer)) }
+    ensures right { IfOk result (IsNowRight trees.new about.now) }
     ensures spends { SpendsOn budget.old budget.new }
+    ensures visits { SpendsOn trees.old trees.new }
 {
     match about {
-        PoolOrBundle::Pool(pool) => about_pool(alloc, budget, pool),
-        PoolOrBundle::Bundle(bundle) => about_bundle(alloc, budget, bundle),
+        PoolOrBundle::Pool(pool) => about_pool(resources, budget, trees, pool),
+        PoolOrBundle::Bundle(bundle) => about_bundle(resources.alloc, trees, bundle),
     }
 }
 
 /// Returns what `prove` answers about `pool`.
-fn about_pool(alloc: Global, budget: &mut Budget, pool: &Pool) -> Result<Answer, AllocError>
-    ensures right { IfOk result (λ answer. IsRight (ProveMeans budget.new (either.Pool pool.now)) (saying answer)) }
+fn about_pool<R: Threads + Sync, W: Watch + Sync>(
+    resources: &Resources<'_, R, W>,
+    budget: &mut Budget,
+    trees: &mut Budget,
+    pool: &Pool,
+) -> Result<Answer, AllocError>
+    ensures right { IfOk result (IsNowRight trees.new (either.Pool pool.now)) }
     ensures spends { SpendsOn budget.old budget.new }
+    ensures visits { SpendsOn trees.old trees.new }
 {
-    match proof_within(alloc, budget, pool)? {
-        Made::Valid(proof) => valid_proof(alloc, &proof),
-        Made::Stopped(answer) => Ok(answer),
-    }
-}
-
-/// Returns what `prove` answers about `bundle`.
-fn about_bundle(alloc: Global, budget: &mut Budget, bundle: &Bundle) -> Result<Answer, AllocError>
-    ensures right { IfOk result (λ answer. IsRight (ProveMeans budget.new (either.Bundle bundle.now)) (saying answer)) }
-    ensures spends { SpendsOn budget.old budget.new }
-{
-    match prove_bundle(alloc, bundle, budget) {
-        Ok(proof) => told_of_bundle(alloc, &proof),
-        Err(stop) => stopped(alloc, budget, &stop),
+    match proof_within(resources.alloc, budget, pool)? {
+        Made::Valid(proof) => valid_proof(resources.alloc, &proof),
+        Made::Lottery(bundle) => match settle(resources.alloc, trees, &bundle)? {
+            Settled::Told(answer) => Ok(answer),
+            Settled::Checked(_) => by_run(resources, trees, pool),
+        },
+        Made::Nothing => by_run(resources, trees, pool),
     }
 }
 
 /// Returns the answer for a valid proof of a pool.
 fn valid_proof(alloc: Global, proof: &Proof) -> Result<Answer, AllocError>
-    ensures { IfOk result (λ answer. (left : Left) (pool : SeenPool) → IsValidOf pool proof.now → IsRight (ProveMeans left (either.Pool pool)) (saying answer)) }
+    ensures { IfOk result (λ answer. (count : Left) (pool : SeenPool) → IsValidOf pool proof.now → IsNowRight count (either.Pool pool) answer) }
 {
     proof.facts();
-    proof_text(alloc, proof)
+    proof_answer(alloc, proof)
 }
 
-/// Verifies a proof of a bundle, and returns the answer for the verdict.
-fn told_of_bundle(alloc: Global, proof: &Proof) -> Result<Answer, AllocError>
-    ensures { IfOk result (λ answer. (left : Left) (bundle : SeenBundle) → IsOfBundle bundle proof.now → IsRight (ProveMeans left (either.Bundle bundle)) (saying answer)) }
+/// Returns what `prove` answers about `bundle`.
+fn about_bundle(alloc: Global, trees: &mut Budget, bundle: &Bundle) -> Result<Answer, AllocError>
+    ensures right { IfOk result (IsNowRight trees.new (either.Bundle bundle.now)) }
+    ensures visits { SpendsOn trees.old trees.new }
 {
-    let verdict = verify(alloc, proof)?;
-    proof_or_refusal(alloc, proof, &verdict)
-}
-
-/// Returns the text of a valid proof, else the answer why it is refused.
-fn proof_or_refusal(alloc: Global, proof: &Proof, verdict: &Verdict) -> Result<Answer, AllocError>
-    ensures { IfOk result (λ answer. TellsOfBundle proof.now verdict.now (saying answer)) }
-{
-    match verdict.refusal() {
-        None => proof_text(alloc, proof),
-        Some(refusal) => Ok(Answer::Prints {
-            printed: Printed::Refused,
-            text: refused_line(alloc, refusal)?,
-        }),
+    match settle(alloc, trees, bundle)? {
+        Settled::Told(answer) => Ok(answer),
+        Settled::Checked(answer) => Ok(answer),
     }
 }
 
-fn proof_text(alloc: Global, proof: &Proof) -> Result<Answer, AllocError>
-    ensures { IfOk result (λ answer. saying answer ≡ proof_said proof.now) }
+/// Returns what `prove` answers about `pool`, for whose lottery the run of `lottery` takes over.
+fn by_run<R: Threads + Sync, W: Watch + Sync>(
+    resources: &Resources<'_, R, W>,
+    trees: &mut Budget,
+    pool: &Pool,
+) -> Result<Answer, AllocError>
+    ensures right { IfOk result (IsNowRight trees.new (either.Pool pool.now)) }
+    ensures visits { SpendsOn trees.old trees.new }
 {
-    Ok(Answer::Prints {
-        printed: ending_of(proof.parts()),
-        text: write_proof(alloc, proof)?,
-    })
+    match run_lottery(resources, lottery_limits(), pool)? {
+        LotteryRun::Found(bundle) => match settle(resources.alloc, trees, &bundle)? {
+            Settled::Told(answer) => Ok(answer),
+            Settled::Checked(answer) => Ok(answer),
+        },
+        LotteryRun::NoPanel => of_none(resources.alloc, trees, pool),
+        LotteryRun::Stopped(answer) => Ok(answer),
+    }
 }
 
-/// Returns how the command ends with a valid proof of these parts.
-fn ending_of(parts: &Parts) -> Printed
-    ensures { result ≡ ending (seen parts.now) }
+/// Returns the answer for a pool without a quota panel: a proof if its tree is found, else the line of `lottery`.
+fn of_none(alloc: Global, trees: &mut Budget, pool: &Pool) -> Result<Answer, AllocError>
+    requires { FindsNone limits_without_words pool.now }
+    ensures right { IfOk result (IsNowRight trees.new (either.Pool pool.now)) }
+    ensures visits { SpendsOn trees.old trees.new }
 {
-    match parts {
-        Parts::Lottery(_, _) => Printed::Done,
-        Parts::NoPanel(_, _) => Printed::NoPanel,
+    if let Some(proof) = prove_none(alloc, pool, trees)? {
+        if let Some(answer) = if_valid(alloc, &proof)? {
+            return Ok(answer);
+        }
     }
+    no_panel(alloc)
 }

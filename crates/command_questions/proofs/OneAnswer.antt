@@ -5,9 +5,10 @@ use Rattle.command_shell.specs.declared.status.Printed.TheVariants.{Done}
 use Rattle.command_shell.specs.declared.status.Cause.TheVariants.{Input}
 use Rattle.command_shell.specs.Answers.{HasOneAnswer, Prints, Stops}
 use Rattle.command_questions.specs.declared.questions.Question.{Question}
-use Rattle.command_questions.specs.Questions.{QuestionMeans}
+use Rattle.command_meanings.specs.Question.{QuestionMeans}
+use Rattle.command_questions.specs.Questions.{question_text}
 
-pub question_once : (question : Question) (bundle : Bundle) → HasOneAnswer (QuestionMeans question bundle)
+pub question_once : (question : Question) (bundle : Bundle) → HasOneAnswer (QuestionMeans (question_text question) bundle)
 question_once question bundle (Prints Done a) (Prints Done b) x y = ap (Prints Done) (x.answers ∙ sym y.answers)
 question_once question bundle (Prints Done a) (Stops Input b) x y = absurd (y.total x.total)
 question_once question bundle (Stops Input a) (Prints Done b) x y = absurd (x.total y.total)

@@ -1,12 +1,9 @@
--- What each question about a bundle answers: a text that is made of the bundle alone. Each further question adds a line to `question_text`.
--- Builds on Dice, Tickets, Chances and Short.
-use Rattle.std.specs.Prelude.{◌≡◌, ℕ, List}
+-- The text of each question about a bundle, which is made of the bundle alone. Each further question adds a line to `question_text`. Builds
+-- on Dice, Tickets, Chances and Short.
+use Rattle.std.specs.Prelude.{ℕ, List}
 use Rattle.define_bundles.specs.BundleText.{Bundle}
 use Rattle.define_lines.specs.Lines.{text_of}
-use Rattle.define_pools.specs.Lottery.{TotalAgrees}
 use Rattle.define_short_draws.specs.ShortBundle.{shortened_bundle}
-use Rattle.command_shell.specs.Answers.{RightAnswers, no_answer}
-use Rattle.command_meanings.specs.Draw.{HasWrongTotal}
 use Rattle.command_questions.specs.declared.questions.Question.{Question}
 use Rattle.command_questions.specs.declared.questions.Question.TheVariants.{Chances, Dice, InTickets, Tickets}
 use Rattle.command_questions.specs.Chances.{lines_of_chances}
@@ -20,16 +17,3 @@ question_text Dice bundle = text_of (dice_lines bundle)
 question_text Tickets bundle = text_of (ticket_lines bundle)
 question_text Chances bundle = text_of (lines_of_chances bundle)
 question_text (InTickets tickets answer) bundle = text_of (lines_in_tickets answer (shortened_bundle bundle tickets))
-
--- the weights sum to the total, and the text answers the question
-pub record PrintsText (question : Question) (bundle : Bundle) (text : List ℕ) : Type 0 where
-  pub total : TotalAgrees bundle.answer.lottery
-  pub answers : text ≡ question_text question bundle
-
-abbrev pub QuestionMeans : Question → Bundle → RightAnswers
-QuestionMeans question bundle = record no_answer {
-  -- status 0
-  done = PrintsText question bundle;
-  -- status 3
-  input = HasWrongTotal bundle;
-}

@@ -4,13 +4,12 @@ ghost use Rattle.std.specs.Prelude.{◌≡◌, IfOk};
 ghost use Rattle.define_bundles.specs.BundleText.{Bundle};
 ghost use Rattle.define_pools.specs.Lottery.{TotalAgrees};
 ghost use Rattle.command_shell.specs.Answers.{HasOneAnswer, IsRight, saying};
-ghost use Rattle.command_questions.specs.Questions.{QuestionMeans, question_text};
+ghost use Rattle.command_meanings.specs.Question.{QuestionMeans};
+ghost use Rattle.command_questions.specs.Questions.{question_text};
 ghost use Rattle.command_questions.specs.declared.questions.Question.{Question};
 
-use crate::chances::chances_text;
-use crate::dice::dice_text;
-use crate::ranges::tickets_text;
-use crate::short::{InTickets, text_in_tickets};
+use crate::short::InTickets;
+use crate::{chances, dice, ranges, short};
 use bundle_text::Bundle;
 use command_shell::{Answer, Cause, Command, Meaning, Printed, input_line};
 use sealed_draw::total_agrees;
@@ -40,16 +39,17 @@ pub enum Question {
 
 /// Each question has at most one right answer about a bundle.
 pub fn questions_have_one_answer()
-    ensures { (question : Question) (bundle : Bundle) → HasOneAnswer (QuestionMeans question bundle) }
+    ensures { (question : Question) (bundle : Bundle) → HasOneAnswer (QuestionMeans (question_text question) bundle) }
 {}
 
 impl Meaning for Question {
     type About = Bundle;
 
     ghost use Rattle.command_shell.specs.Answers.{IsTheAnswer};
-    ghost use Rattle.command_questions.specs.Questions.{QuestionMeans};
+    ghost use Rattle.command_meanings.specs.Question.{QuestionMeans};
+    ghost use Rattle.command_questions.specs.Questions.{question_text};
 
-    ghost means = { λ question bundle. IsTheAnswer (QuestionMeans question bundle) };
+    ghost means = { λ question bundle. IsTheAnswer (QuestionMeans (question_text question) bundle) };
 }
 
 impl Command for Question {
@@ -61,7 +61,7 @@ impl Command for Question {
 
 /// Returns the answer to a question about a bundle.
 fn answered(alloc: Global, question: Question, bundle: &Bundle) -> Result<Answer, AllocError>
-    ensures { IfOk result (λ answer. IsRight (QuestionMeans question bundle.now) (saying answer)) }
+    ensures { IfOk result (λ answer. IsRight (QuestionMeans (question_text question) bundle.now) (saying answer)) }
 {
     if !total_agrees(bundle) {
         return Ok(Answer::Stops {
@@ -81,9 +81,11 @@ fn text_about(alloc: Global, question: Question, bundle: &Bundle) -> Result<Vec<
     ensures { IfOk result (λ text. text.items ≡ question_text question bundle.now) }
 {
     match question {
-        Question::Dice => dice_text(alloc, bundle),
-        Question::Tickets => tickets_text(alloc, bundle),
-        Question::Chances => chances_text(alloc, bundle),
-        Question::InTickets { tickets, answer } => text_in_tickets(alloc, bundle, tickets, answer),
+        Question::Dice => dice::dice_text(alloc, bundle),
+        Question::Tickets => ranges::tickets_text(alloc, bundle),
+        Question::Chances => chances::chances_text(alloc, bundle),
+        Question::InTickets { tickets, answer } => {
+            short::text_in_tickets(alloc, bundle, tickets, answer)
+        }
     }
 }

@@ -4,3 +4,4 @@ pub mod Lines
 pub mod Outcomes
 pub mod Subjects
 pub mod Formats
+pub mod BundlesOrProofs

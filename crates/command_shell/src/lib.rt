@@ -7,6 +7,7 @@
 #![tactic(auto)]
 
 mod answer;
+mod bundle_or_proof;
 mod calling;
 mod command;
 mod formats;
@@ -17,6 +18,7 @@ mod subject;
 mod telling;
 
 pub use answer::Answer;
+pub use bundle_or_proof::BundleOrProof;
 pub use calling::{answer_about, call, call_answered_by, call_silent};
 pub use command::{Answering, Command, Meaning, Resources};
 pub use formats::PoolOrBundle;

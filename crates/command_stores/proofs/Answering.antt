@@ -27,8 +27,9 @@ use Rattle.office_core.specs.Acting.{ActsOver, FailsAtStore, HasOutcomeOver, IsL
 use Rattle.office_core.specs.Keeping.{Attach, Course, HasCause, Load, Store, at, stop_of, with_call}
 use Rattle.office_core.specs.declared.keeper.KeeperStop.{KeeperStop}
 use Rattle.office_core.specs.declared.keeper.KeeperStop.TheVariants.{Failed, OutOfMemory}
-use Rattle.command_stores.specs.Steps.{StepMeans, TellsOutcome, TellsStop, TextMeans, change_of, refusal_of, refused_by, stored_text, text_or_refusal}
-use Rattle.command_stores.specs.declared.texts.StoreText.{StoreText}
+use Rattle.command_meanings.specs.Steps.{StepMeans, TellsOutcome, TellsStop, TextMeans, change_of, refused_by, stored_text, text_or_refusal}
+use Rattle.command_stores.specs.NoTexts.{refusal_of}
+use Rattle.command_meanings.specs.declared.office.StoreText.{StoreText}
 use Rattle.round_reports.specs.Rounds.{TellsReport}
 use Rattle.office_steps.specs.Replies.{seen_refusal}
 use Rattle.office_steps.specs.declared.replies.Refusal as code
@@ -213,7 +214,7 @@ refused_so is why (Err error) tells says never = tt
 
 -- If nothing is stored, and the answer is the text or the refusal, or no memory was left to make it, the call settles by `TextMeans`.
 pub text_settles : (it : StoreText) (tables : Tables) (kept : Option Tables) (faults : ℕ) (course : Course) (made : Result Answer AllocError) (settled : Result Answer KeeperStop) →
-    IfOk made (λ answer. saying answer ≡ text_or_refusal (stored_text it tables)) → settled ≡ settled_by made →
+    IfOk made (λ answer. saying answer ≡ text_or_refusal (stored_text it.text it.round tables)) → settled ≡ settled_by made →
     SettlesLoaded (TextMeans it tables) (keeper_told (object kept kept faults faults) course course) settled
 text_settles it tables kept faults course (Ok answer) settled is equal =
     subst (SettlesLoaded (TextMeans it tables) (keeper_told (object kept kept faults faults) course course)) (sym equal)

@@ -16,9 +16,9 @@ use Rattle.command_shell.specs.Answers.{saying}
 use Rattle.command_shell.specs.Outcomes.{HasNoInput, IsInput, TellsNoInput}
 use Rattle.command_shell.specs.Told.{IsUntouched, Told, object}
 use Rattle.command_shell.specs.declared.answer.Answer.{Answer}
-use Rattle.command_stores.specs.Imports.{Does, HasFault, ImportMeans, ReadsFile, fault_answer}
-use Rattle.command_stores.specs.declared.imports.Import.{Import}
-use Rattle.command_stores.specs.Steps.{StepMeans}
+use Rattle.command_meanings.specs.Imports.{Does, HasFault, ImportMeans, ReadsFile, fault_answer}
+use Rattle.command_meanings.specs.declared.office.Import.{Import}
+use Rattle.command_meanings.specs.Steps.{StepMeans}
 use Rattle.command_stores.specs.StoreOutcomes.{NoMemory, NotAttached, Read, ReadFault, SettlesAttached, SettlesLoaded, StoreMeaning, TellsSettled, TextStoreOutcome, TooLong, settled_by}
 use Rattle.command_stores.specs.StoreTold.{Keeper, keeper_told, store_told}
 use Rattle.command_stores.proofs.Answering.{ends, settles_attached, unchanged}

@@ -10,10 +10,10 @@ use Rattle.define_imports.specs.Cells.{Fault}
 use Rattle.define_imports.specs.Registers.{ReadsRows}
 use Rattle.define_imports.specs.Rules.{ReadsRules}
 use Rattle.define_pools.specs.Pool.{Category}
-use Rattle.command_stores.specs.declared.imports.Import.{Import}
-use Rattle.command_stores.specs.declared.imports.Import.TheVariants as import
-use Rattle.command_stores.specs.Imports.{Does, HasFault, ImportMeans, NoRules, ReadsFile, ReadsRegister, as_command, fault_answer}
-use Rattle.command_stores.specs.Steps.{StepMeans, TellsEnding, TellsOutcome, TellsStop, change_of}
+use Rattle.command_meanings.specs.declared.office.Import.{Import}
+use Rattle.command_meanings.specs.declared.office.Import.TheVariants as import
+use Rattle.command_meanings.specs.Imports.{Does, HasFault, ImportMeans, NoRules, ReadsFile, ReadsRegister, as_command, fault_answer}
+use Rattle.command_meanings.specs.Steps.{StepMeans, TellsEnding, TellsOutcome, TellsStop, change_of}
 
 -- A run's end is told by at most one answer.
 ending_once : (limits : Limits) (ending : Ending) (answer other : Saying) → TellsEnding limits ending answer → TellsEnding limits ending other → answer ≡ other

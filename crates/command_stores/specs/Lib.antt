@@ -1,7 +1,5 @@
-pub mod Pages
+pub mod NoTexts
 pub mod StoreTold
 pub mod StoreOutcomes
-pub mod Steps
-pub mod Imports
 pub mod ReadFiles
 pub mod ProvedRounds

@@ -1,21 +1,16 @@
--- What `prove` over a store answers: a proof is made of the pool of an open round, and the office keeps it. Builds on Steps, and on Proved
--- of `command_proofs`. The contract of `office` cites it.
---
--- The run that makes the proof has no definition. So the meaning doesn't say whether a proof is found, nor which of the statuses 4 and 5
--- comes if none is.
-use Rattle.std.specs.Prelude.{◌≡◌, ℕ, Bool, true, false, Option, Some, None, Result, Ok, Err}
-use Rattle.command_proofs.specs.Proved.{NoProofMeans}
-use Rattle.command_shell.specs.Answers.{IsRight, Saying}
+-- What `prove` over a store answers: a proof is made of the pool of an open round, and the office keeps it; or the round is solved. Builds on
+-- Steps. The contract of `office` cites it.
+use Rattle.std.specs.Prelude.{◌≡◌, ℕ, Bool, true, false, Option, Some, None, Result, Ok, Err, ⊤}
+use Rattle.command_meanings.specs.Prove.{lottery_limits}
+use Rattle.command_shell.specs.Answers.{Saying}
 use Rattle.define_proofs.specs.ProofVerdict.{Proof, verdict}
 use Rattle.define_checks.specs.Reasons.{Valid}
-use Rattle.define_offices.specs.Commands.{Change, Keep, Outcome, Refusal, Solve}
-use Rattle.define_offices.specs.Deciding.{IsDecided, proof_pool, solve_in}
+use Rattle.define_offices.specs.Commands.{Change, Keep, Refusal, Solve}
+use Rattle.define_offices.specs.Deciding.{proof_pool}
 use Rattle.define_offices.specs.Pools.{pool_of}
 use Rattle.define_offices.specs.Tables.{Drawn, Open, Round, Sealed, Solved, Tables, named_round}
 use Rattle.define_pools.specs.Pool.{Pool}
-use Rattle.define_runs.specs.Run.{Limits}
-use Rattle.proof_limits.specs.Budgets.{Left, SpendsOn, unspent}
-use Rattle.command_stores.specs.Steps.{StepMeans}
+use Rattle.command_meanings.specs.Steps.{StepMeans}
 use Rattle.command_stores.specs.declared.proving.ProveRound.{ProveRound}
 
 -- the round is open, and has the pool `pool`
@@ -23,20 +18,13 @@ pub record IsOpenWith (tables : Tables) (round : ℕ) (pool : Pool) : Type 0 whe
   pub open_now : named_round tables.rounds round ≡ Some Open
   pub is : pool_of tables round ≡ Ok pool
 
--- a solve of the round needs no run: there is no such round, or it isn't open, or it has no pool
-abbrev pub NeedsNoRun : Tables → ℕ → Type 0
-NeedsNoRun tables round = (outcome : Outcome) × (solve_in tables round (named_round tables.rounds round) ≡ IsDecided outcome)
-
 -- the answers that are right for a proof that is to be made for a round, with the change of the tables
 pub data ProvesRound (it : ProveRound) (tables : Tables) (answer : Saying) (change : Option Change) : Type 0 where
   -- the round was open, and a valid proof was made of its pool: the answer and the change are those of keeping it
   Keeps : (pool : Pool) (proof : Proof) → IsOpenWith tables it.round pool → proof_pool proof ≡ pool → verdict proof ≡ Valid →
       StepMeans (Keep it.round proof) tables answer change → ProvesRound it tables answer change
-  -- status 4 or 5: the round is open, and a run over its pool made no proof. The run leaves `left` of its budget
-  NoProof : (pool : Pool) (left : Left) → IsOpenWith tables it.round pool → SpendsOn (unspent it.prove.pivots it.prove.nodes) left →
-      IsRight (NoProofMeans left) answer → change ≡ None → ProvesRound it tables answer change
-  -- no run is needed: the answer and the change are those of a solve
-  AsSolve : (limits : Limits) → NeedsNoRun tables it.round → StepMeans (Solve it.round limits) tables answer change → ProvesRound it tables answer change
+  -- no proof was made: the answer and the change are those of a solve, with the limits that it has without words
+  AsSolve : StepMeans (Solve it.round lottery_limits) tables answer change → ProvesRound it tables answer change
 
 -- ---- what the code returns for a round
 
@@ -53,7 +41,7 @@ abbrev pub IsIfAny : Result Pool Refusal → Option Pool → Type 0
 IsIfAny is (Some pool) = is ≡ Ok pool
 IsIfAny is None = (refusal : Refusal) × (is ≡ Err refusal)
 
--- the pool of an open round, or None if a solve needs no run
+-- the pool, if there is one, is that of an open round
 abbrev pub TellsOpen : Tables → ℕ → Option Pool → Type 0
 TellsOpen tables round (Some pool) = IsOpenWith tables round pool
-TellsOpen tables round None = NeedsNoRun tables round
+TellsOpen tables round None = ⊤

@@ -10,9 +10,9 @@ use Rattle.office_import.specs.declared.stops.ImportStop.{ImportStop}
 use Rattle.office_import.specs.declared.stops.ImportStop.TheVariants as read
 use Rattle.command_stores.specs.declared.imports.FileStop.{FileStop}
 use Rattle.command_stores.specs.declared.imports.FileStop.TheVariants.{Fault, NoRules, OutOfMemory}
-use Rattle.command_stores.specs.declared.imports.Import.{Import}
-use Rattle.command_stores.specs.declared.imports.Import.TheVariants.{Register}
-use Rattle.command_stores.specs.Imports.{ReadsFile}
+use Rattle.command_meanings.specs.declared.office.Import.{Import}
+use Rattle.command_meanings.specs.declared.office.Import.TheVariants.{Register}
+use Rattle.command_meanings.specs.Imports.{ReadsFile}
 
 -- what the code may return for a file; running out of memory is allowed at any time
 abbrev pub IsReadAs : Import → Tables → List ℕ → Result Command FileStop → Type 0

@@ -4,7 +4,7 @@ ghost use Rattle.std.specs.Prelude.{◌≡◌, IfOk};
 ghost use Rattle.command_shell.specs.Answers.{status_number, saying};
 ghost use Rattle.command_shell.specs.Told.{object, told};
 ghost use Rattle.office_import.specs.Answers.{fault_of};
-ghost use Rattle.command_stores.specs.Imports.{ImportMeans, fault_answer as words_of_fault};
+ghost use Rattle.command_meanings.specs.Imports.{ImportMeans, fault_answer as words_of_fault};
 ghost use Rattle.command_stores.specs.ReadFiles.{IsProofRead, IsReadAs};
 ghost use Rattle.command_stores.specs.StoreOutcomes.{SettlesAttached, TextStoreOutcome};
 ghost use Rattle.command_stores.specs.StoreTold.{keeper_told, store_told};
@@ -13,6 +13,7 @@ ghost use Rattle.office_core.specs.Commands.{HasWorkers};
 use crate::calling::{answer_or_want, load, tell_settled};
 use crate::refusals::refusal_answer;
 use crate::steps::settle_over;
+use command_meanings::Import;
 use command_shell::{Answer, Cause, Resources, Status, input_line, read_input, refuse_input};
 use office_core::{Command, Keeper, KeeperStop, Part, Refusal, Tables};
 use office_import::{ImportFault, ImportStop, read_charter, read_register, read_rules};
@@ -22,22 +23,6 @@ use proof_text::read_proof;
 use std::alloc::{AllocError, Global};
 use std::thread::Threads;
 use text_lines::TextStop;
-
-/// What is imported.
-#[derive(Clone, Copy, Debug)]
-pub enum Import {
-    /// What the assembly is called, and how many members its panel has.
-    Charter,
-    /// The categories, with their values and bounds.
-    Rules,
-    /// Volunteers.
-    Register,
-    /// A proof of a lottery over the pool of an open round, or that there is no quota panel.
-    Proof {
-        /// The round's number, counted from 1.
-        round: usize,
-    },
-}
 
 /// Why a file isn't read as a command.
 #[derive(Debug, Drop)]

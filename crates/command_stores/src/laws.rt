@@ -1,7 +1,7 @@
 //! The laws that a command of the office, and an import, have at most one answer: contracts of functions that do nothing.
 
-ghost use Rattle.command_stores.specs.Imports.{ImportsAnswerOnce};
-ghost use Rattle.command_stores.specs.Steps.{StepsAnswerOnce};
+ghost use Rattle.command_meanings.specs.Imports.{ImportsAnswerOnce};
+ghost use Rattle.command_meanings.specs.Steps.{StepsAnswerOnce};
 
 use define_imports::one_reading;
 

@@ -17,8 +17,8 @@ mod refusals;
 mod steps;
 mod texts;
 
-pub use imports::{Import, call_import};
+pub use imports::call_import;
 pub use laws::{imports_answer_once, steps_answer_once};
 pub use proving::{ProveRound, call_prove_round};
 pub use steps::call_step;
-pub use texts::{StoreText, call_text};
+pub use texts::call_text;

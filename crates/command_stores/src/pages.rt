@@ -5,8 +5,8 @@ ghost use Rattle.bundle_page.specs.Page.{page_with as words_of_page, round_head 
 ghost use Rattle.define_offices.specs.Lines.{bundle_seal};
 ghost use Rattle.define_offices.specs.Tables.{bundle_of};
 ghost use Rattle.command_shell.specs.Answers.{saying};
-ghost use Rattle.command_stores.specs.Pages.{draw_of_round, page_of, title_of};
-ghost use Rattle.command_stores.specs.Steps.{text_or_refusal};
+ghost use Rattle.command_meanings.specs.RoundPages.{draw_of_round, page_of, title_of};
+ghost use Rattle.command_meanings.specs.Steps.{text_or_refusal};
 ghost use Rattle.round_reports.specs.Rounds.{KeepsDraw};
 
 use crate::refusals::refusal_answer;

@@ -1,4 +1,5 @@
-//! One call of `prove` over a store: a proof is made of the pool of an open round, and given to the office.
+//! One call of `prove` over a store: a proof is made of the pool of an open round, and given to the office. Where none is made, the round is
+//! solved.
 
 ghost use Rattle.std.specs.Prelude.{◌≡◌, IfOk, IfSome, Result};
 ghost use Rattle.command_shell.specs.Told.{Bytes, IsUntouched, object, told};
@@ -10,7 +11,6 @@ ghost use Rattle.office_pools.specs.Told.{TellsPool};
 ghost use Rattle.command_stores.specs.ProvedRounds.{
   IsIfAny,
   IsOpenWith,
-  NeedsNoRun,
   ProvesRound,
   TellsOpen,
   is_open as is_open_now,
@@ -20,9 +20,9 @@ ghost use Rattle.command_stores.specs.StoreTold.{keeper_told, store_told};
 
 use crate::calling::{load_at, tell_settled};
 use crate::steps::settle_over;
+use command_pools::lottery_limits;
 use command_proofs::{Made, Prove, proof_within};
 use command_shell::{Answer, Resources, Status};
-use define_runs::{Limits, MOST_BITS};
 use office_core::{Command, Keeper, KeeperStop, PoolStop, Tables, pool_of};
 use office_pools::round_named;
 use outside::{Sink, Watch};
@@ -41,7 +41,7 @@ pub struct ProveRound {
 }
 
 /// Makes one call of `prove` over the store at `path`. If the round is open and has a pool, a proof of the pool is made and given to the
-/// office, or the answer says why none was made. Else the answer is that of a solve.
+/// office. If there is no such pool, or no proof is made, the answer is that of a solve with the limits that it has without words.
 pub fn call_prove_round<R: Threads + Sync, W: Watch + Sync, K: Keeper, O: Sink, E: Sink>(
     resources: &Resources<'_, R, W>,
     proving: ProveRound,
@@ -113,12 +113,12 @@ fn prove_open<R: Threads + Sync, W: Watch + Sync, K: Keeper>(
             let round = proving.round;
             settle_over(resources, tables, &Command::Keep { round, proof }, keeper)
         }
-        Ok(Made::Stopped(answer)) => Ok(answer),
+        Ok(_) => answer_as_solve(resources, proving, tables, keeper),
         Err(_) => Err(KeeperStop::OutOfMemory),
     }
 }
 
-/// Returns the answer of a solve of the round. The solve needs no run, so its limits don't matter.
+/// Solves the round, and returns the answer.
 fn answer_as_solve<R: Threads + Sync, W: Watch + Sync, K: Keeper>(
     resources: &Resources<'_, R, W>,
     proving: ProveRound,
@@ -126,17 +126,13 @@ fn answer_as_solve<R: Threads + Sync, W: Watch + Sync, K: Keeper>(
     keeper: &mut K,
 ) -> Result<Answer, KeeperStop>
     requires loaded { IfSome (K.tables keeper.old) (λ kept. tables.now ≡ kept) }
-    requires no_run { NeedsNoRun tables.now proving.round }
     ensures settles { SettlesLoaded (ProvesRound proving tables.now)
         (keeper_told (object (K.tables keeper.old) (K.tables keeper.new) (K.faults keeper.old) (K.faults keeper.new)) (K.course keeper.old) (K.course keeper.new)) result }
     ensures place { (K.course keeper.new).place ≡ (K.course keeper.old).place }
 {
-    let Some(limits) = Limits::new(MOST_BITS, 0, 0) else {
-        unreachable!()
-    };
     let command = Command::Solve {
         round: proving.round,
-        limits,
+        limits: lottery_limits(),
         workers: 1,
     };
     settle_over(resources, tables, &command, keeper)

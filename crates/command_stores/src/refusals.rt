@@ -5,7 +5,7 @@ ghost use Rattle.command_shell.specs.Answers.{Stops, saying};
 ghost use Rattle.define_lines.specs.Lines.{line_of, text_of};
 ghost use Rattle.define_offices.specs.Lines.{part_name as words_of_part, phase_name as words_of_phase, rule_line};
 ghost use Rattle.office_steps.specs.Replies.{seen_refusal};
-ghost use Rattle.command_stores.specs.Steps.{refused_by};
+ghost use Rattle.command_meanings.specs.Steps.{refused_by};
 
 use command_shell::{Answer, Cause};
 use itoa::Buffer;

@@ -6,7 +6,7 @@ ghost use Rattle.command_shell.specs.Answers.{Prints, status_number, saying};
 ghost use Rattle.office_core.specs.Commands.{HasWorkers, seen_command};
 ghost use Rattle.command_stores.specs.StoreOutcomes.{Settles, SettlesLoaded, SilentStoreOutcome};
 ghost use Rattle.command_stores.specs.StoreTold.{keeper_told, store_told};
-ghost use Rattle.command_stores.specs.Steps.{StepMeans, TellsStop};
+ghost use Rattle.command_meanings.specs.Steps.{StepMeans, TellsStop};
 ghost use Rattle.define_checks.specs.Reasons.{Refusal, Refused};
 ghost use Rattle.define_runs.specs.Run.{Ending};
 ghost use Rattle.command_meanings.specs.Check.{refused_line as words_of_refused};

@@ -9,37 +9,19 @@ ghost use Rattle.define_offices.specs.Commands.{Refusal as SeenRefusal};
 ghost use Rattle.define_offices.specs.Pools.{pool_of as pool_of_round};
 ghost use Rattle.command_stores.specs.StoreOutcomes.{Settles, SilentStoreOutcome};
 ghost use Rattle.command_stores.specs.StoreTold.{keeper_told, store_told};
-ghost use Rattle.command_stores.specs.Steps.{TextMeans, pool_text, refusal_of, refused_by, stored_text, text_or_refusal};
+ghost use Rattle.command_meanings.specs.Steps.{TextMeans, pool_text, refused_by, stored_text, text_or_refusal};
+ghost use Rattle.command_stores.specs.NoTexts.{refusal_of};
 
 use crate::calling::{answer_or_want, load_at, tell_settled};
 use crate::pages::page_answer;
 use crate::refusals::refusal_answer;
+use command_meanings::{RoundText, StoreText};
 use command_shell::{Answer, Printed, Status};
 use office_core::{Keeper, KeeperStop, PoolStop, Refusal, Tables, pool_of};
 use outside::Sink;
 use pool_text::write_pool;
 use round_reports::round_report;
 use std::alloc::{AllocError, Global};
-
-/// A text that is made of the tables of a store. Rounds are named by their numbers, counted from 1.
-#[derive(Clone, Copy, Debug)]
-pub enum StoreText {
-    /// The report of a round.
-    Report {
-        /// The round's number.
-        round: usize,
-    },
-    /// The pool of a round.
-    Pool {
-        /// The round's number.
-        round: usize,
-    },
-    /// The page of a round that is past `Open`.
-    Page {
-        /// The round's number.
-        round: usize,
-    },
-}
 
 /// Makes one call that prints a text made of the tables of the store at `path`.
 pub fn call_text<K: Keeper, O: Sink, E: Sink>(
@@ -76,12 +58,13 @@ fn settle_text<K: Keeper>(
 
 /// Returns the text as an answer, or the refusal if there is no such text.
 fn answer_text(alloc: Global, tables: &Tables, text: StoreText) -> Result<Answer, AllocError>
-    ensures { IfOk result (λ answer. saying answer ≡ text_or_refusal (stored_text text tables.now)) }
+    ensures { IfOk result (λ answer. saying answer ≡ text_or_refusal (stored_text text.text text.round tables.now)) }
 {
-    match text {
-        StoreText::Report { round } => made_answer(alloc, round_report(alloc, tables, round)),
-        StoreText::Pool { round } => made_answer(alloc, round_pool(alloc, tables, round)),
-        StoreText::Page { round } => page_answer(alloc, tables, round),
+    let round = text.round;
+    match text.text {
+        RoundText::Report => made_answer(alloc, round_report(alloc, tables, round)),
+        RoundText::Pool => made_answer(alloc, round_pool(alloc, tables, round)),
+        RoundText::Page => page_answer(alloc, tables, round),
     }
 }
 

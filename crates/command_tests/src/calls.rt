@@ -66,7 +66,15 @@ const ROWS: &[Row] = &[
         b"",
         b"spent\tnodes\t11\t1\t1\t1\n",
     ),
+    (
+        &["lottery", "--share", "--nodes", "11"],
+        APART,
+        5,
+        b"",
+        b"spent\tnodes\t11\t1\t1\t1\n",
+    ),
     (&["lottery"], WOMEN_GONE, 1, b"no panel\n", b""),
+    (&["lottery", "--share"], WOMEN_GONE, 1, b"no panel\n", b""),
     (&["lottery"], COUPLE, 1, b"no panel\n", b""),
     (
         &["lottery", "--nodes", "5"],
@@ -393,6 +401,9 @@ fn lotteries_are_checked(rt: HostRuntime) -> Result<(), AllocError> {
             let told = answer_of(&rt, alloc, &asking(&["lottery", workers], pool))?;
             assert_eq!(rt; told.out.written(), bundle.as_slice());
         }
+        let sharing = ["lottery", "--share", "--workers=7"];
+        let told = answer_of(&rt, alloc, &asking(&sharing, pool))?;
+        assert_eq!(rt; told.out.written(), bundle.as_slice());
         let told = answer_of(&rt, alloc, &asking(&["check"], &bundle))?;
         assert_eq!(rt; told.out.written(), b"valid\n".as_slice());
     }

@@ -117,12 +117,15 @@ const SECOND_PROVED: &[Row] = &[
 
 /// A first round that `prove` answers.
 const PROVED: &[Row] = &[
-    ("prove --store s --pivots 0", "", "5 spent\tpivots\t0\n"),
-    ("prove --store s --nodes 0", "", "5 spent\tnodes\t0\n"),
-    ("show --store s", "", STILL_OPEN),
     ("prove --store s", "", SOLVED),
     ("prove --store s --pivots 0", "", SOLVED),
     ("show --store s", "", PROVED_TOLD),
+];
+
+/// A first round for which `prove` finds no proof: the run of `lottery` answers it.
+const SOLVED_BY_RUN: &[Row] = &[
+    ("prove --store s --pivots 0", "", SOLVED),
+    ("show --store s", "", BUNDLE_TOLD),
 ];
 
 /// A round whose pool has no quota panel stays open.
@@ -140,14 +143,17 @@ const NO_PANEL: &[Row] = &[
     ),
     ("keep --store s", SHORT_PROOF, "1 no panel\n"),
     ("prove --store s", "", "1 no panel\n"),
+    ("prove --store s --nodes 0", "", "1 no panel\n"),
     ("show --store s", "", STILL_OPEN),
 ];
 
 /// Assemblies, each over a store of its own. In the first one both rounds keep given proofs; in the second one `prove` answers the first
-/// round, and in the third one the second round; in the last one the round has no quota panel.
+/// round, in the third one the run of `lottery`, and in the fourth one `prove` answers the second round; in the last one the round has no
+/// quota panel.
 const ASSEMBLIES: &[&[&[Row]]] = &[
     &[FILLED, KEPT, DRAWN, SECOND_KEPT],
     &[FILLED, PROVED],
+    &[FILLED, SOLVED_BY_RUN],
     &[FILLED, KEPT, DRAWN, SECOND_PROVED],
     &[NO_PANEL],
 ];

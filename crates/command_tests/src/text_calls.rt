@@ -2,7 +2,7 @@
 
 use crate::page_texts::{MARKED_BUNDLE, MARKED_PAGE};
 use crate::texts::{
-    COUPLE_PROOF, CROSSED, DOUBLED_PROOF, EITHER_BUNDLE, EITHER_COVER, FIVE_BUNDLE, FOUR,
+    COUPLE, COUPLE_PROOF, CROSSED, DOUBLED_PROOF, EITHER_BUNDLE, EITHER_COVER, FIVE_BUNDLE, FOUR,
     FOUR_BUNDLE, FOUR_BUNDLE_PROVED, FOUR_COVER, FOUR_PROOF, FOUR_PROVED, LATER, MEN_LEFT,
     MORE_BUNDLE, NOBODY, ONE_WOMAN, ONE_WOMAN_BUNDLE, OPEN_COVER, PASSED_CAP, SHORT, SHORT_COVER,
     SHORT_PROVED, STRANGER_BUNDLE, SURE_BUNDLE, TOTAL_OF_THREE, WIDE_BUNDLE, WRONG_COVER,
@@ -395,6 +395,27 @@ const PROOF_ROWS: &[Row] = &[
     (&["why"], FOUR_PROOF, 0, b"a panel exists\na\nc\n", b""),
     (&["why"], FOUR_BUNDLE, 3, b"", b"input\t1\t1\n"),
     (
+        &["why", "--pivots", "1", "--nodes", "1"],
+        SHORT,
+        0,
+        b"the size: at least 2; 3 available, 0 of them seated\nthe size: at most 2; 3 available, 0 of them seated\ngender female: at least 2; 1 available, 0 of them seated\ngender female: at most 2; 1 available, 0 of them seated\ngender male: at least 0; 2 available, 0 of them seated\ngender male: at most 2; 2 available, 0 of them seated\nno panel of whole people meets these together\nperhaps not each of them is needed\n",
+        b"",
+    ),
+    (
+        &["why", "--nodes", "0"],
+        COUPLE,
+        0,
+        b"the size: at least 2; 2 available, 0 of them seated\nthe size: at most 2; 2 available, 0 of them seated\ngender female: at least 0; 1 available, 0 of them seated\ngender female: at most 2; 1 available, 0 of them seated\ngender male: at least 0; 1 available, 0 of them seated\ngender male: at most 2; 1 available, 0 of them seated\nhousehold h: at most 1; 2 available, 0 of them seated\nno panel of whole people meets these together\nperhaps not each of them is needed\n",
+        b"",
+    ),
+    (
+        &["why", "--nodes", "0"],
+        FOUR,
+        0,
+        b"a panel exists\na\nc\n",
+        b"",
+    ),
+    (
         &["loosen"],
         SHORT,
         0,
@@ -417,13 +438,20 @@ const PROOF_ROWS: &[Row] = &[
         b"",
     ),
     (
-        &["loosen-by-proof", "--nodes", "0"],
+        &["loosen-by-proof", "--pivots", "1", "--nodes", "0"],
         SHORT,
-        5,
+        0,
+        b"loosen\t1\nbound\tgender\tfemale\t1\t2\npanel\ta\tb\n",
         b"",
-        b"spent\tnodes\t0\n",
     ),
     (&["loosen-by-proof"], NOBODY, 1, b"no panel\n", b""),
+    (
+        &["loosen-by-proof", "--pivots", "0", "--nodes", "0"],
+        NOBODY,
+        1,
+        b"no panel\n",
+        b"",
+    ),
     (&["page"], COUPLE_PROOF, 6, b"", b"rule\tNoLottery\n"),
     (&["page"], TOTAL_OF_THREE, 3, b"", b"input\t0\t14\n"),
     (
@@ -448,22 +476,38 @@ const PAGE_ROWS: &[Row] = &[(
 const PROVE_ROWS: &[Row] = &[
     (&["prove"], FOUR, 0, FOUR_PROVED, b""),
     (&["prove"], SHORT, 1, SHORT_PROVED, b""),
+    // the run of `lottery` takes over, and its lottery is proved as a bundle
     (
         &["prove", "--pivots", "0"],
         FOUR,
-        5,
+        0,
+        FOUR_BUNDLE_PROVED,
         b"",
-        b"spent\tpivots\t0\n",
     ),
     (
         &["prove", "--nodes", "0"],
         FOUR,
         5,
         b"",
-        b"spent\tnodes\t0\n",
+        b"spent\ttrees\t0\n",
     ),
+    (&["prove", "--nodes", "0"], SHORT, 1, b"no panel\n", b""),
     (&["prove"], FOUR_BUNDLE, 0, FOUR_BUNDLE_PROVED, b""),
-    (&["prove"], PASSED_CAP, 11, b"refused\t1\t11\t20\n", b""),
+    (
+        &["prove", "--pivots", "0", "--nodes", "1"],
+        FOUR_BUNDLE,
+        5,
+        b"",
+        b"spent\ttrees\t1\n",
+    ),
+    (&["prove"], PASSED_CAP, 11, b"refused\t1\t8\t0\t3\n", b""),
+    (
+        &["prove", "--nodes", "0"],
+        PASSED_CAP,
+        11,
+        b"refused\t1\t8\t0\t3\n",
+        b"",
+    ),
     (&["prove"], TOTAL_OF_THREE, 11, b"refused\t0\t3\n", b""),
     (&["prove"], MEN_LEFT, 11, b"refused\t1\t10\t2\n", b""),
     (&["prove"], FOUR_PROOF, 3, b"", b"input\t1\t1\n"),

@@ -1,10 +1,10 @@
 -- An answer that is right for a command is right for an equal command.
 use Rattle.std.proofs.Common.{◌≡◌, ℕ, List, Option, Result, IfOk, subst, sym}
 use Rattle.std.specs.declared.alloc.AllocError.{AllocError}
-use Rattle.command_bundles.specs.ShortDraw.{ShortDrawMeans}
+use Rattle.command_meanings.specs.ShortDraw.{ShortDrawMeans}
 use Rattle.command_meanings.specs.Draw.{DrawMeans}
-use Rattle.command_page.specs.Inputs.{bundle_or_proof_format}
-use Rattle.command_page.specs.Page.{DrawnPageMeans}
+use Rattle.command_shell.specs.BundlesOrProofs.{bundle_or_proof_format}
+use Rattle.command_meanings.specs.Page.{DrawnPageMeans}
 use Rattle.command_shell.specs.Answers.{Saying, saying}
 use Rattle.command_shell.specs.Formats.{bundle_format}
 use Rattle.command_shell.specs.declared.answer.Answer.{Answer}

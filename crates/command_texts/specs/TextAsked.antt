@@ -74,7 +74,6 @@ page_from (Some digits) tickets = drawn_page_from digits tickets
 page_from None tickets = plain_page_from tickets
 
 abbrev pub command_asked : CommandName → Given → Option TextCommand
-command_asked name.Prove given = option_map text.Prove (prove_in given)
 command_asked name.Verify given = Some (text.Verify (record {}))
 command_asked name.Bundle given = Some (text.Bundle (record {}))
 command_asked name.Seal given = Some (text.Seal (record {}))

@@ -1,29 +1,29 @@
 -- Which answers are right for each command that reads one text: the format that its input is read in, and the command's meaning, which says
--- what is right at each of its statuses. The meanings are in `command_meanings/specs`, or in the `specs` of the command's own crate.
+-- what is right at each of its statuses. The meanings are in `command_meanings/specs`.
 use Rattle.std.specs.Prelude.{ℕ, List}
-use Rattle.command_bundles.specs.ShortDraw.{ShortDrawMeans}
-use Rattle.command_covers.specs.CheckCover.{CheckCoverMeans}
+use Rattle.command_meanings.specs.ShortDraw.{ShortDrawMeans}
+use Rattle.command_meanings.specs.CheckCover.{CheckCoverMeans}
 use Rattle.command_covers.specs.CoverFormat.{cover_format}
-use Rattle.command_covers.specs.ItsCover.{CoverMeans}
-use Rattle.command_explain.specs.AnyTexts.{any_format}
-use Rattle.command_explain.specs.Explained.{Explains}
-use Rattle.command_loosen.specs.LoosenByProof.{LoosensWithin}
-use Rattle.command_loosen.specs.Loosening.{LoosenMeans}
+use Rattle.command_meanings.specs.ItsCover.{CoverMeans}
+use Rattle.command_explain.specs.AnyTexts.{any_format, fault_in}
+use Rattle.command_meanings.specs.Explain.{Explains}
+use Rattle.command_meanings.specs.LoosenByProof.{LoosenByProofMeans}
+use Rattle.command_meanings.specs.Loosening.{LoosenMeans}
 use Rattle.command_meanings.specs.Check.{CheckMeans}
 use Rattle.command_meanings.specs.Draw.{DrawMeans}
 use Rattle.command_meanings.specs.ItsBundle.{BundleMeans}
 use Rattle.command_meanings.specs.Panel.{PanelMeans}
-use Rattle.command_meanings.specs.Prove.{ProvesWithin}
 use Rattle.command_meanings.specs.Seal.{SealMeans}
 use Rattle.command_meanings.specs.Verify.{VerifyMeans}
-use Rattle.command_page.specs.Inputs.{bundle_or_proof_format}
-use Rattle.command_page.specs.Page.{DrawnPageMeans, PageMeans}
-use Rattle.command_questions.specs.Questions.{QuestionMeans}
-use Rattle.command_shell.specs.Answers.{IsTheAnswer, RightAnswers, Saying}
-use Rattle.command_shell.specs.Formats.{bundle_format, pool_format, pool_or_bundle_format, proof_format}
+use Rattle.command_shell.specs.BundlesOrProofs.{bundle_or_proof_format}
+use Rattle.command_meanings.specs.Page.{DrawnPageMeans, PageMeans}
+use Rattle.command_meanings.specs.Question.{QuestionMeans}
+use Rattle.command_questions.specs.Questions.{question_text}
+use Rattle.command_shell.specs.Answers.{IsRight, IsTheAnswer, RightAnswers, Saying}
+use Rattle.command_shell.specs.Formats.{bundle_format, pool_format, proof_format}
 use Rattle.command_shell.specs.Subjects.{About, Format}
 use Rattle.command_why.specs.PoolsAndProofs.{pool_in, pool_or_proof_format}
-use Rattle.command_why.specs.Why.{ExplainsWithin}
+use Rattle.command_meanings.specs.Why.{WhyMeans}
 use Rattle.command_texts.specs.declared.commands.TextCommand.{TextCommand}
 use Rattle.command_texts.specs.declared.commands.TextCommand.TheVariants as text
 
@@ -33,14 +33,12 @@ OneAnswer format Means = About format (λ value. IsTheAnswer (Means value))
 
 -- the right answers of a command about the bytes of its input
 abbrev pub TextMeans : TextCommand → List ℕ → Saying → Type 0
--- the run that makes a proof has no definition, so nothing says which of the statuses 0, 1, 4, 5 and 11 comes
-TextMeans (text.Prove it) = About pool_or_bundle_format (ProvesWithin it.pivots it.nodes)
--- the search of `why` has no definition either: nothing says which of the pool's conflicts is told, nor which of the statuses 0, 4 and 5
--- comes
-TextMeans (text.Why it) = About pool_or_proof_format (λ about. ExplainsWithin it.pivots it.nodes (pool_in about))
-TextMeans (text.LoosenByProof it) = About pool_format (LoosensWithin it.pivots it.nodes)
+-- the engines of `why` and `loosen-by-proof` have no definition: nothing says which of a pool's conflicts or least loosenings is told, nor
+-- how an engine spends the budget of the words
+TextMeans (text.Why it) = About pool_or_proof_format (λ about. IsRight (WhyMeans (pool_in about)))
+TextMeans (text.LoosenByProof it) = About pool_format (λ pool. IsRight (LoosenByProofMeans pool))
 -- `explain` reads any bytes. What its words are isn't defined, only which status comes, and the first line of the words at status 3
-TextMeans (text.Explain it) = About any_format Explains
+TextMeans (text.Explain it) = About any_format (λ text. Explains (fault_in text))
 TextMeans (text.Verify it) = OneAnswer proof_format VerifyMeans
 TextMeans (text.Bundle it) = OneAnswer proof_format BundleMeans
 TextMeans (text.Seal it) = OneAnswer bundle_format SealMeans
@@ -54,4 +52,4 @@ TextMeans (text.Check it) = OneAnswer bundle_format (CheckMeans it.nodes)
 TextMeans (text.Cover it) = OneAnswer bundle_format (CoverMeans it.nodes)
 TextMeans (text.CheckCover it) = OneAnswer cover_format CheckCoverMeans
 -- all questions about a bundle
-TextMeans (text.Question it) = OneAnswer bundle_format (QuestionMeans it)
+TextMeans (text.Question it) = OneAnswer bundle_format (QuestionMeans (question_text it))

@@ -33,7 +33,6 @@ pub fn answer_text(
     ensures { IfOk result (λ answer. TextMeans command.now bytes.now (saying answer)) }
 {
     match command {
-        TextCommand::Prove(prove) => answer_about(alloc, prove, bytes),
         TextCommand::Verify(verify) => answer_about(alloc, verify, bytes),
         TextCommand::Bundle(bundle) => answer_about(alloc, bundle, bytes),
         TextCommand::Seal(seal) => answer_about(alloc, seal, bytes),

@@ -34,7 +34,6 @@ pub fn text_asked<'a>(given: &Given<'a>) -> Option<TextCommand<'a>>
     ensures { result ≡ words_of_text given.now }
 {
     match given.command() {
-        CommandName::Prove => Some(TextCommand::Prove(prove_in(given)?)),
         CommandName::Verify => Some(TextCommand::Verify(Verify)),
         CommandName::Bundle => Some(TextCommand::Bundle(ItsBundle)),
         CommandName::Seal => Some(TextCommand::Seal(Seal)),

@@ -6,7 +6,7 @@ use command_explain::Explain;
 use command_loosen::{Loosen, LoosenByProof};
 use command_page::Page;
 use command_pools::FirstPanel;
-use command_proofs::{ItsBundle, Prove, Verify};
+use command_proofs::{ItsBundle, Verify};
 use command_questions::Question;
 use command_why::Why;
 use command_words::Word;
@@ -15,8 +15,6 @@ use short_draws::TicketCount;
 /// A command that reads one text. Texts among its arguments are borrowed from the words.
 #[derive(Debug, Drop)]
 pub enum TextCommand<'a> {
-    /// The lottery of a pool or of a bundle, with a proof.
-    Prove(Prove),
     /// The verdict on a proof.
     Verify(Verify),
     /// The bundle of a proof.

@@ -1,2 +1,1 @@
 pub mod PoolsAndProofs
-pub mod Why

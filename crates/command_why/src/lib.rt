@@ -1,16 +1,14 @@
 //! The command `why`, which reads a pool, or a proof over one: it says in words which quotas can't be met together, so that the pool has no
-//! quota panel; or else it prints a quota panel. Stands on `quota_conflicts`, which finds and checks conflicts, on the readers of texts,
-//! and on the shell.
+//! quota panel; or else it prints a quota panel. Stands on `quota_conflicts`, whose engine finds and checks conflicts, on `command_pools`
+//! for the search of `panel`, which decides if the engine has no answer, on the readers of texts, and on the shell.
 //!
-//! Promises: `Why` answers about the pool as `specs/Why.antt` says. Which of several conflicts is found is no promise, nor whether one is
-//! found within the budget. A proof isn't verified: its tree is where the search begins. `stopped` has the answers for a search that stops.
+//! Promises: `Why` answers about the pool as Why of `command_meanings` says: it has no answer only where the search of `panel` is spent, and
+//! `why_answers_where_panel_does` is the law that follows. Which of several conflicts is found is no promise. A proof isn't verified: its tree is where the engine begins.
 #![tactic(auto)]
 
 mod about;
 mod panels;
-mod stops;
 mod why;
 
 pub use about::PoolOrProof;
-pub use stops::stopped;
-pub use why::Why;
+pub use why::{Why, why_answers_where_panel_does};

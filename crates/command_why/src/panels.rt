@@ -1,7 +1,7 @@
 //! The text of a panel: a line that there is one, and its members' ids.
 
 ghost use Rattle.std.specs.Prelude.{◌≡◌, ◌++◌, IfOk, OnOk};
-ghost use Rattle.command_why.specs.Why.{id_line, panel_text as words_of_panel};
+ghost use Rattle.command_meanings.specs.Why.{id_line, panel_text as words_of_panel};
 
 use pool_model::{Panel, Pool};
 use std::alloc::{AllocError, Global};

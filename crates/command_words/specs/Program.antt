@@ -2,6 +2,8 @@
 use Rattle.std.specs.Prelude.{Bool, true, false, List, [], ◌∷◌, Some, codes, fold, map}
 use Rattle.clap.specs.Words.{App, Rule, new_app, new_rule, with_subcommand}
 use Rattle.clap.specs.Simple.{new_shape, on_top}
+use Rattle.clap.specs.declared.builder.action.ArgAction.{ArgAction}
+use Rattle.clap.specs.declared.builder.action.ArgAction.TheVariants.{Set, SetTrue}
 use Rattle.clap.specs.declared.builder.value_parser.ValueParser.{ValueParser}
 use Rattle.clap.specs.declared.builder.value_parser.ValueParser.TheVariants as parser
 use Rattle.command_words.specs.declared.words.Form.{Form}
@@ -14,6 +16,13 @@ use Rattle.command_words.specs.Table.{CommandEntry, OptionEntry, Text}
 abbrev pub form_parser : Form → ValueParser
 form_parser (form.Number least most) = parser.Unsigned least most
 form_parser form.Text = parser.String
+form_parser form.Flag = parser.Bool
+
+-- what `clap` does at an option of this form: it keeps the value, or, at a flag, the text `true`
+abbrev pub form_action : Form → ArgAction
+form_action (form.Number least most) = Set
+form_action form.Text = Set
+form_action form.Flag = SetTrue
 
 abbrev pub default_texts : Missing Text → List Text
 default_texts missing.Refused = []
@@ -29,6 +38,7 @@ is_required (missing.Default text) = false
 abbrev pub option_rule : OptionEntry → Rule
 option_rule option = record (new_rule option.name) {
   long = Some option.name;
+  action = Some (form_action option.form);
   parser = Some (form_parser option.form);
   defaults = default_texts option.missing;
   required = is_required option.missing;

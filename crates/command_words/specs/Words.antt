@@ -1,7 +1,7 @@
 -- The command and the values that the words of a call ask for. `clap`'s definitions say how words are parsed; this file says what the
 -- parsed words mean by a table of commands. Builds on Given, Program and Table. The contract of `read_words` cites it, and so do the
 -- definitions of what words ask for.
-use Rattle.std.specs.Prelude.{◌≡◌, ◌≢◌, ◌^◌, ◌&&◌, ℕ, Bool, true, false, List, [], ◌∷◌, Option, Some, None, Result, Ok, Err, length, if◌then◌else◌, find, is_none, nat_le, nat_lt, option_and_then, option_map, ⊤}
+use Rattle.std.specs.Prelude.{◌≡◌, ◌≢◌, ◌^◌, ◌&&◌, ℕ, Bool, true, false, List, [], ◌∷◌, Option, Some, None, Result, Ok, Err, codes, length, if◌then◌else◌, find, is_none, nat_le, nat_lt, option_and_then, option_map, ⊤}
 use Rattle.std.specs.List.{list_all}
 use Rattle.std.specs.Char.{digit_value}
 use Rattle.std.specs.Str.{bytes_eq}
@@ -47,6 +47,8 @@ number_within name least most rows = option_and_then (within least most) (number
 abbrev pub form_value : Form → Text → List Row → Option Value
 form_value (form.Number least most) name rows = option_map value.Number (number_within name least most rows)
 form_value form.Text name rows = option_map value.Text (first_of name rows)
+-- `clap` gives each flag a text: `true` if it is given, else `false`
+form_value form.Flag name rows = option_map (λ text. value.Flag (bytes_eq text (codes "true"))) (first_of name rows)
 
 abbrev pub option_value : List Row → OptionEntry → Option Value
 option_value rows option = form_value option.form option.name rows

@@ -1,9 +1,9 @@
 -- What some lists of words give. The table of commands is code, so these laws fix what the program's users rely on: each command's name,
 -- its defaults, and the ends of its ranges. Proved by computing, in src/worked.rt.
-use Rattle.std.specs.Prelude.{◌≡◌, ℕ, List, [], ◌∷◌, None, Some, codes}
+use Rattle.std.specs.Prelude.{◌≡◌, ℕ, Bool, true, false, List, [], ◌∷◌, None, Some, codes}
 use Rattle.command_words.specs.Words.{given_in}
 use Rattle.command_words.specs.declared.given.Value.{Value}
-use Rattle.command_words.specs.declared.given.Value.TheVariants.{Number, Text}
+use Rattle.command_words.specs.declared.given.Value.TheVariants.{Flag, Number, Text}
 use Rattle.command_words.specs.declared.words.CommandName.{CommandName}
 use Rattle.command_words.specs.declared.words.CommandName.TheVariants as name
 
@@ -20,6 +20,9 @@ number name value = (name, Number value)
 
 abbrev pub text : List ℕ → List ℕ → List ℕ × Value
 text name value = (name, Text value)
+
+abbrev pub flag : List ℕ → Bool → List ℕ × Value
+flag name given = (name, Flag given)
 
 -- `prove` has a budget of up to 10 ^ 9 pivots and 10 ^ 12 nodes. `store` may be absent, and rounds are from 0 to 1000, round 1 if none is
 -- given
@@ -111,14 +114,19 @@ pub record SearchesGive : Type 0 where
   pub check_most : Give (codes "check" ∷ codes "--nodes" ∷ codes "1000000000000" ∷ []) name.Check (number (codes "nodes") 1000000000000 ∷ [])
   pub check_more : GiveNothing (codes "check" ∷ codes "--nodes" ∷ codes "1000000000001" ∷ [])
 
--- `lottery` has a width of 1 to 127 bits, a budget of up to 10 ^ 9 pivots and 10 ^ 12 visits, and from 1 to 64 workers
+-- `lottery` has a width of 1 to 127 bits, a budget of up to 10 ^ 9 pivots and 10 ^ 12 visits, and from 1 to 64 workers. Its flag `share` is
+-- given or not
 pub record LotteryGives : Type 0 where
   pub defaults : Give (codes "lottery" ∷ []) name.Lottery
-      (number (codes "bits") 127 ∷ number (codes "pivots") 100000 ∷ number (codes "nodes") 50000000 ∷ number (codes "workers") 1 ∷ [])
+      (number (codes "bits") 127 ∷ number (codes "pivots") 100000 ∷ number (codes "nodes") 50000000 ∷ number (codes "workers") 1 ∷ flag (codes "share") false ∷ [])
   pub least : Give (codes "lottery" ∷ codes "--bits" ∷ codes "1" ∷ codes "--pivots" ∷ codes "0" ∷ codes "--nodes" ∷ codes "0" ∷ []) name.Lottery
-      (number (codes "bits") 1 ∷ number (codes "pivots") 0 ∷ number (codes "nodes") 0 ∷ number (codes "workers") 1 ∷ [])
+      (number (codes "bits") 1 ∷ number (codes "pivots") 0 ∷ number (codes "nodes") 0 ∷ number (codes "workers") 1 ∷ flag (codes "share") false ∷ [])
   pub most : Give (codes "lottery" ∷ codes "--pivots" ∷ codes "1000000000" ∷ codes "--nodes" ∷ codes "1000000000000" ∷ codes "--workers" ∷ codes "64" ∷ []) name.Lottery
-      (number (codes "bits") 127 ∷ number (codes "pivots") 1000000000 ∷ number (codes "nodes") 1000000000000 ∷ number (codes "workers") 64 ∷ [])
+      (number (codes "bits") 127 ∷ number (codes "pivots") 1000000000 ∷ number (codes "nodes") 1000000000000 ∷ number (codes "workers") 64 ∷ flag (codes "share") false ∷ [])
+  pub share : Give (codes "lottery" ∷ codes "--share" ∷ codes "--workers" ∷ codes "7" ∷ []) name.Lottery
+      (number (codes "bits") 127 ∷ number (codes "pivots") 100000 ∷ number (codes "nodes") 50000000 ∷ number (codes "workers") 7 ∷ flag (codes "share") true ∷ [])
+  pub share_twice : GiveNothing (codes "lottery" ∷ codes "--share" ∷ codes "--share" ∷ [])
+  pub share_value : GiveNothing (codes "lottery" ∷ codes "--share" ∷ codes "true" ∷ [])
   pub no_bits : GiveNothing (codes "lottery" ∷ codes "--bits" ∷ codes "0" ∷ [])
   pub more_bits : GiveNothing (codes "lottery" ∷ codes "--bits" ∷ codes "128" ∷ [])
   pub more_pivots : GiveNothing (codes "lottery" ∷ codes "--pivots" ∷ codes "1000000001" ∷ [])
@@ -156,6 +164,7 @@ pub record MakeGives : Type 0 where
   pub nobody : GiveNothing (codes "make" ∷ codes "--seed" ∷ codes "0" ∷ codes "--volunteers" ∷ codes "0" ∷ [])
   pub too_many : GiveNothing (codes "make" ∷ codes "--seed" ∷ codes "0" ∷ codes "--volunteers" ∷ codes "401" ∷ [])
   pub more_bits : GiveNothing (codes "make" ∷ codes "--seed" ∷ codes "0" ∷ codes "--volunteers" ∷ codes "1" ∷ codes "--bits" ∷ codes "128" ∷ [])
+  pub share : GiveNothing (codes "make" ∷ codes "--seed" ∷ codes "0" ∷ codes "--volunteers" ∷ codes "1" ∷ codes "--share" ∷ [])
 
 -- a command over a round of a store, with further words and their values: the store is required, and rounds are from 0 to 1000, round 1 if
 -- none is given

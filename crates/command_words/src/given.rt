@@ -2,7 +2,7 @@
 
 ghost use Rattle.std.specs.Prelude.{◌≡◌, find, map, option_map};
 ghost use Rattle.std.specs.Str.{bytes_eq};
-ghost use Rattle.command_words.specs.Given.{named, number_of, text_of, value_at};
+ghost use Rattle.command_words.specs.Given.{flag_of, named, number_of, text_of, value_at};
 
 use crate::words::CommandName;
 use std::marker::Model;
@@ -44,6 +44,8 @@ pub enum Value<'a> {
     Number(u64),
     /// A text.
     Text(Word<'a>),
+    /// Whether a flag is given.
+    Flag(bool),
 }
 
 /// The name of an option, with its value.
@@ -84,7 +86,7 @@ impl<'a> Given<'a> {
         self.command
     }
 
-    /// Returns the number that the option `name` has, or None if there is no such option, it is absent, or its value is a text.
+    /// Returns the number that the option `name` has, or None if there is no such option, it is absent, or its value is no number.
     pub fn number(&self, name: &str) -> Option<u64>
         ensures { result ≡ number_of name.now self.now }
     {
@@ -94,7 +96,17 @@ impl<'a> Given<'a> {
         }
     }
 
-    /// Returns the text that the option `name` has, or None if there is no such option, it is absent, or its value is a number.
+    /// True if the flag `name` is given. False if there is no such flag.
+    pub fn flag(&self, name: &str) -> bool
+        ensures { result ≡ flag_of name.now self.now }
+    {
+        match value_named(&self.values, name) {
+            Some(Value::Flag(given)) => *given,
+            _ => false,
+        }
+    }
+
+    /// Returns the text that the option `name` has, or None if there is no such option, it is absent, or its value is no text.
     pub fn text(&self, name: &str) -> Option<Word<'a>>
         ensures { result ≡ text_of name.now self.now }
     {

@@ -6,6 +6,7 @@ ghost use Rattle.clap.specs.declared.builder.command.Command.TheViews.{out-Comma
 ghost use Rattle.command_words.specs.Table.{command_entry, option_entry};
 ghost use Rattle.command_words.specs.Program.{
   command_app,
+  form_action,
   form_parser,
   option_rule,
   program_alone as words_of_program_alone,
@@ -15,7 +16,7 @@ ghost use Rattle.command_words.specs.Program.{
 use crate::help::HELP;
 use crate::words::{Form, Missing, TableCommand, TableOption};
 use clap::builder::ValueParser;
-use clap::{Arg, Command};
+use clap::{Arg, ArgAction, Command};
 use std::alloc::{AllocError, Global};
 
 /// Returns the program with a subcommand for each command.
@@ -70,6 +71,7 @@ fn option_of<'a>(alloc: Global, words: &TableOption) -> Arg<'a>
     let option = Arg::new(alloc, words.name)
         .long(words.name)
         .help(words.help)
+        .action(action_of(words.form))
         .value_parser(parser_of(words.form));
     match words.missing {
         Missing::Refused => option.required(true),
@@ -84,5 +86,15 @@ fn parser_of<'a>(form: Form) -> ValueParser<'a>
     match form {
         Form::Number { least, most } => ValueParser::unsigned(least, most),
         Form::Text => ValueParser::string(),
+        Form::Flag => ValueParser::bool(),
+    }
+}
+
+fn action_of(form: Form) -> ArgAction
+    ensures { result ≡ form_action form }
+{
+    match form {
+        Form::Number { .. } | Form::Text => ArgAction::Set,
+        Form::Flag => ArgAction::SetTrue,
     }
 }

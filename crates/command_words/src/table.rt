@@ -334,7 +334,7 @@ const RUN_COMMANDS: &[TableCommand] = &[
         name: "lottery",
         help: "Prints the lottery over the quota panels of the pool on standard input, with its certificate",
         example: "Example: sortition lottery < city.pool > city.bundle",
-        options: &[BITS, PIVOTS, NODES, WORKERS],
+        options: &[BITS, PIVOTS, NODES, WORKERS, SHARE],
     },
     CommandWords {
         command: CommandName::Legs,
@@ -517,4 +517,11 @@ const WORKERS: TableOption = OptionWords {
     help: "How many workers price, on threads, 1 to 64",
     form: Form::Number { least: 1, most: 64 },
     missing: Missing::Default("1"),
+};
+
+const SHARE: TableOption = OptionWords {
+    name: "share",
+    help: "Lets the workers share what they have found, which may save visits",
+    form: Form::Flag,
+    missing: Missing::Absent,
 };

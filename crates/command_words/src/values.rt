@@ -121,6 +121,10 @@ fn value_of<'a>(option: &TableOption, matches: &ArgMatches<'a>) -> Option<Value<
             let text = text_at(matches, option.name)?;
             Some(Value::Text(text))
         }
+        Form::Flag => {
+            let text = text_at(matches, option.name)?;
+            Some(Value::Flag(text.as_str() == "true"))
+        }
     }
 }
 

@@ -83,6 +83,8 @@ pub enum Form {
     },
     /// Any text.
     Text,
+    /// No value: the option is a flag, which is given or not.
+    Flag,
 }
 
 /// What it means that an option isn't given.

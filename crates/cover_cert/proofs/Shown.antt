@@ -16,7 +16,7 @@ use Rattle.define_covers.specs.CoversHold.{TreesCover}
 use Rattle.define_proofs.specs.CapsHold.{CapsHold}
 use Rattle.laws_of_covers.proofs.Made.{trees_cover_where_searched}
 use Rattle.laws_of_covers.proofs.Verdicts.{caps_are_left, certified_where_valid, greatest_where_valid, valid_where_checked}
-use Rattle.cover_cert.specs.Covering.{IsMadeOf}
+use Rattle.laws_of_covers.specs.Made.{IsMadeOf}
 
 module _ (cover : Cover) (ranges : IsInRanges cover.bundle.pool cover.bundle.answer) where
   pub certified : (result : Result Verdict AllocError) → IfOk result (λ said. said ≡ verdict cover) → IfOk result (λ said. said ≡ Valid → Certifies cover.bundle.pool cover.bundle.answer.lottery cover.bundle.answer.stages)

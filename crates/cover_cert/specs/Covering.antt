@@ -1,10 +1,8 @@
--- The answer of `cover`. Builds on Visits of `define_checks` and on Made of `laws_of_covers`. The promise of `cover` cites it.
-use Rattle.std.specs.Prelude.{◌≡◌, ℕ, [], Result, Ok, Err}
-use Rattle.define_bundles.specs.BundleText.{Bundle}
+-- The answer of `cover`. Builds on Visits of `define_checks`. The promise of `cover` cites it.
+use Rattle.std.specs.Prelude.{◌≡◌, ℕ, Result, Ok, Err}
 use Rattle.define_checks.specs.Reasons.{Refusal, Valid, Verdict}
 use Rattle.define_checks.specs.Reasons as check
 use Rattle.define_covers.specs.Covers as covers
-use Rattle.laws_of_covers.specs.Made.{TreesSearched}
 use Rattle.cert_check.specs.declared.stops.CheckStop.{CheckStop}
 use Rattle.cert_check.specs.declared.stops.CheckStop.TheVariants.{NodesSpent, OutOfMemory}
 use Rattle.cover_cert.specs.declared.making.Covered.{Covered}
@@ -27,8 +25,3 @@ AnswersCheck wanted (Err OutOfMemory) = Unit {0}
 abbrev pub IfCover : Covered → (covers.Cover → Type 0) → Type 0
 IfCover (Cover cover) holds = holds cover
 IfCover (Refused stage reason who) holds = Unit {0}
-
--- the cover is of this bundle, and its trees have the lines of a check's searches
-pub record IsMadeOf (bundle : Bundle) (cover : covers.Cover) : Type 0 where
-  pub same : cover.bundle ≡ bundle
-  pub searched : TreesSearched bundle.pool [] bundle.answer.stages cover.trees

@@ -4,7 +4,8 @@
 ghost use Rattle.std.specs.Prelude.{◌≡◌, [], IfOk, IsTrue, length, reverse};
 ghost use Rattle.std.specs.List.{list_all};
 ghost use Rattle.check_search.specs.Terms.{AreTerms};
-ghost use Rattle.cover_cert.specs.Covering.{AnswersCheck, IfCover, IsMadeOf, refuses};
+ghost use Rattle.cover_cert.specs.Covering.{AnswersCheck, IfCover, refuses};
+ghost use Rattle.laws_of_covers.specs.Made.{IsMadeOf};
 ghost use Rattle.define_bundles.specs.Ranges.{is_stage};
 ghost use Rattle.define_checks.specs.Caps.{first_above};
 ghost use Rattle.define_checks.specs.Reasons.{Valid};

@@ -1,9 +1,9 @@
 -- Quotas that ask for more than can be given are missed by each selection.
-use Rattle.std.proofs.Common.{◌≡◌, ℕ, zero, suc, ◌+◌, ◌-◌, ◌*◌, ◌≤◌, ◌<◌, Bool, true, false, cond, ◌&&◌, leb, ltb, List, [], ◌∷◌, map, length, refl, sym, ap, ap₂, ◌∙◌, subst, arith, ⊎_elim}
-use Rattle.std.specs.Prelude.{count_by, sum_by}
-use Rattle.std.specs.List.{AllByRecursion, enumerate_from, list_all, range_with_len}
+use Rattle.std.proofs.Common.{◌≡◌, ℕ, ◌+◌, ◌-◌, ◌*◌, ◌≤◌, ◌<◌, Bool, true, false, cond, ◌&&◌, leb, ltb, List, [], ◌∷◌, length, refl, sym, ap, ◌∙◌, arith, ⊎_elim}
+use Rattle.std.specs.Prelude.{count_by}
+use Rattle.std.specs.List.{enumerate_from, list_all, range_with_len}
 use Rattle.std.proofs.lemmas.Bool.{and_parts, cases_lt, leb-true}
-use Rattle.std.proofs.Math.Nat.{mul-le-mul_left, mul-le-mul_right}
+use Rattle.std.proofs.Math.Nat.{mul-le-mul_left}
 use Rattle.define_pools.proofs.Each.{each_everywhere, each_from_list_all, each_map}
 use Rattle.define_pools.proofs.Sums.{count_by-total, one_if, sum_by-is-total, total, total-add, total-scaled, total-zero, total_ext, total_le}
 use Rattle.define_pools.specs.declared.Standing.{Standing}
@@ -11,7 +11,6 @@ use Rattle.define_pools.specs.declared.Standing.TheVariants.{Open, Seated, Gone}
 use Rattle.define_pools.specs.Lists.{includes, is_increasing}
 use Rattle.define_pools.specs.Pool.{Pool, allows}
 use Rattle.define_pools.proofs.Weights.{total_panel}
-use Rattle.define_conflicts.specs.declared.Quota.{Quota}
 use Rattle.define_conflicts.specs.declared.Side.{Side}
 use Rattle.define_conflicts.specs.declared.Side.TheVariants.{AtLeast, AtMost}
 use Rattle.define_conflicts.specs.declared.WeightedQuota.{WeightedQuota}

@@ -1,3 +1,5 @@
 pub mod Asking
 pub mod Splits
 pub mod NoPanel
+pub mod AllTogether
+pub mod Listed

@@ -1,8 +1,8 @@
 -- If each selection misses some quotas, the pool with only these quotas has no quota panel, and neither has the pool: a quota panel of
 -- either is a selection that meets them.
-use Rattle.std.proofs.Common.{◌≡◌, ℕ, zero, suc, ◌+◌, ◌-◌, ◌≤◌, ◌<◌, Bool, true, false, cond, ◌&&◌, ◌||◌, eqb, leb, ltb, List, [], ◌∷◌, map, length, get_or, count_by, Option, None, refl, sym, ap, ◌∙◌, subst, arith, ◌⊎◌, inl, inr, ⊎_elim}
+use Rattle.std.proofs.Common.{◌≡◌, ℕ, zero, suc, ◌+◌, ◌≤◌, ◌<◌, Bool, true, false, cond, ◌&&◌, ◌||◌, eqb, leb, ltb, List, [], ◌∷◌, map, length, get_or, count_by, None, refl, sym, ap, ◌∙◌, subst, arith, ◌⊎◌, inl, inr, ⊎_elim}
 use Rattle.std.specs.Prelude.{slice_index}
-use Rattle.std.specs.List.{AllByRecursion, enumerate_from, list_all, list_any}
+use Rattle.std.specs.List.{AllByRecursion, enumerate_from, list_all}
 use Rattle.std.proofs.lemmas.Bool.{and_from, and_parts, eq-eqb, false_from_ne_true, leb-true, ltb-true}
 use Rattle.std.proofs.lemmas.List.{length-map}
 use Rattle.define_pools.proofs.Each.{each_both, each_everywhere, each_from_list_all, each_map, enumerated-each, none_pass}
@@ -21,7 +21,7 @@ use Rattle.define_conflicts.specs.declared.Side.{Side}
 use Rattle.define_conflicts.specs.declared.Side.TheVariants.{AtLeast, AtMost}
 use Rattle.define_conflicts.specs.LeastMisses.{is_side}
 use Rattle.define_conflicts.specs.OnlyQuotas.{has_household, has_value, is_in_household, is_of_value, only, only_category, only_value, only_volunteer}
-use Rattle.define_conflicts.specs.Quotas.{MissBy, bound, bound_of, category_at, counts, is_counted_of, is_quota_of, is_selection, keeps, miss, missed, misses, value_at, value_in}
+use Rattle.define_conflicts.specs.Quotas.{MissBy, bound_of, category_at, counts, is_counted_of, is_quota_of, is_selection, keeps, miss, missed, misses, value_at}
 
 -- ---- numbers of elements that pass a test
 

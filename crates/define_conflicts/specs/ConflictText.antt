@@ -1,7 +1,7 @@
 -- A conflict in words. Each quota has a line: whom it counts, its bound, how many of those are available, and how many of these are seated.
 -- The last two lines say by how many people the quotas are missed, and whether each is needed. Builds on Quotas. `quota_conflicts` writes
 -- it, and the meaning of `why` cites it.
-use Rattle.std.specs.Prelude.{ℕ, if◌then◌else◌, Bool, true, false, not, ◌&&◌, List, [], ◌∷◌, ◌++◌, count_by, codes, Option, Some, None, unwrap_or}
+use Rattle.std.specs.Prelude.{ℕ, Bool, true, false, ◌&&◌, List, [], ◌∷◌, ◌++◌, count_by, codes, Option, Some, None, unwrap_or}
 use Rattle.std.specs.Fmt.{decimal}
 use Rattle.std.specs.List.{flat_map}
 use Rattle.define_pools.specs.declared.Standing.{Standing}

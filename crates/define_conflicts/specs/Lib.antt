@@ -4,3 +4,4 @@ pub mod OnlyQuotas
 pub mod Conflicts
 pub mod ConflictText
 pub mod WorkedConflicts
+pub mod AllQuotas

@@ -1,7 +1,7 @@
 -- A pool with only some of its quotas. A bound of a value that isn't among these quotas becomes 0 or 999, which no panel breaks; a
 -- volunteer loses a household that none of these quotas counts. Builds on LeastMisses. `conflict_leaves_no_panel` says that this pool has
 -- no quota panel if each selection misses the quotas.
-use Rattle.std.specs.Prelude.{ℕ, ◌==◌, if◌then◌else◌, Bool, true, false, ◌&&◌, List, map, None}
+use Rattle.std.specs.Prelude.{ℕ, ◌==◌, if◌then◌else◌, Bool, false, ◌&&◌, List, map, None}
 use Rattle.std.specs.List.{enumerate_from, list_any}
 use Rattle.define_pools.specs.Pool.{BoundedValue, Category, Pool, Volunteer, share_household}
 use Rattle.define_conflicts.specs.declared.Counted.{Counted}

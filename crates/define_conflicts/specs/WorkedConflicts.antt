@@ -1,6 +1,5 @@
 -- A small conflict on which the definitions compute: two seats for a woman and a man of one household.
 use Rattle.std.specs.Prelude.{ℕ, List, [], ◌∷◌, ◌++◌, true, codes, Some}
-use Rattle.define_conflicts.specs.declared.Counted.{Counted}
 use Rattle.define_conflicts.specs.declared.Counted.TheVariants.{Everybody, OfHousehold}
 use Rattle.define_conflicts.specs.declared.Side.TheVariants.{AtLeast, AtMost}
 use Rattle.define_conflicts.specs.declared.WeightedQuota.{WeightedQuota}

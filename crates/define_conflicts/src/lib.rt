@@ -13,6 +13,8 @@ ghost use Rattle.define_pools.specs.declared.Standing.TheVariants.{Gone, Seated}
 ghost use Rattle.define_pools.specs.Pool.{Pool, panels};
 ghost use Rattle.define_pools.specs.WorkedExamples.{couple};
 ghost use Rattle.define_proofs.specs.Leaves.{standings};
+ghost use Rattle.define_conflicts.specs.AllQuotas.{all_together};
+ghost use Rattle.define_conflicts.specs.Conflicts.{IsConflict};
 ghost use Rattle.define_conflicts.specs.ConflictText.{conflict_text};
 ghost use Rattle.define_conflicts.specs.LeastMisses.{asked, given, quotas_of};
 ghost use Rattle.define_conflicts.specs.OnlyQuotas.{only};
@@ -60,6 +62,11 @@ pub fn conflict_leaves_no_panel()
         panels (only pool quotas) ≡ [] }
     ensures whole { (pool : Pool) (quotas : List Quota) (least : ℕ) → IsTrue (list_all (is_quota_of pool) quotas) → MissBy pool quotas least → 1 ≤ least →
         panels pool ≡ [] }
+{}
+
+/// If a pool has no quota panel, all its quotas together are a conflict.
+pub fn all_quotas_conflict()
+    ensures { (pool : Pool) → panels pool ≡ [] → IsConflict pool (all_together pool) }
 {}
 
 /// Take selections that keep the standings `all`, and quotas with weights of at most `greatest`. If the quotas ask for more than can be

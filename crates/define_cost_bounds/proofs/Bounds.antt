@@ -26,7 +26,8 @@ use Rattle.define_loosenings.specs.Loosenings.{IsLeast, Loosening, loosening_for
 use Rattle.define_loosenings.specs.Teams.{is_team, loosened, team_cost}
 use Rattle.define_loosenings.proofs.Least.{has_panels, least_is}
 use Rattle.define_loosenings.proofs.MovedBounds.{loosened_fits}
-use Rattle.define_cost_bounds.specs.CostBounds.{CostsAt, IsAtLeast, is_met_by_teams, value_quotas}
+use Rattle.define_conflicts.specs.AllQuotas.{value_quotas}
+use Rattle.define_cost_bounds.specs.CostBounds.{CostsAt, IsAtLeast, is_met_by_teams}
 use Rattle.define_cost_bounds.proofs.Costs.{misses_are_cost, total-append}
 
 -- ---- quotas that each team meets

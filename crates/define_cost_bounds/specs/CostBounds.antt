@@ -1,28 +1,12 @@
--- What each team costs at least, and the quotas whose misses sum to a team's cost. Builds on the teams of `define_loosenings` and the
--- quotas of `define_conflicts`. `loosening_by_proof` shows by it that a loosening is least.
-use Rattle.std.specs.Prelude.{ℕ, ◌≤◌, Bool, true, false, IsTrue, List, [], ◌∷◌, Option, Some, None}
-use Rattle.std.specs.List.{enumerate_from, flat_map}
+-- What each team costs at least. A team costs the number of people by which it misses the quotas of all values (`value_quotas` of
+-- `define_conflicts`) in all. Builds on the teams of `define_loosenings` and the quotas of `define_conflicts`. `loosening_by_proof` shows by it that a loosening is least.
+use Rattle.std.specs.Prelude.{ℕ, ◌≤◌, Bool, true, false, IsTrue, List, Option, Some, None}
 use Rattle.define_pools.specs.declared.Standing.{Standing}
-use Rattle.define_pools.specs.Pool.{Category, Pool}
+use Rattle.define_pools.specs.Pool.{Pool}
 use Rattle.define_loosenings.specs.Teams.{is_team, team_cost}
 use Rattle.define_conflicts.specs.declared.Counted.{Counted}
 use Rattle.define_conflicts.specs.declared.Counted.TheVariants.{Everybody, WithValue, OfHousehold}
-use Rattle.define_conflicts.specs.declared.Quota.{Quota}
-use Rattle.define_conflicts.specs.declared.Side.TheVariants.{AtLeast, AtMost}
 use Rattle.define_conflicts.specs.Quotas.{is_selection_at}
-
--- the two quotas of the value at place `value` of the category at place `category`
-abbrev pub quotas_of_value : ℕ → ℕ → List Quota
-quotas_of_value category value =
-    record { counted = WithValue category value; side = AtLeast } ∷ record { counted = WithValue category value; side = AtMost } ∷ []
-
--- the quotas of the values of the category at place `category`
-abbrev pub quotas_of_category : ℕ × Category → List Quota
-quotas_of_category (place, category) = flat_map (λ (value, bounds). quotas_of_value place value) (enumerate_from 0 category.values)
-
--- the quotas of all values of a pool, each once. A team costs the number of people by which it misses them in all
-abbrev pub value_quotas : Pool → List Quota
-value_quotas pool = flat_map quotas_of_category (enumerate_from 0 pool.categories)
 
 -- each team meets a quota that counts `counted`, since it is a quota of the size or of a household
 abbrev pub is_met_by_teams : Counted → Bool

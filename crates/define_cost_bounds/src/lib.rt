@@ -14,7 +14,8 @@ ghost use Rattle.define_pools.specs.Pool.{Pool};
 ghost use Rattle.define_proofs.specs.Leaves.{standings};
 ghost use Rattle.define_conflicts.specs.declared.WeightedQuota.{WeightedQuota};
 ghost use Rattle.define_conflicts.specs.LeastMisses.{asked, given, quotas_of};
-ghost use Rattle.define_cost_bounds.specs.CostBounds.{CostsAt, is_met_by_teams, value_quotas};
+ghost use Rattle.define_conflicts.specs.AllQuotas.{value_quotas};
+ghost use Rattle.define_cost_bounds.specs.CostBounds.{CostsAt, is_met_by_teams};
 ghost use Rattle.define_loosenings.specs.Loosenings.{IsLeast, Loosening, loosening_for};
 ghost use Rattle.define_loosenings.specs.Teams.{is_team, team_cost};
 

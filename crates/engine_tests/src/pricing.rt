@@ -4,7 +4,7 @@
 use crate::small_classes::{APART, classes_of, counts_of, is_small};
 use outside::{NoWatch, Watch};
 use panel_search::{Row, SearchStop};
-use pricing_pool::best_by;
+use pricing_pool::{best_by, best_sharing};
 use std::sync::atomic::{AtomicBool, Ordering};
 use std::test::Fail;
 
@@ -46,6 +46,20 @@ fn each_number_of_workers_finds_the_same(rt: HostRuntime) -> Result<(), Fail> {
         assert_eq!(rt; visits, 12);
         let short = best_by(&rt, alloc, workers, &NoWatch, &all, &[], &row, 11);
         assert!(rt; matches!(short, Err(SearchStop::Spent)));
+    }
+    Ok(())
+}
+
+#[test]
+fn workers_that_share_a_bound_find_the_same(rt: HostRuntime) -> Result<(), Fail> {
+    let alloc = rt.alloc();
+    let all = classes_of(alloc, APART)?;
+    let row = Row::new(0, Vec::from_slice(alloc, &[0, 0, 1, 0])?);
+    assert!(rt; is_small(&all, &row));
+    for workers in 1..8 {
+        let (found, visits) = best_sharing(&rt, alloc, workers, &NoWatch, &all, &[], &row, 12)?;
+        assert_eq!(rt; counts_of(&found), Some([1, 0, 1, 0].as_slice()));
+        assert_eq!(rt; visits, 12);
     }
     Ok(())
 }

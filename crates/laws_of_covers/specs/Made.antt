@@ -2,6 +2,7 @@
 -- `define_covers`. The promise of `cover` in `cover_cert` cites it.
 use Rattle.std.specs.Prelude.{◌≡◌, ◌<◌, ℕ, ◌+◌, true, IsTrue, List, [], ◌∷◌, length, map, take, Some}
 use Rattle.std.specs.List.{AllByRecursion, list_all}
+use Rattle.define_bundles.specs.BundleText.{Bundle}
 use Rattle.define_checks.specs.Caps.{classes_at, stage_row}
 use Rattle.define_pools.specs.Certificate.{Stage}
 use Rattle.define_pools.specs.Pool.{IsPool, Pool}
@@ -10,7 +11,7 @@ use Rattle.define_searches.specs.Classes.{Classes}
 use Rattle.define_searches.specs.Fronts.{is_live_above}
 use Rattle.define_covers.specs.Causes.{all_values}
 use Rattle.define_covers.specs.CoverRanges.{is_front_line, value_count}
-use Rattle.define_covers.specs.Covers.{FrontLine}
+use Rattle.define_covers.specs.Covers.{Cover, FrontLine}
 use Rattle.define_covers.specs.CoverVerdict.{first_tree, later_trees}
 use Rattle.define_covers.specs.CoversHold.{Covers, TreesCover}
 use Rattle.define_covers.specs.FrontOrder.{are_in_order}
@@ -38,6 +39,11 @@ abbrev pub TreesSearched : Pool → List Stage → List Stage → List (List Fro
 TreesSearched pool earlier [] trees = Unit {0}
 TreesSearched pool earlier (stage ∷ later) trees =
     IsSearchedStage pool earlier stage (first_tree trees) × TreesSearched pool (stage ∷ earlier) later (later_trees trees)
+
+-- the cover is of this bundle, and its trees have the lines of a check's searches
+pub record IsMadeOf (bundle : Bundle) (cover : Cover) : Type 0 where
+  pub same : cover.bundle ≡ bundle
+  pub searched : TreesSearched bundle.pool [] bundle.answer.stages cover.trees
 
 -- ---- laws
 

@@ -1,13 +1,12 @@
 -- The legs of a run after a step, at its ending, and at its opening.
-use Rattle.std.proofs.Common.{◌≡◌, ℕ, zero, suc, ◌+◌, ◌-◌, ◌^◌, ◌<◌, ◌≤◌, List, [], ◌∷◌, length, get_or, set, Result, Ok, Err, refl, sym, ap, ◌∙◌, subst, arith}
+use Rattle.std.proofs.Common.{◌≡◌, ℕ, zero, suc, ◌-◌, ◌^◌, ◌<◌, ◌≤◌, List, [], ◌∷◌, length, get_or, set, Result, Ok, Err, sym, ap, ◌∙◌, subst, arith}
 use Rattle.std.specs.Prelude.{sum_by, IfErr}
-use Rattle.std.specs.List.{All}
 use Rattle.std.proofs.lemmas.List.{length-map}
 use Rattle.define_legs.specs.declared.Leg.{Leg}
-use Rattle.define_legs.specs.Legs.{EndsWithLegs, Traced, leg_bases, legs_after, legs_to, longer, onward, traced, with_pivot}
+use Rattle.define_legs.specs.Legs.{EndsWithLegs, Traced, legs_after, legs_to, longer, onward, traced, with_pivot}
 use Rattle.define_rows.specs.Table.{Table}
 use Rattle.define_runs.specs.Keeps.{AreRunLimits}
-use Rattle.define_runs.specs.Run.{Ended, Ending, Ends, GoOn, Next, RunLimits, opening, step}
+use Rattle.define_runs.specs.Run.{Ended, Ending, GoOn, Next, RunLimits, opening, step}
 use Rattle.define_searches.specs.Classes.{Classes, KeepsLimits}
 use Rattle.define_runs.proofs.Kept.{reached_kept}
 use Rattle.laws_of_runs.proofs.FoundEnds.{ends_found}
@@ -15,10 +14,8 @@ use Rattle.laws_of_legs.proofs.Endings.{each_has_legs, legs_end, spends_below}
 use Rattle.laws_of_legs.proofs.Traces.{all_pivots, few_pivots}
 use Rattle.leximin_run.specs.declared.stops.Outcome.{Outcome}
 use Rattle.leximin_run.specs.declared.stops.Outcome.TheVariants as outcome
-use Rattle.leximin_run.specs.declared.stops.Solved.{Solved}
 use Rattle.leximin_run.specs.declared.stops.Stop.{Stop}
 use Rattle.leximin_run.specs.declared.stops.Stop.TheVariants.{TooWide, TotalPasses, PivotsSpent, NodesSpent, OutOfMemory}
-use Rattle.leximin_run.specs.Advancing.{Stands}
 use Rattle.leximin_run.specs.Answers.{AreShortLegs, HasShortLegs, HasSomeClass, SpendsBelowLegs, TellsEnding, TellsOutcome, solved_of, traced_of}
 use Rattle.leximin_run.specs.Tracing.{ReachesWithLegs}
 

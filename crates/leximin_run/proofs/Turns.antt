@@ -1,8 +1,9 @@
 -- What a step of the run requires, and the table after it.
-use Rattle.std.proofs.Common.{◌≡◌, ℕ, ◌^◌, ◌<◌, ◌≤◌, Bool, true, false, cond, leb, ltb, List, [], ◌∷◌, ◌++◌, length, Option, Some, None, Err, pos, refl, sym, ap, ap₂, ◌∙◌, subst, arith}
+use Rattle.std.proofs.Common.{◌≡◌, ℕ, ◌^◌, ◌<◌, ◌≤◌, Bool, true, false, cond, leb, ltb, List, [], ◌∷◌, ◌++◌, length, Option, Some, None, Err, pos, ◌≤ℤ◌, refl, sym, ap, ap₂, ◌∙◌, subst, arith}
+use Rattle.std.specs.Prelude.{IsFalse}
 use Rattle.std.specs.List.{AllByRecursion}
 use Rattle.std.proofs.Math.Nat.{pow-le-pow_right}
-use Rattle.std.proofs.lemmas.Bool.{le-ltb, lt-ltb}
+use Rattle.std.proofs.lemmas.Bool.{le-ltb}
 use Rattle.std.proofs.lemmas.Nat.{pow_pos}
 use Rattle.std.proofs.lemmas.List.{length-map, map-append}
 use Rattle.std.proofs.lemmas.List.Elements.{recursion_from_All}
@@ -18,16 +19,17 @@ use Rattle.define_rows.specs.Table.{Table, row_at}
 use Rattle.define_searches.specs.Classes.{Classes}
 use Rattle.define_searches.specs.Compositions.{price}
 use Rattle.define_searches.specs.Fronts.{HaveEntries, HaveReach, sizes_of}
+use Rattle.define_sharing.specs.Sharing.{with_pricing}
 use Rattle.define_waves.specs.Waves.{best_in_waves}
 use Rattle.define_runs.specs.Run.{RunLimits, Next, GoOn, Ended, NodesSpent, PivotsSpent, answered, closed_rows, parts_of, pivoted, priced, pricing_visits, step, step_in_stage}
 use Rattle.define_spreads.specs.Spreading.{spread}
 use Rattle.define_runs.specs.Keeps.{IsPriced, KeepsRun}
 use Rattle.define_runs.proofs.Kept.{step_kept}
 use Rattle.define_runs.proofs.Priced.{may_be_added}
-use Rattle.panel_search.specs.Answers.{AnswersBest}
 use Rattle.panel_search.specs.declared.searching.SearchStop.{SearchStop}
 use Rattle.panel_search.specs.declared.searching.SearchStop.TheVariants.{Spent, OutOfMemory}
-use Rattle.leximin_run.specs.Advancing.{Refuses, Stands, refusal_of}
+use Rattle.leximin_run.specs.Advancing.{HoldsFrom, Prices, Refuses, Stands, refusal_of}
+use Rattle.leximin_run.proofs.Budgets.{from_none, stands_with, stands_without}
 
 -- ---- the rows that are priced
 
@@ -49,6 +51,10 @@ module _ (all : Classes) (limits : RunLimits) (table : Table) (keeps : KeepsRun 
     ap (λ r. length r.a) same ∙ entries_fit i l,
     subst (AllByRecursion (λ row. length row.a ≡ length all.classes)) (sym are) (each_row (λ row. length row.a ≡ length all.classes) entries_fit),
   )
+
+  -- no right side is below 0
+  pub has_side : (row : Row) (i : ℕ) → i < length table.rows → row ≡ row_at table i → pos 0 ≤ℤ row.b
+  has_side row i l same = subst (λ r. pos 0 ≤ℤ r.b) (sym same) (keeps.in_order.sides i (record { b = pos 0; a = [] }) l)
 
   pub have_reach : (row : Row) (i : ℕ) → i < length table.rows → row ≡ row_at table i → (closed : List Row) → closed ≡ closed_rows table → HaveReach all (row ∷ closed)
   have_reach row i l same closed are = (
@@ -81,6 +87,17 @@ unfolding step
 enter_due all limits table shut some =
     ap (λ s. cond s (step_in_stage all limits table (choice table)) (between all limits table)) shut
     ∙ ap (λ s. cond s (GoOn (enter_stage table)) (Ended (answered all table (spread all (parts_of table))))) some
+
+-- ---- the same with each budget of pricing
+
+pub pivot_steps : (share : Bool) (all : Classes) (limits : RunLimits) (table : Table) (r : ℕ) (v : Var) → table.in_stage ≡ true → choice table ≡ Some (r, v) → (b : Bool) → leb limits.pivots table.pivots ≡ b →
+    (next : Next) → cond b (Ended (PivotsSpent table)) (pivoted table (pivot table r v)) ≡ next → HoldsFrom share limits (λ free. step all free table ≡ next)
+pivot_steps share all limits table r v open_now chosen b t next is =
+    from_none share limits (λ free. step all free table ≡ next) (λ pricing. pivot_due all (with_pricing limits pricing) table r v open_now chosen b t ∙ is)
+
+pub enter_steps : (share : Bool) (all : Classes) (limits : RunLimits) (table : Table) → table.in_stage ≡ false → ltb (settled_count table) (length table.sizes) ≡ true →
+    HoldsFrom share limits (λ free. step all free table ≡ GoOn (enter_stage table))
+enter_steps share all limits table shut some = from_none share limits (λ free. step all free table ≡ GoOn (enter_stage table)) (λ pricing. enter_due all (with_pricing limits pricing) table shut some)
 
 -- ---- the table after a step
 
@@ -122,33 +139,36 @@ module _ (all : Classes) (limits : RunLimits) (table : Table) (closed : List Row
   pub column_may : (counts : List ℕ) → Some counts ≡ price all closed row → MayAdd table counts
   column_may counts e = may_be_added all limits table counts asked.stands.limited (priced_so counts e)
 
-  spent : limits.pricing < pricing_visits all closed row → step all limits table ≡ Ended (NodesSpent (Some table))
-  spent l = price_due all limits table asked.open_now asked.done true (lt-ltb limits.pricing (pricing_visits all (closed_rows table) (row_at table (open_row table))) (omega (arith, l, same_visits)))
+  pub refused_so : (share : Bool) (stop : SearchStop) (nodes : ℕ) → nodes ≡ limits.pricing → Prices share all closed row nodes (Err stop) → Refuses share all limits table (refusal_of stop) table
+  refused_so share Spent nodes e answers = (record { open_now = asked.open_now; due = asked.done; more = omega (arith, answers, e, same_visits) }, refl)
+  refused_so share OutOfMemory nodes e answers = tt
 
-  pub refused_so : (stop : SearchStop) (nodes : ℕ) → nodes ≡ limits.pricing → AnswersBest (best_in_waves all closed row) nodes (Err stop) → Refuses all limits table (refusal_of stop) table
-  refused_so Spent nodes e answers = (spent (omega (arith, visits_are all closed row, answers, e)), refl)
-  refused_so OutOfMemory nodes e answers = tt
-
-  within : (found : Option (List ℕ)) → pricing_visits all closed row ≤ limits.pricing → found ≡ price all closed row → step all limits table ≡ priced table found
-  within found l e =
-      price_due all limits table asked.open_now asked.done false (le-ltb limits.pricing (pricing_visits all (closed_rows table) (row_at table (open_row table))) (omega (arith, l, same_visits)))
+  within : (found : Option (List ℕ)) (pricing : ℕ) → pricing_visits all closed row ≤ pricing → found ≡ price all closed row → step all (with_pricing limits pricing) table ≡ priced table found
+  within found pricing l e =
+      price_due all (with_pricing limits pricing) table asked.open_now asked.done false (le-ltb pricing (pricing_visits all (closed_rows table) (row_at table (open_row table))) (omega (arith, l, same_visits)))
       ∙ ap (priced table) (sym same_price ∙ sym e)
 
-  pub column_made : (counts : List ℕ) → pricing_visits all closed row ≤ limits.pricing → Some counts ≡ price all closed row → step all limits table ≡ GoOn (add_column table counts)
-  column_made counts l e = within (Some counts) l e
+  -- the step that follows a pricing, with each budget that the pricing keeps
+  pub made : (share : Bool) (found : Option (List ℕ)) (next : Next) → priced table found ≡ next → (IsFalse share → pricing_visits all closed row ≤ limits.pricing) → found ≡ price all closed row →
+      HoldsFrom share limits (λ free. step all free table ≡ next)
+  made share found next is few e = record { least = pricing_visits all closed row; own = few; holds = λ pricing l. within found pricing l e ∙ is }
 
-  pub close_made : pricing_visits all closed row ≤ limits.pricing → None ≡ price all closed row → step all limits table ≡ GoOn (close_stage table)
-  close_made l e = within None l e
+  -- the visits of the pricing as its budget
+  abbrev enough : RunLimits
+  enough = with_pricing limits (pricing_visits all closed row)
 
-  pub column_stands : (counts : List ℕ) → pricing_visits all closed row ≤ limits.pricing → Some counts ≡ price all closed row → Stands all limits (add_column table counts) closed
+  pub column_stands : (counts : List ℕ) → Some counts ≡ price all closed row → Stands all limits (add_column table counts) closed
   unfolding add_column
-  column_stands counts l e = stands_on all limits table closed asked.stands (add_column table counts) (column_made counts l e) closed asked.stands.closed_are
+  column_stands counts e =
+      stands_without all limits (pricing_visits all closed row) (add_column table counts) closed
+      (stands_on all enough table closed (stands_with all limits (pricing_visits all closed row) table closed asked.stands) (add_column table counts) (within (Some counts) (pricing_visits all closed row) (omega arith) e) closed asked.stands.closed_are)
 
-  pub close_stands : pricing_visits all closed row ≤ limits.pricing → None ≡ price all closed row → Stands all limits (close_stage table) (closed ++ row ∷ [])
+  pub close_stands : None ≡ price all closed row → Stands all limits (close_stage table) (closed ++ row ∷ [])
   unfolding closed_by
-  close_stands l e =
-      stands_on all limits table closed asked.stands (close_stage table) (close_made l e) (closed ++ row ∷ [])
-      (ap₂ (λ c r. c ++ r ∷ []) asked.stands.closed_are asked.row_is ∙ sym (map-append (row_at table) table.closed (open_row table ∷ [])))
+  close_stands e =
+      stands_without all limits (pricing_visits all closed row) (close_stage table) (closed ++ row ∷ [])
+      (stands_on all enough table closed (stands_with all limits (pricing_visits all closed row) table closed asked.stands) (close_stage table) (within None (pricing_visits all closed row) (omega arith) e) (closed ++ row ∷ [])
+      (ap₂ (λ c r. c ++ r ∷ []) asked.stands.closed_are asked.row_is ∙ sym (map-append (row_at table) table.closed (open_row table ∷ []))))
 
 pub entered_stands : (all : Classes) (limits : RunLimits) (table : Table) (closed : List Row) → Stands all limits table closed → table.in_stage ≡ false →
     ltb (settled_count table) (length table.sizes) ≡ true → Stands all limits (enter_stage table) closed

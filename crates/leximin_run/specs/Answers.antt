@@ -1,5 +1,5 @@
 -- The answers of a run. Builds on Run of `define_runs`. The promises of `solve` use them, and so do `command_pools` and `office_core`.
-use Rattle.std.specs.Prelude.{◌≡◌, [], ℕ, ℤ, ◌<◌, ◌≤◌, pos, List, length, Option, Some, None, Result, Ok, Err}
+use Rattle.std.specs.Prelude.{◌≡◌, [], ℕ, ℤ, ◌<◌, ◌≤◌, pos, Bool, IsFalse, List, length, Option, Some, None, Result, Ok, Err}
 use Rattle.std.specs.List.{All}
 use Rattle.define_bundles.specs.Ranges.{IsInRanges}
 use Rattle.define_legs.specs.declared.Leg.{Leg}
@@ -8,9 +8,12 @@ use Rattle.define_pools.specs.Certificate.{Certifies}
 use Rattle.define_pools.specs.Lottery.{LeximinGreatest}
 use Rattle.define_pools.specs.Pool.{Pool, panels}
 use Rattle.define_rows.specs.Table.{Table}
+use Rattle.define_runs.specs.Keeps.{IsReached}
 use Rattle.define_runs.specs.Run.{Ending, Ends, RunLimits}
 use Rattle.define_searches.specs.Classes.{Classes}
+use Rattle.define_sharing.specs.Sharing.{MayEnd, SpendsVisits, spends_pricing}
 use Rattle.define_spreads.specs.Spreading.{TotalPass}
+use Rattle.leximin_run.specs.Advancing.{HoldsFrom}
 use Rattle.leximin_run.specs.declared.running.Refusal.{Refusal}
 use Rattle.leximin_run.specs.declared.running.Refusal.TheVariants.{Wide, NoPivot, NoVisit, NoMemory}
 use Rattle.leximin_run.specs.declared.stops.At.{At}
@@ -38,16 +41,27 @@ pub record IsTotalPass (pass : TotalPass) (place : ℕ) (total den : ℤ) : Type
   pub total_is : total ≡ pos pass.total
   pub den_is : den ≡ pos pass.den
 
--- the answer is how the run over these classes ends; running out of memory is allowed at any time
+-- the answer is an ending of which E holds; running out of memory is allowed at any time
+abbrev pub Tells : (Ending → Type 0) → Result Solved Stop → Type 0
+Tells E (Ok (Found answer)) = (last : Table) × E (Ending.Found last answer)
+Tells E (Ok NoPanel) = E Ending.NoPanel
+Tells E (Err (TooWide place pass)) = E (Ending.TooWide (stood place) pass)
+Tells E (Err (TotalPasses place at total den)) = (table : Table) × (pass : TotalPass) × (stood place ≡ Some table) × IsTotalPass pass at total den × E (Ending.TotalPasses table pass)
+Tells E (Err (PivotsSpent place)) = (table : Table) × (stood place ≡ Some table) × E (Ending.PivotsSpent table)
+Tells E (Err (NodesSpent place)) = E (Ending.NodesSpent (stood place))
+Tells E (Err OutOfMemory) = Unit {0}
+
+-- the answer is how the run over these classes ends
 abbrev pub TellsEnding : Classes → RunLimits → Result Solved Stop → Type 0
-TellsEnding all limits (Ok (Found answer)) = (last : Table) × Ends all limits (Ending.Found last answer)
-TellsEnding all limits (Ok NoPanel) = Ends all limits Ending.NoPanel
-TellsEnding all limits (Err (TooWide place pass)) = Ends all limits (Ending.TooWide (stood place) pass)
-TellsEnding all limits (Err (TotalPasses place at total den)) =
-    (table : Table) × (pass : TotalPass) × (stood place ≡ Some table) × IsTotalPass pass at total den × Ends all limits (Ending.TotalPasses table pass)
-TellsEnding all limits (Err (PivotsSpent place)) = (table : Table) × (stood place ≡ Some table) × Ends all limits (Ending.PivotsSpent table)
-TellsEnding all limits (Err (NodesSpent place)) = Ends all limits (Ending.NodesSpent (stood place))
-TellsEnding all limits (Err OutOfMemory) = Unit {0}
+TellsEnding all limits result = Tells (Ends all limits) result
+
+-- the answer is an ending that the run over these classes may have if its workers share a bound
+abbrev pub TellsSharing : Classes → RunLimits → Result Solved Stop → Type 0
+TellsSharing all limits result = Tells (MayEnd all limits) result
+
+-- if no pricing spends its budget in the run whose workers share nothing, the answer is how that run ends
+abbrev pub KeepsEnding : Classes → RunLimits → Result Solved Stop → Type 0
+KeepsEnding all limits result = (ending : Ending) → Ends all limits ending → IsFalse (spends_pricing ending) → TellsEnding all limits result
 
 -- if a lottery is found, its stages certify it and it is leximin greatest; if the answer is that there is no panel, the pool has none
 abbrev pub IsCertified : Pool → Result Solved Stop → Type 0
@@ -71,6 +85,11 @@ stop_of table NoMemory = OutOfMemory
 -- the sizes of a table: its classes, its columns, and the pivots that were made
 abbrev pub sizes_in : Table → RunSizes
 sizes_in table = record { classes = length table.sizes; columns = length table.columns; pivots = table.pivots }
+
+-- the run whose workers share a bound or nothing ends so, with the pricings that were answered. At a spent budget of pricing it says where
+abbrev pub EndsFrom : Bool → Classes → RunLimits → Ending → Type 0
+EndsFrom share all limits (Ending.NodesSpent (Some table)) = HoldsFrom share limits (λ free. IsReached all free table) × SpendsVisits all limits table
+EndsFrom share all limits other = HoldsFrom share limits (λ free. Ends all free other)
 
 -- the answer of a run, without its sizes and its legs
 abbrev pub solved_of : Result Outcome Stop → Result Solved Stop
@@ -113,6 +132,13 @@ abbrev pub TellsOutcome : Classes → RunLimits → Result Outcome Stop → Type
 TellsOutcome all limits (Ok (outcome.Found answer sizes legs)) = (last : Table) × (sizes ≡ sizes_in last) × EndsWithLegs all limits (Ending.Found last answer) legs.items
 TellsOutcome all limits (Ok outcome.NoPanel) = TellsEnding all limits (Ok NoPanel)
 TellsOutcome all limits (Err stop) = TellsEnding all limits (Err stop)
+
+-- the same of a run whose workers share a bound or nothing
+abbrev pub TellsRun : Bool → Classes → RunLimits → Result Outcome Stop → Type 0
+TellsRun share all limits (Ok (outcome.Found answer sizes legs)) =
+    (last : Table) × (sizes ≡ sizes_in last) × HoldsFrom share limits (λ free. EndsWithLegs all free (Ending.Found last answer) legs.items)
+TellsRun share all limits (Ok outcome.NoPanel) = Tells (EndsFrom share all limits) (Ok NoPanel)
+TellsRun share all limits (Err stop) = Tells (EndsFrom share all limits) (Err stop)
 
 -- each leg has fewer pivots than there are sets of variables that could be basic in it
 abbrev pub AreShortLegs : Classes → List Leg → Type 0

@@ -1,17 +1,19 @@
 //! The run's steps: pivot, pricing, and closing of a stage.
 
-ghost use Rattle.std.specs.Prelude.{◌≡◌, ◌≤◌, ◌++◌, [], ◌∷◌, true, OnOk, Some, None};
-ghost use Rattle.leximin_run.specs.Advancing.{Advances, Makes, Stands};
+ghost use Rattle.std.specs.Prelude.{◌≡◌, ◌≤◌, ◌≤ℤ◌, ◌++◌, [], ◌∷◌, pos, true, OnOk, Some, None};
+ghost use Rattle.leximin_run.specs.Advancing.{Advances, Makes, Prices, Stands};
 ghost use Rattle.define_rows.specs.Choice.{choice};
 ghost use Rattle.define_rows.specs.Steps.{close_stage, open_row};
 ghost use Rattle.define_rows.specs.Table.{row_at};
 ghost use Rattle.define_runs.specs.Run.{run_limits};
+ghost use Rattle.define_searches.specs.Fronts.{HaveEntries, HaveReach};
 
+use alike::Composition;
 use define_runs::Limits;
 use exact_table::{Pass, Table, Var};
 use outside::Watch;
-use panel_search::{Pricer, SearchStop};
-use pricing_pool::price_by;
+use panel_search::{Pricer, Row, SearchStop};
+use pricing_pool::{price_by, price_sharing};
 use std::alloc::{AllocError, Global};
 use std::thread::Threads;
 
@@ -64,9 +66,11 @@ impl From<SearchStop> for Refusal {
     }
 }
 
-// A run between two steps. The pricer has the classes and the rows of the closed stages.
+// A run between two steps. The pricer has the classes and the rows of the closed stages. If `share` is true, the workers of a pricing
+// share a bound.
 #[derive(Drop)]
 pub(crate) struct Run<'c> {
+    pub(crate) share: bool,
     pub(crate) limits: Limits,
     pub(crate) table: Table,
     pub(crate) pricer: Pricer<'c>,
@@ -84,10 +88,11 @@ impl<'c> Run<'c> {
         requires some_worker { 1 ≤ workers }
         requires few_workers { workers ≤ 64 }
         requires stands { Stands self.old.pricer.classes (run_limits self.old.limits) self.old.table self.old.pricer.closed }
-        ensures advances { Advances self.old.pricer.classes (run_limits self.old.limits) self.old.table result self.new.table }
+        ensures advances { Advances self.old.share self.old.pricer.classes (run_limits self.old.limits) self.old.table result self.new.table }
         ensures stands { OnOk result (Stands self.new.pricer.classes (run_limits self.new.limits) self.new.table self.new.pricer.closed) }
         ensures classes { self.new.pricer.classes ≡ self.old.pricer.classes }
         ensures limits { self.new.limits ≡ self.old.limits }
+        ensures share { self.new.share ≡ self.old.share }
     {
         if self.table.in_stage() {
             match self.table.bland() {
@@ -108,10 +113,11 @@ impl<'c> Run<'c> {
         requires stands { Stands self.old.pricer.classes (run_limits self.old.limits) self.old.table self.old.pricer.closed }
         requires open { self.old.table.in_stage ≡ true }
         requires chosen { choice self.old.table ≡ Some (row, variable) }
-        ensures makes { Makes self.old.pricer.classes (run_limits self.old.limits) self.old.table result self.new.table }
+        ensures makes { Makes self.old.share self.old.pricer.classes (run_limits self.old.limits) self.old.table result self.new.table }
         ensures stands { OnOk result (Stands self.new.pricer.classes (run_limits self.new.limits) self.new.table self.new.pricer.closed) }
         ensures classes { self.new.pricer.classes ≡ self.old.pricer.classes }
         ensures limits { self.new.limits ≡ self.old.limits }
+        ensures share { self.new.share ≡ self.old.share }
     {
         if self.limits.pivots() <= self.table.pivots() {
             return Err(Refusal::NoPivot);
@@ -133,20 +139,23 @@ impl<'c> Run<'c> {
         requires stands { Stands self.old.pricer.classes (run_limits self.old.limits) self.old.table self.old.pricer.closed }
         requires open { self.old.table.in_stage ≡ true }
         requires done { choice self.old.table ≡ None }
-        ensures makes { Makes self.old.pricer.classes (run_limits self.old.limits) self.old.table result self.new.table }
+        ensures makes { Makes self.old.share self.old.pricer.classes (run_limits self.old.limits) self.old.table result self.new.table }
         ensures stands { OnOk result (Stands self.new.pricer.classes (run_limits self.new.limits) self.new.table self.new.pricer.closed) }
         ensures classes { self.new.pricer.classes ≡ self.old.pricer.classes }
         ensures limits { self.new.limits ≡ self.old.limits }
+        ensures share { self.new.share ≡ self.old.share }
     {
         let row = self.table.row(self.table.open_row());
-        let (found, _) = price_by(
+        let nodes = self.limits.nodes();
+        let found = priced_by(
             rt,
             alloc,
             workers,
             watch,
+            self.share,
             &self.pricer,
             row,
-            self.limits.nodes(),
+            nodes,
         )?;
         match found {
             Some(column) => Ok(self.table.add_column(column)?),
@@ -163,10 +172,38 @@ impl<'c> Run<'c> {
         ensures closed { OnOk result (self.new.pricer.closed ≡ self.old.pricer.closed ++ row_at self.old.table (open_row self.old.table) ∷ []) }
         ensures classes { self.new.pricer.classes ≡ self.old.pricer.classes }
         ensures limits { self.new.limits ≡ self.old.limits }
+        ensures share { self.new.share ≡ self.old.share }
     {
         let row = self.table.row(self.table.open_row());
         self.pricer.add_row(row.copy()?)?;
         self.table.close_stage();
         Ok(())
+    }
+}
+
+// Prices a row with `workers` workers. If `share` is true, they share a bound.
+fn priced_by<R: Threads + Sync, W: Watch + Sync>(
+    rt: &R,
+    alloc: Global,
+    workers: u32,
+    watch: &W,
+    share: bool,
+    pricer: &Pricer<'_>,
+    row: &Row,
+    nodes: u64,
+) -> Result<Option<Composition>, SearchStop>
+    requires some_worker { 1 ≤ workers }
+    requires few_workers { workers ≤ 64 }
+    requires entries { HaveEntries pricer.now.classes (row.now ∷ []) }
+    requires reach { HaveReach pricer.now.classes (row.now ∷ []) }
+    requires positive { pos 0 ≤ℤ row.now.b }
+    ensures { Prices share pricer.now.classes pricer.now.closed row.now nodes result }
+{
+    if share {
+        let (found, _) = price_sharing(rt, alloc, workers, watch, pricer, row, nodes)?;
+        Ok(found)
+    } else {
+        let (found, _) = price_by(rt, alloc, workers, watch, pricer, row, nodes)?;
+        Ok(found)
     }
 }

@@ -1,9 +1,9 @@
 //! The whole run, from a pool to an answer.
 
 ghost use Rattle.std.specs.Prelude.{◌≡◌, ◌≤◌, ◌<◌, false, Some, IfErr, IfOk, [], length, slice_index_or};
-ghost use Rattle.leximin_run.specs.Advancing.{Reaches};
+ghost use Rattle.leximin_run.specs.Advancing.{HoldsFrom, Reaches};
 ghost use Rattle.leximin_run.specs.Tracing.{ReachesWithLegs};
-ghost use Rattle.leximin_run.specs.Answers.{HasShortLegs, HasSomeClass, IsCertified, KeepsRanges, SpendsBelowLegs, TellsEnding, TellsOutcome, TellsSized, TellsTraced, sizes_in, solved_of, stop_of, traced_of, unsized, untraced};
+ghost use Rattle.leximin_run.specs.Answers.{HasShortLegs, HasSomeClass, IsCertified, KeepsEnding, KeepsRanges, SpendsBelowLegs, TellsEnding, TellsOutcome, TellsRun, TellsSharing, TellsSized, TellsTraced, sizes_in, solved_of, stop_of, traced_of, unsized, untraced};
 ghost use Rattle.define_runs.specs.Run.{parts_of, run_limits};
 ghost use Rattle.define_rows.specs.InOrder.{settled_count};
 ghost use Rattle.define_searches.specs.Classes.{classes_of};
@@ -48,6 +48,34 @@ pub fn solve<R: Threads + Sync, W: Watch + Sync>(
     ensures spent { IfErr result (SpendsBelowLegs (classes_of pool.now) (run_limits limits)) }
 {
     match outcome(rt, alloc, pool, limits, workers, watch) {
+        Ok(Outcome::Found(answer, _, _)) => Ok(Solved::Found(answer)),
+        Ok(Outcome::NoPanel) => Ok(Solved::NoPanel),
+        Err(stop) => Err(stop),
+    }
+}
+
+/// Makes the run of `solve` with workers that share a bound, so that a piece of a pricing also profits from what the others have found. A
+/// pricing may then make fewer visits than `solve` would make, so the run may go on where `solve` stops because a pricing needs more visits
+/// than its budget. When the workers run decides whether it does. So the answer is that of the run whose pricings may make any number of
+/// visits; or it is that a pricing spends its budget, at a table of that run at which the visits of `solve` exceed the budget. If no pricing
+/// of `solve` spends its budget, the answer is that of `solve`.
+pub fn solve_sharing<R: Threads + Sync, W: Watch + Sync>(
+    rt: &R,
+    alloc: Global,
+    pool: &Pool,
+    limits: Limits,
+    workers: u32,
+    watch: &W,
+) -> Result<Solved, Stop>
+    requires some_worker { 1 ≤ workers }
+    requires few_workers { workers ≤ 64 }
+    ensures run { TellsSharing (classes_of pool.now) (run_limits limits) result }
+    // If no pricing of `solve` spends its budget, the answer is that of `solve`.
+    ensures same { KeepsEnding (classes_of pool.now) (run_limits limits) result }
+    ensures certified { IsCertified pool.now result }
+    ensures ranges { KeepsRanges pool.now result }
+{
+    match shared_outcome(rt, alloc, pool, limits, workers, watch) {
         Ok(Outcome::Found(answer, _, _)) => Ok(Solved::Found(answer)),
         Ok(Outcome::NoPanel) => Ok(Solved::NoPanel),
         Err(stop) => Err(stop),
@@ -123,11 +151,11 @@ fn outcome<R: Threads + Sync, W: Watch + Sync>(
 {
     pool.facts();
     let _ = limits.bits();
-    run(rt, alloc, pool, limits, workers, watch)
+    run(rt, alloc, pool, limits, workers, watch, false)
 }
 
-// Makes the run over the pool's classes.
-fn run<R: Threads + Sync, W: Watch + Sync>(
+// Makes the run with workers that share a bound.
+fn shared_outcome<R: Threads + Sync, W: Watch + Sync>(
     rt: &R,
     alloc: Global,
     pool: &Pool,
@@ -137,11 +165,42 @@ fn run<R: Threads + Sync, W: Watch + Sync>(
 ) -> Result<Outcome, Stop>
     requires some_worker { 1 ≤ workers }
     requires few_workers { workers ≤ 64 }
-    ensures { TellsOutcome (classes_of pool.now) (run_limits limits) result }
+    ensures run { TellsSharing (classes_of pool.now) (run_limits limits) (solved_of result) }
+    ensures same { KeepsEnding (classes_of pool.now) (run_limits limits) (solved_of result) }
+    ensures certified { IsCertified pool.now (solved_of result) }
+    ensures ranges { KeepsRanges pool.now (solved_of result) }
+{
+    pool.facts();
+    let _ = limits.bits();
+    run(rt, alloc, pool, limits, workers, watch, true)
+}
+
+// Makes the run over the pool's classes. If `share` is true, the workers of a pricing share a bound.
+fn run<R: Threads + Sync, W: Watch + Sync>(
+    rt: &R,
+    alloc: Global,
+    pool: &Pool,
+    limits: Limits,
+    workers: u32,
+    watch: &W,
+    share: bool,
+) -> Result<Outcome, Stop>
+    requires some_worker { 1 ≤ workers }
+    requires few_workers { workers ≤ 64 }
+    ensures { TellsRun share (classes_of pool.now) (run_limits limits) result }
 {
     let classes = classes(alloc, pool)?;
     match first(alloc, &classes, limits.nodes()) {
-        Ok(Some(composition)) => begin(rt, alloc, &classes, limits, composition, workers, watch),
+        Ok(Some(composition)) => begin(
+            rt,
+            alloc,
+            &classes,
+            limits,
+            composition,
+            workers,
+            watch,
+            share,
+        ),
         Ok(None) => Ok(Outcome::NoPanel),
         Err(SearchStop::Spent) => Err(Stop::NodesSpent(At::Opening)),
         Err(SearchStop::OutOfMemory) => Err(Stop::OutOfMemory),
@@ -157,12 +216,13 @@ fn begin<R: Threads + Sync, W: Watch + Sync>(
     composition: Composition,
     workers: u32,
     watch: &W,
+    share: bool,
 ) -> Result<Outcome, Stop>
     requires within { (first_search classes.now).visits ≤ limits.nodes }
     requires first { first_composition classes.now ≡ Some composition }
     requires some_worker { 1 ≤ workers }
     requires few_workers { workers ≤ 64 }
-    ensures { TellsOutcome classes.now (run_limits limits) result }
+    ensures { TellsRun share classes.now (run_limits limits) result }
 {
     classes.facts();
     let sizes = sizes(alloc, classes)?;
@@ -171,6 +231,7 @@ fn begin<R: Threads + Sync, W: Watch + Sync>(
             rt,
             alloc,
             Run {
+                share,
                 limits,
                 table,
                 pricer: Pricer::new(alloc, classes),
@@ -204,9 +265,9 @@ fn finish<R: Threads + Sync, W: Watch + Sync>(
 ) -> Result<Outcome, Stop>
     requires some_worker { 1 ≤ workers }
     requires few_workers { workers ≤ 64 }
-    requires legs { ReachesWithLegs run.pricer.classes (run_limits run.limits) run.table [] }
-    requires reached { Reaches run.pricer.classes (run_limits run.limits) run.table run.pricer.closed }
-    ensures { TellsOutcome run.entry.pricer.classes (run_limits run.entry.limits) result }
+    requires legs { HoldsFrom run.share (run_limits run.limits) (λ free. ReachesWithLegs run.pricer.classes free run.table []) }
+    requires reached { Reaches run.share run.pricer.classes (run_limits run.limits) run.table run.pricer.closed }
+    ensures { TellsRun run.entry.share run.entry.pricer.classes (run_limits run.entry.limits) result }
 {
     let mut legs = Vec::new(alloc);
     loop {
@@ -234,11 +295,11 @@ fn stop(run: Run<'_>, refusal: Refusal) -> Stop
 
 // Makes the answer once everybody is settled: spreads the columns of positive value, and makes the certificate of the closed rows.
 fn answer(alloc: Global, run: Run<'_>, legs: Vec<Leg>) -> Result<Outcome, Stop>
-    requires legs { ReachesWithLegs run.pricer.classes (run_limits run.limits) run.table legs.items }
-    requires reached { Reaches run.pricer.classes (run_limits run.limits) run.table run.pricer.closed }
+    requires legs { HoldsFrom run.share (run_limits run.limits) (λ free. ReachesWithLegs run.pricer.classes free run.table legs.items) }
+    requires reached { Reaches run.share run.pricer.classes (run_limits run.limits) run.table run.pricer.closed }
     requires shut { run.table.in_stage ≡ false }
     requires settled { length run.table.sizes ≤ settled_count run.table }
-    ensures { TellsOutcome run.entry.pricer.classes (run_limits run.entry.limits) result }
+    ensures { TellsRun run.entry.share run.entry.pricer.classes (run_limits run.entry.limits) result }
 {
     let parts = parts(alloc, &run.table)?;
     let classes = run.pricer.classes();

@@ -1,8 +1,8 @@
-//! The quotas of all values of a pool with weights, in the order of `value_quotas` of `define_cost_bounds`.
+//! The quotas of all values of a pool with weights, in the order of `value_quotas` of `define_conflicts`.
 
 ghost use Rattle.std.specs.Prelude.{◌≡◌, ◌++◌, [], ◌∷◌, IfOk, OnOk};
 ghost use Rattle.define_conflicts.specs.LeastMisses.{quotas_of};
-ghost use Rattle.define_cost_bounds.specs.CostBounds.{quotas_of_category, quotas_of_value, value_quotas};
+ghost use Rattle.define_conflicts.specs.AllQuotas.{quotas_of_category, quotas_of_value, value_quotas};
 
 use define_conflicts::{Counted, Quota, Side, WeightedQuota};
 use pool_model::{Category, Pool};

@@ -3,6 +3,7 @@ pub mod Front
 pub mod Pieces
 pub mod Pricers
 pub mod Pricing
+pub mod Sharing
 pub mod Steps
 pub mod Tallies
 pub mod Terms

@@ -4,7 +4,8 @@
 //! `panel`; `engine_tests` tests it.
 //!
 //! Promises: `first`, `best`, `pieces` and `best_from`, and the calls of `Pricer` and `PricedRow`, which keep the tables that each search
-//! needs of the closed rows and of the priced row. The modules `tally`, `weighing` and `greatest` and what they use are helpers.
+//! needs of the closed rows and of the priced row. `PricedRow::shared_from` searches below a front and shares a word with other searches, whose
+//! rule is `Beaten`. The modules `tally`, `weighing` and `greatest` and what they use are helpers.
 #![tactic(auto)]
 
 mod dividing;
@@ -15,12 +16,15 @@ mod priced;
 mod pricer;
 mod pricing;
 mod searching;
+mod sharing;
 mod tallies;
 mod tally;
 mod weighing;
+mod word;
 
 pub use define_rows::Row;
 pub use fronts::Front;
 pub use priced::PricedRow;
 pub use pricer::{Pricer, best, best_from, pieces, pricer_of};
 pub use searching::{SearchStop, first};
+pub use word::{Beaten, Scope};

@@ -1,11 +1,12 @@
 //! A row that is priced over closed rows, with all that the searches of its pricing read. `pricing_pool` shares it among its workers.
 
-ghost use Rattle.std.specs.Prelude.{◌≡◌, ◌∷◌, IfOk};
+ghost use Rattle.std.specs.Prelude.{◌≡◌, ◌≤◌, ◌∷◌, IfOk};
 ghost use Rattle.define_searches.specs.Classes.{IsSearchable};
 ghost use Rattle.define_searches.specs.Fronts.{HaveEntries};
 ghost use Rattle.std.specs.List.{AllByRecursion};
 ghost use Rattle.panel_search.specs.Answers.{AnswersBest, AnswersPieces, AnswersWeighed};
 ghost use Rattle.panel_search.specs.Pricers.{ArePriced};
+ghost use Rattle.panel_search.specs.Sharing.{AnswersShared, IsBounded, MayStand};
 ghost use Rattle.panel_search.specs.Terms.{AreTerms};
 ghost use Rattle.define_waves.specs.Below.{IsFront, best_below, search_from};
 ghost use Rattle.define_waves.specs.Waves.{pieces};
@@ -15,10 +16,13 @@ use crate::fronts::Front;
 use crate::greatest::Sums;
 use crate::pricing::{Terms, search_from, search_weighed};
 use crate::searching::SearchStop;
+use crate::sharing::search_sharing;
+use crate::word::{Beaten, Scope};
 use alike::{Classes, Composition};
 use define_rows::Row;
 use std::alloc::Global;
 use std::marker::Model;
+use std::sync::atomic::AtomicIn;
 
 /// A row that is priced over closed rows, with the greatest sums of units that classes give in each of them. The searches of a pricing
 /// change none of it, so they may read it side by side.
@@ -147,5 +151,38 @@ impl<'p> PricedRow<'p> {
     {
         self.classes.facts();
         search_weighed(alloc, &self.terms(), front.counts(), floor, nodes)
+    }
+
+    /// Searches like `weighed_from`, and shares `word` with other searches of this pricing. `seen` is the greatest word that the worker has
+    /// loaded, and the search goes on from it. A front is live only if its optimistic weight exceeds it too. The floor is at least 0 and at
+    /// least the row's right side. Fails with `Spent` only if the visits of `weighed_from` exceed `nodes`.
+    #[tactic(auto, using(crate::proofs::Kept::front_within))]
+    pub fn shared_from<S: Scope>(
+        &self,
+        alloc: Global,
+        word: &AtomicIn<Beaten<S>>,
+        seen: &mut u64,
+        front: &Front,
+        floor: i128,
+        nodes: u64,
+    ) -> Result<(Option<(Composition, i128)>, u64), SearchStop>
+        requires priced { S.priced ≡ self.now }
+        requires front { IsFront self.now.classes front.now }
+        requires bounded { IsBounded self.now floor 0 }
+        requires stands { MayStand self.now seen.old }
+        ensures no_less { seen.old ≤ seen.new }
+        ensures stands { MayStand self.now seen.new }
+        ensures answers { AnswersShared self.now front.now floor nodes result seen.new }
+    {
+        self.classes.facts();
+        search_sharing(
+            alloc,
+            &self.terms(),
+            word,
+            seen,
+            front.counts(),
+            floor,
+            nodes,
+        )
     }
 }

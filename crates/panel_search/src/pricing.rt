@@ -3,7 +3,7 @@
 
 ghost use Rattle.std.specs.Prelude.{◌≡◌, ◌≤◌, ◌<◌, ◌+◌, ◌++◌, [], ◌∷◌, true, false, ◌&&◌, length, take, drop, int_le, int_lt, Some, None, if◌then◌else◌, IfOk, OnOk, OnErr};
 ghost use Rattle.std.specs.List.{list_all};
-ghost use Rattle.panel_search.specs.Answers.{AnswersBest, AnswersBestWithin, AnswersWeighed, AnswersWeighedWithin};
+ghost use Rattle.panel_search.specs.Answers.{AnswersBest, AnswersBestWithin, AnswersWeighed, AnswersWeighedWithin, IsKept};
 ghost use Rattle.panel_search.specs.Front.{Tracks};
 ghost use Rattle.panel_search.specs.Pricing.{BeginsAt, StandsAt, Moves, EndsWithin, pricing_of, CanTakeWithin, children_best};
 ghost use Rattle.laws_of_fronts.specs.Front.{CanTake, AreWithin};
@@ -107,12 +107,12 @@ fn places_after(alloc: Global, front: &[usize], places: usize) -> Result<Vec<usi
 // weighs; the floor, and the composition that was kept last, if there is one; the visits, and the budget of visits.
 #[derive(Debug, Drop)]
 pub(crate) struct BestSearch {
-    counts: Vec<usize>,
-    tally: Tally,
+    pub(crate) counts: Vec<usize>,
+    pub(crate) tally: Tally,
     priced: Weights,
     closed: Vec<Weights>,
-    floor: i128,
-    is_found: bool,
+    pub(crate) floor: i128,
+    pub(crate) is_found: bool,
     kept: Vec<usize>,
     visits: u64,
     nodes: u64,
@@ -175,9 +175,17 @@ impl BestSearch {
         ensures { AnswersWeighedWithin (search_from terms.now.classes.now terms.now.closed.now terms.now.row.now (take depth self.counts.items) self.floor) self.nodes result }
     {
         self.below(terms, depth)?;
+        Ok(self.weighed_answer())
+    }
+
+    // Returns what was kept, with the floor, and the visits.
+    pub(crate) fn weighed_answer(self) -> (Option<(Composition, i128)>, u64)
+        ensures found { IsKept (pricing_of self) result.0 }
+        ensures visits { result.1 ≡ self.visits }
+    {
         let floor = self.floor;
         let (found, visits) = self.answer();
-        Ok((found.map(|composition| (composition, floor)), visits))
+        (found.map(|composition| (composition, floor)), visits)
     }
 
     // Returns what was kept, and the visits.
@@ -233,7 +241,7 @@ impl BestSearch {
     }
 
     // Counts a visit, if the budget allows one more.
-    fn spend(&mut self) -> Result<(), BudgetSpent>
+    pub(crate) fn spend(&mut self) -> Result<(), BudgetSpent>
         requires { self.old.visits ≤ self.old.nodes }
         ensures ok { OnOk result (self.old.visits < self.old.nodes) }
         ensures err { OnErr result (self.old.visits ≡ self.old.nodes) }
@@ -247,7 +255,7 @@ impl BestSearch {
     }
 
     // Keeps the front, which is a composition; its weight is the floor from now on.
-    fn keep(&mut self, terms: &Terms<'_>)
+    pub(crate) fn keep(&mut self, terms: &Terms<'_>)
         requires kept_places { length self.old.kept.items ≡ length self.old.counts.items }
         requires places { length self.old.counts.items ≡ length terms.now.classes.now.classes }
         requires priced { Weighs terms.now.classes.now terms.now.row.now self.old.counts.items self.old.priced }
@@ -266,7 +274,7 @@ impl BestSearch {
 
     // True if the child with `count` of the next class has an optimistic weight of at least the right side in each closed row, and above
     // the floor in the priced row. If so, the weights are then those of the child.
-    fn weights_allow(&mut self, terms: &Terms<'_>, depth: usize, count: usize) -> bool
+    pub(crate) fn weights_allow(&mut self, terms: &Terms<'_>, depth: usize, count: usize) -> bool
         requires terms { AreTerms terms.now }
         requires below { depth < length terms.now.classes.now.classes }
         requires live { is_reachable terms.now.classes.now (take depth self.old.counts.items ++ count ∷ []) ≡ true }

@@ -1,5 +1,5 @@
 -- Adding the outcomes of a wave's pieces, one by one, leads to the definition's wave, or stops for the same reason.
-use Rattle.std.proofs.Common.{◌≡◌, ℕ, zero, suc, ◌+◌, ◌-◌, ◌*◌, ◌<◌, ◌≤◌, List, [], ◌∷◌, ◌++◌, fold, length, map, take, ℤ, Ok, Err, refl, sym, ap, ◌∙◌, arith}
+use Rattle.std.proofs.Common.{◌≡◌, ℕ, zero, suc, ◌+◌, ◌-◌, ◌<◌, ◌≤◌, List, [], ◌∷◌, fold, length, map, take, Ok, Err, refl, sym, ap, ◌∙◌, arith}
 use Rattle.std.specs.Prelude.{slice_index_or}
 use Rattle.define_rows.specs.Row.{Row}
 use Rattle.define_searches.specs.Classes.{Classes}
@@ -17,14 +17,14 @@ use Rattle.pricing_pool.proofs.Taking.{piece_and_later, piece_visits, taken_ok, 
 abbrev pub came_up_to : Row → (List ℕ → Pricing) → Pricing → List (List ℕ) → ℕ → Pricing
 came_up_to row search begun fronts count = fold (take_piece row) begun (map search (take count fronts))
 
-one_more : (row : Row) (search : List ℕ → Pricing) (begun : Pricing) (fronts : List (List ℕ)) (place : ℕ) → place < length fronts →
+pub one_more : (row : Row) (search : List ℕ → Pricing) (begun : Pricing) (fronts : List (List ℕ)) (place : ℕ) → place < length fronts →
     came_up_to row search begun fronts (suc place) ≡ take_piece row (came_up_to row search begun fronts place) (search (slice_index_or fronts place []))
 one_more row search begun [] place l = absurd (omega arith)
 one_more row search begun (f ∷ fs) zero l = refl
 one_more row search begun (f ∷ fs) (suc place) l = one_more row search (take_piece row begun (search f)) fs place (omega arith)
 
 -- the visits before the piece at `place`, with those of this piece, are at most the visits after all pieces
-with_those_before : (row : Row) (search : List ℕ → Pricing) (begun : Pricing) (fronts : List (List ℕ)) (place : ℕ) → place < length fronts →
+pub with_those_before : (row : Row) (search : List ℕ → Pricing) (begun : Pricing) (fronts : List (List ℕ)) (place : ℕ) → place < length fronts →
     (came_up_to row search begun fronts place).visits + (search (slice_index_or fronts place [])).visits ≤ (fold (take_piece row) begun (map search fronts)).visits
 with_those_before row search begun [] place l = absurd (omega arith)
 with_those_before row search begun (f ∷ fs) zero l = piece_and_later row begun (search f) (map search fs)

@@ -4,3 +4,5 @@ mod Waving
 mod Answered
 mod Ended
 mod Whole
+mod SharedPieces
+mod SharedWaves

@@ -18,7 +18,7 @@ use std::alloc::Global;
 use std::thread::Threads;
 
 /// How many pieces each wave has, except the last one, which may have fewer.
-const WAVE: usize = 16;
+pub(crate) const WAVE: usize = 16;
 
 /// Searches the compositions that weigh at least the right side in each closed row, and more than its right side in `row`. Returns the one
 /// of greatest weight in `row`, the first of equals, or None if there is none; and the visits of the search in waves. From 1 to 64 workers
@@ -155,7 +155,7 @@ fn take_wave_of<R: Threads + Sync, W: Watch + Sync>(
 }
 
 /// Returns the fronts of the wave whose first front is at place `start`.
-fn part_from(fronts: &[Front], start: usize) -> &[Front]
+pub(crate) fn part_from(fronts: &[Front], start: usize) -> &[Front]
     requires { start < length fronts.now }
     ensures part { result.now ≡ take 16 (drop start fronts.now) }
     ensures some { 1 ≤ length result.now }

@@ -1,13 +1,15 @@
 //! One wave, as its workers see it.
 
-ghost use Rattle.std.specs.Prelude.{◌≡◌, ◌≤◌, length};
+ghost use Rattle.std.specs.Prelude.{◌≡◌, ◌≤◌, ◌<◌, [], length, slice_index_or};
 ghost use Rattle.std.specs.List.{AllByRecursion};
 ghost use Rattle.define_waves.specs.Below.{IsFront};
+ghost use Rattle.panel_search.specs.Sharing.{AnswersShared, IsBounded, MayStand};
 
 use crate::workers::{Outcome, Pieces};
-use panel_search::{Front, PricedRow};
+use panel_search::{Beaten, Front, PricedRow, Scope};
 use std::alloc::Global;
 use std::marker::Model;
+use std::sync::atomic::AtomicIn;
 
 /// A wave: the fronts of its pieces, with the number of the first; the floor; and how many visits each piece may make.
 #[derive(Debug, Drop)]
@@ -53,15 +55,43 @@ impl<'a> Wave<'a> {
             nodes,
         }
     }
+
+    /// Does nothing; its contract says what holds of the wave's fronts.
+    pub(crate) fn facts(&self)
+        ensures { AllByRecursion (IsFront self.now.priced.classes) self.now.fronts }
+    {
+        let _ = &self.fronts;
+    }
+
+    /// Searches the piece at `place`, and shares `word` with the other pieces. `seen` is the greatest word that the worker has loaded.
+    pub(crate) fn shared<S: Scope>(
+        &self,
+        alloc: Global,
+        word: &AtomicIn<Beaten<S>>,
+        seen: &mut u64,
+        place: usize,
+    ) -> Outcome
+        requires place { place < length self.now.fronts }
+        requires priced { S.priced ≡ self.now.priced }
+        requires bounded { IsBounded self.now.priced self.now.floor 0 }
+        requires stands { MayStand self.now.priced seen.old }
+        ensures stands { MayStand self.now.priced seen.new }
+        ensures answers { AnswersShared self.now.priced (slice_index_or self.now.fronts place []) self.now.floor self.now.nodes result seen.new }
+    {
+        let fronts = self.fronts;
+        let front = &fronts[place];
+        self.priced
+            .shared_from(alloc, word, seen, front, self.floor, self.nodes)
+    }
 }
 
 impl Pieces for Wave<'_> {
     ghost use Rattle.std.specs.Prelude.{length};
-    ghost use Rattle.pricing_pool.specs.Outcomes.{search_at};
+    ghost use Rattle.pricing_pool.specs.Outcomes.{answers_alone};
 
-    ghost search = { λ w. search_at w.priced w.fronts w.floor };
+    ghost answers = { answers_alone };
 
-    ghost budget = { λ w. w.nodes };
+    ghost stands = { λ w n. Unit {0} };
 
     ghost places = { λ w. length w.fronts };
 
@@ -73,7 +103,11 @@ impl Pieces for Wave<'_> {
         self.first.saturating_add(place as u64)
     }
 
-    fn searched(&self, alloc: Global, place: usize) -> Outcome {
+    fn handed(&self) -> u64 {
+        0
+    }
+
+    fn searched(&self, alloc: Global, place: usize, _word: &mut u64) -> Outcome {
         self.priced
             .weighed_from(alloc, &self.fronts[place], self.floor, self.nodes)
     }

@@ -2,14 +2,14 @@
 
 ghost use Rattle.std.specs.Prelude.{◌≡◌, ◌≤◌, ◌-◌, length, Err, OnOk, OnErr};
 ghost use Rattle.std.specs.List.{AllByRecursion};
-ghost use Rattle.pricing_pool.specs.Outcomes.{AreOfAll, HasAnswer, IsAnswer, search_at};
+ghost use Rattle.pricing_pool.specs.Outcomes.{AreOfAll, HasAnswer, IsAnswer, answers_alone};
 ghost use Rattle.pricing_pool.specs.SoFar.{CameTo, GoesOn, heavier, pricing_so_far};
 ghost use Rattle.panel_search.specs.declared.searching.SearchStop.TheVariants.{OutOfMemory};
 ghost use Rattle.define_waves.specs.Below.{IsFront};
 ghost use Rattle.define_waves.specs.Waves.{wave as wave_of};
 
 use crate::wave::Wave;
-use crate::workers::{Outcome, Pieces, work_side_by_side};
+use crate::workers::{Outcome, Pieces, Told, work_side_by_side};
 use alike::Composition;
 use outside::Watch;
 use panel_search::SearchStop;
@@ -51,7 +51,7 @@ impl SoFar {
     /// Adds the outcomes of a wave, in the order of its pieces.
     fn take_outcomes(
         &mut self,
-        outcomes: &[Vec<Outcome>],
+        outcomes: &[Vec<Told>],
         wave: &Wave<'_>,
         workers: usize,
         nodes: u64,
@@ -61,17 +61,18 @@ impl SoFar {
         requires within { self.old.visits ≤ nodes }
         requires floor { wave.now.floor ≡ self.old.floor }
         requires budget { wave.now.nodes ≡ nodes - self.old.visits }
-        requires outcomes { AreOfAll (search_at wave.now.priced wave.now.fronts wave.now.floor) wave.now.nodes workers 0 workers (length wave.now.fronts) outcomes.now }
+        requires outcomes { AreOfAll (answers_alone wave.now) workers 0 workers (length wave.now.fronts) outcomes.now }
         ensures { GoesOn (wave_of wave.now.priced.classes wave.now.priced.closed wave.now.priced.row (pricing_so_far self.old) wave.now.fronts) nodes result (pricing_so_far self.new) }
     {
         for place in 0..wave.count() {
-            self.take(outcome_of(outcomes, workers, place), nodes)?;
+            let (outcome, _) = outcome_of(outcomes, workers, place);
+            self.take(outcome, nodes)?;
         }
         Ok(())
     }
 
     /// Adds the outcome of a piece. Fails if the piece failed, or with `Spent` if the visits would exceed `nodes`.
-    fn take(&mut self, outcome: &Outcome, nodes: u64) -> Result<(), SearchStop>
+    pub(crate) fn take(&mut self, outcome: &Outcome, nodes: u64) -> Result<(), SearchStop>
         requires { self.old.visits ≤ nodes }
         ensures { CameTo outcome.now nodes result (pricing_so_far self.old) (pricing_so_far self.new) }
     {
@@ -103,8 +104,8 @@ impl SoFar {
     }
 }
 
-/// Returns the outcome of the piece at place `place` of a wave that `workers` workers searched.
-fn outcome_of<'o>(outcomes: &'o [Vec<Outcome>], workers: usize, place: usize) -> &'o Outcome
+/// Returns what was told of the piece at place `place` of a wave that `workers` workers searched.
+pub(crate) fn outcome_of<'o>(outcomes: &'o [Vec<Told>], workers: usize, place: usize) -> &'o Told
     requires some { 1 ≤ workers }
     requires all { HasAnswer outcomes.now workers place }
     ensures { IsAnswer outcomes.now workers place result.now }

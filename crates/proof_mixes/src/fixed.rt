@@ -62,8 +62,8 @@ pub(crate) fn weighed(entries: &[(usize, i64)], list: &[i64]) -> i128 {
 #[inline(always)]
 pub(crate) fn dot(xs: &[i64], ys: &[i64]) -> i128 {
     let mut sum: i128 = 0;
-    for (x, y) in xs.iter().zip(ys) {
-        sum = sum.wrapping_add(i128::from(*x).wrapping_mul(i128::from(*y)));
+    for place in 0..xs.len().min(ys.len()) {
+        sum = sum.wrapping_add(i128::from(xs[place]).wrapping_mul(i128::from(ys[place])));
     }
     sum
 }

@@ -85,9 +85,9 @@ fn identity(alloc: Global, size: usize) -> Result<Vec<Vec<i64>>, AllocError> {
 fn pivot_row(rows: &[Vec<i64>], is_used: &[bool], place: usize) -> Option<usize> {
     let mut greatest = LEAST_PIVOT;
     let mut found = None;
-    for (row, (entries, used)) in rows.iter().zip(is_used).enumerate() {
-        let entry = entries.get(place).copied().unwrap_or(0).unsigned_abs();
-        if !*used && entry > greatest {
+    for row in 0..rows.len().min(is_used.len()) {
+        let entry = rows[row].get(place).copied().unwrap_or(0).unsigned_abs();
+        if !is_used[row] && entry > greatest {
             greatest = entry;
             found = Some(row);
         }
@@ -114,11 +114,11 @@ fn eliminate(
     let pivot = own_left.get(place).copied().unwrap_or(0);
     divide(&mut own_left, pivot);
     divide(&mut own_right, pivot);
-    for (entries, others) in left.iter_mut().zip(right.iter_mut()) {
-        let factor = entries.get(place).copied().unwrap_or(0);
+    for other in 0..left.len().min(right.len()) {
+        let factor = left[other].get(place).copied().unwrap_or(0);
         if factor != 0 {
-            subtract(entries, factor, &own_left);
-            subtract(others, factor, &own_right);
+            subtract(&mut left[other], factor, &own_left);
+            subtract(&mut right[other], factor, &own_right);
         }
     }
     if let Some(entries) = left.get_mut(row) {
@@ -140,9 +140,10 @@ pub(crate) fn divide(entries: &mut [i64], divisor: i64) {
 
 /// Subtracts a multiple of a row from another.
 pub(crate) fn subtract(entries: &mut [i64], factor: i64, others: &[i64]) {
-    for (entry, other) in entries.iter_mut().zip(others) {
-        if *other != 0 {
-            *entry = entry.saturating_sub(product(factor, *other));
+    for place in 0..entries.len().min(others.len()) {
+        let other = others[place];
+        if other != 0 {
+            entries[place] = entries[place].saturating_sub(product(factor, other));
         }
     }
 }

@@ -37,7 +37,7 @@ const MOST_ERROR: u64 = 1_048_576;
 const PATIENCE: u32 = 30;
 
 /// A variable of the program.
-#[derive(Clone, Copy, Debug, PartialEq, Eq)]
+#[derive(Clone, Copy, PartialEq, Eq)]
 pub(crate) enum Variable {
     /// How much the mix exceeds the point in a row. It should be 0 if the row isn't open.
     Missing(usize),
@@ -173,8 +173,10 @@ impl Master {
     pub fn set_entries(&mut self, entries: &[i64]) {
         self.has_least = true;
         self.count = 1;
-        for (sum, entry) in self.sums.iter_mut().zip(entries) {
-            *sum = fraction(i128::from(*entry), 1);
+        for (row, entry) in entries.iter().enumerate() {
+            if let Some(sum) = self.sums.get_mut(row) {
+                *sum = fraction(i128::from(*entry), 1);
+            }
         }
         self.age = STALE;
     }
@@ -182,9 +184,10 @@ impl Master {
     /// Returns the least weight, or the variable of `set_entries`, of the last `solve`: at least 0, in units of 2^-46. It is 0 if neither
     /// takes part.
     pub fn least(&self) -> i64 {
-        for (variable, value) in self.basis.iter().zip(&self.values) {
-            if *variable == Variable::Least {
-                return (*value).max(0).checked_div(self.count).unwrap_or(0);
+        for place in 0..self.basis.len().min(self.values.len()) {
+            if self.basis[place] == Variable::Least {
+                let value = self.values[place];
+                return value.max(0).checked_div(self.count).unwrap_or(0);
             }
         }
         0
@@ -198,10 +201,10 @@ impl Master {
         for column in &columns.list {
             shares.push(if column.is_off { 0 } else { least })?;
         }
-        for (variable, value) in self.basis.iter().zip(&self.values) {
-            if let Variable::Weight(number) = variable {
-                if let Some(share) = shares.get_mut(*number) {
-                    *share = share.saturating_add((*value).max(0));
+        for place in 0..self.basis.len().min(self.values.len()) {
+            if let Variable::Weight(number) = self.basis[place] {
+                if let Some(share) = shares.get_mut(number) {
+                    *share = share.saturating_add(self.values[place].max(0));
                 }
             }
         }
@@ -287,19 +290,21 @@ impl Master {
         let mut duals = mem::replace(&mut self.duals, Vec::new(self.alloc));
         duals.fill(0);
         let mut missing: i128 = 0;
-        for ((variable, value), row) in self.basis.iter().zip(&self.values).zip(&self.inverse) {
-            if *value < -SLACK {
-                add(&mut duals, row);
-                missing = missing.wrapping_sub(i128::from(*value));
-            } else if *value > SLACK && is_bound(&self.is_open, *variable, columns) {
-                take(&mut duals, row);
-                missing = missing.wrapping_add(i128::from(*value));
+        let rows = self.basis.len().min(self.inverse.len());
+        for place in 0..rows.min(self.values.len()) {
+            let value = self.values[place];
+            if value < -SLACK {
+                add(&mut duals, &self.inverse[place]);
+                missing = missing.wrapping_sub(i128::from(value));
+            } else if value > SLACK && is_bound(&self.is_open, self.basis[place], columns) {
+                take(&mut duals, &self.inverse[place]);
+                missing = missing.wrapping_add(i128::from(value));
             }
         }
         if missing == 0 {
-            for (variable, row) in self.basis.iter().zip(&self.inverse) {
-                if *variable == Variable::Least {
-                    add(&mut duals, row);
+            for place in 0..rows {
+                if self.basis[place] == Variable::Least {
+                    add(&mut duals, &self.inverse[place]);
                 }
             }
         }
@@ -325,20 +330,16 @@ impl Master {
                 found = Some(Variable::Least);
             }
         }
-        for (row, ((dual, is_open), is_missing)) in self
-            .duals
-            .iter()
-            .zip(&self.is_open)
-            .zip(&self.is_missing)
-            .enumerate()
-        {
-            if *is_open && !*is_missing && *dual > greatest {
-                greatest = *dual;
+        let rows = self.is_open.len().min(self.is_missing.len());
+        for row in 0..rows.min(self.duals.len()) {
+            let dual = self.duals[row];
+            if self.is_open[row] && !self.is_missing[row] && dual > greatest {
+                greatest = dual;
                 found = Some(Variable::Missing(row));
             }
         }
-        for (number, (column, is_used)) in columns.list.iter().zip(&self.is_used).enumerate() {
-            if *is_used || column.is_off {
+        for (number, column) in columns.list.iter().enumerate() {
+            if column.is_off || self.is_used.get(number).copied().unwrap_or(true) {
                 continue;
             }
             let mut gain = fit(weighed(&column.entries, &self.duals).wrapping_neg());
@@ -379,23 +380,20 @@ impl Master {
     /// Returns the place in the basis of the variable that leaves, and how far the entering one grows, or None if nothing stops it.
     fn leaving(&self, image: &[i64], columns: &Columns) -> Option<(usize, i64)> {
         let mut most = i128::MAX;
-        for ((variable, value), fall) in self.basis.iter().zip(&self.values).zip(image) {
-            if self.stops(*variable, *value, *fall, columns) {
-                let slack = if *fall > 0 { SLACK } else { -SLACK };
-                most = most.min(step(value.saturating_add(slack), *fall));
+        let places = self.basis.len().min(self.values.len()).min(image.len());
+        for place in 0..places {
+            let (value, fall) = (self.values[place], image[place]);
+            if self.stops(self.basis[place], value, fall, columns) {
+                let slack = if fall > 0 { SLACK } else { -SLACK };
+                most = most.min(step(value.saturating_add(slack), fall));
             }
         }
         let mut greatest = 0;
         let mut found = None;
-        for (place, ((variable, value), fall)) in self
-            .basis
-            .iter()
-            .zip(&self.values)
-            .zip(image)
-            .enumerate()
-        {
-            let own = step(*value, *fall);
-            if self.stops(*variable, *value, *fall, columns)
+        for place in 0..places {
+            let (value, fall) = (self.values[place], image[place]);
+            let own = step(value, fall);
+            if self.stops(self.basis[place], value, fall, columns)
                 && own <= most
                 && fall.unsigned_abs() > greatest
             {
@@ -409,9 +407,7 @@ impl Master {
     /// Lets a variable enter the basis at a place.
     fn change(&mut self, place: usize, entering: Variable, image: &[i64], step: i64) {
         let pivot = image.get(place).copied().unwrap_or(0);
-        for (value, fall) in self.values.iter_mut().zip(image) {
-            *value = value.saturating_sub(product(*fall, step));
-        }
+        subtract(&mut self.values, step, image);
         if let Some(value) = self.values.get_mut(place) {
             *value = step;
         }
@@ -420,11 +416,7 @@ impl Master {
             None => return,
         };
         divide(&mut own, pivot);
-        for (row, fall) in self.inverse.iter_mut().zip(image) {
-            if *fall != 0 {
-                subtract(row, *fall, &own);
-            }
-        }
+        subtract_from_each(&mut self.inverse, image, &own);
         if let Some(row) = self.inverse.get_mut(place) {
             *row = own;
         }
@@ -475,9 +467,7 @@ impl Master {
 
     /// Computes the values from the point and the inverse.
     fn compute_values(&mut self) {
-        for (value, row) in self.values.iter_mut().zip(&self.inverse) {
-            *value = fit(dot(row, &self.point) >> DIGITS);
-        }
+        write_products(&mut self.values, &self.inverse, &self.point);
     }
 
     /// Corrects the values once by what they miss of the point, and returns the most that they missed in a row.
@@ -486,18 +476,15 @@ impl Master {
         for own in &self.point {
             rest.push(i128::from(*own))?;
         }
-        for (variable, value) in self.basis.iter().zip(&self.values) {
-            match variable {
-                Variable::Missing(row) => put(&mut rest, *row, *value, 1),
-                Variable::Least => {
-                    for (own, sum) in rest.iter_mut().zip(&self.sums) {
-                        *own = own.wrapping_sub(i128::from(product(*value, *sum)));
-                    }
-                }
+        for place in 0..self.basis.len().min(self.values.len()) {
+            let value = self.values[place];
+            match self.basis[place] {
+                Variable::Missing(row) => put(&mut rest, row, value, 1),
+                Variable::Least => take_products(&mut rest, value, &self.sums),
                 Variable::Weight(number) => {
-                    if let Some(column) = columns.list.get(*number) {
+                    if let Some(column) = columns.list.get(number) {
                         for (row, entry) in &column.entries {
-                            put(&mut rest, *row, *value, entry.saturating_neg());
+                            put(&mut rest, *row, value, entry.saturating_neg());
                         }
                     }
                 }
@@ -510,10 +497,7 @@ impl Master {
             error = own.unsigned_abs().max(error);
             short.push(own)?;
         }
-        for (value, row) in self.values.iter_mut().zip(&self.inverse) {
-            let own = fit(dot(row, &short) >> DIGITS);
-            *value = value.saturating_add(own);
-        }
+        add_products(&mut self.values, &self.inverse, &short);
         Ok(error)
     }
 
@@ -606,15 +590,47 @@ fn step(value: i64, fall: i64) -> i128 {
 
 /// Adds a row to the duals.
 fn add(duals: &mut [i64], row: &[i64]) {
-    for (dual, entry) in duals.iter_mut().zip(row) {
-        *dual = dual.saturating_add(*entry);
+    for place in 0..duals.len().min(row.len()) {
+        duals[place] = duals[place].saturating_add(row[place]);
     }
 }
 
 /// Subtracts a row from the duals.
 fn take(duals: &mut [i64], row: &[i64]) {
-    for (dual, entry) in duals.iter_mut().zip(row) {
-        *dual = dual.saturating_sub(*entry);
+    for place in 0..duals.len().min(row.len()) {
+        duals[place] = duals[place].saturating_sub(row[place]);
+    }
+}
+
+/// Makes each value the sum of the products of its row and a list, rounded down.
+fn write_products(values: &mut [i64], rows: &[Vec<i64>], list: &[i64]) {
+    for place in 0..values.len().min(rows.len()) {
+        values[place] = fit(dot(&rows[place], list) >> DIGITS);
+    }
+}
+
+/// Adds to each value the sum of the products of its row and a list, rounded down.
+fn add_products(values: &mut [i64], rows: &[Vec<i64>], list: &[i64]) {
+    for place in 0..values.len().min(rows.len()) {
+        let own = fit(dot(&rows[place], list) >> DIGITS);
+        values[place] = values[place].saturating_add(own);
+    }
+}
+
+/// Subtracts a number times each of the sums.
+fn take_products(rest: &mut [i128], number: i64, sums: &[i64]) {
+    for place in 0..rest.len().min(sums.len()) {
+        rest[place] = rest[place].wrapping_sub(i128::from(product(number, sums[place])));
+    }
+}
+
+/// Subtracts from each row a number of its own times a list.
+fn subtract_from_each(rows: &mut [Vec<i64>], numbers: &[i64], list: &[i64]) {
+    for place in 0..rows.len().min(numbers.len()) {
+        let number = numbers[place];
+        if number != 0 {
+            subtract(&mut rows[place], number, list);
+        }
     }
 }
 

@@ -16,7 +16,7 @@ use proof_limits::{Budget, Narrow, ProveStop, wide_mul};
 use proof_mixes::{Columns, Master, Solved, Whole, whole_weights};
 use proof_program::Program;
 use proof_stages::{Chances, CompositionSearch};
-use std::alloc::Global;
+use std::alloc::{AllocError, Global};
 
 /// What the greatest weight of a search is rounded to: 2^22 at first.
 const COARSE: i128 = 4_194_304;
@@ -40,7 +40,7 @@ const MOST_ASIDE: u32 = 80;
 const LEAST_WEIGHT: i64 = 65_536;
 
 /// The result for a point.
-#[derive(Debug, Drop)]
+#[derive(Drop)]
 pub(crate) enum Mixed {
     /// Panels with weights.
     Found(Vec<WeightedPanel>),
@@ -51,7 +51,7 @@ pub(crate) enum Mixed {
 }
 
 /// Whether a point is a mix of compositions.
-#[derive(Clone, Copy, Debug, PartialEq, Eq)]
+#[derive(Clone, Copy, PartialEq, Eq)]
 enum Place {
     Inside,
     Outside,
@@ -215,16 +215,11 @@ impl ClassMix<'_> {
     /// Spreads the compositions over panels.
     fn panels(&self, whole: &Whole) -> Result<Vec<WeightedPanel>, ProveStop> {
         let mut parts = Vec::new(self.alloc);
-        for (column, weight) in self.columns.list.iter().zip(&whole.weights) {
-            if *weight > 0 {
-                let mut counts = Vec::new(self.alloc);
-                for count in &self.free.all_counts(&column.counts)? {
-                    counts.push(usize::try_from(*count).unwrap_or(0))?;
-                }
-                parts.push(Weighted {
-                    weight: *weight,
-                    counts,
-                })?;
+        for column in 0..self.columns.list.len().min(whole.weights.len()) {
+            let weight = whole.weights[column];
+            if weight > 0 {
+                let counts = self.sizes(&self.columns.list[column].counts)?;
+                parts.push(Weighted { weight, counts })?;
             }
         }
         let mut classes = self.shares_left(whole, &parts)?;
@@ -233,6 +228,15 @@ impl ClassMix<'_> {
             panels.push(WeightedPanel { weight, members })?;
         }
         Ok(panels)
+    }
+
+    /// Returns how many members each class has in a composition, given by its counts of the free classes.
+    fn sizes(&self, counts: &[i64]) -> Result<Vec<usize>, AllocError> {
+        let mut sizes = Vec::new(self.alloc);
+        for count in &self.free.all_counts(counts)? {
+            sizes.push(usize::try_from(*count).unwrap_or(0))?;
+        }
+        Ok(sizes)
     }
 
     /// Returns the classes with the shares of their members.
@@ -252,9 +256,10 @@ impl ClassMix<'_> {
             }
         }
         let mut left = Vec::new(self.alloc);
-        for (place, (own, part)) in members.iter().zip(&self.free.parts).enumerate() {
-            let share = wide_mul(part.wide(), unit)?;
-            left.push(ClassLeft::new(self.alloc, own, share, place, parts)?)?;
+        for class in 0..members.len().min(self.free.parts.len()) {
+            let share = wide_mul(self.free.parts[class].wide(), unit)?;
+            let own = ClassLeft::new(self.alloc, &members[class], share, class, parts)?;
+            left.push(own)?;
         }
         Ok(left)
     }

@@ -11,7 +11,7 @@ use std::alloc::Global;
 /// Spans that hold of every panel that can be peeled off a remainder. A volunteer whose part equals the total is on each of these
 /// panels, and one whose part is 0 is on none. If a row's sum over the remainder is an end of the row's span times the total, the row's sum
 /// over each of these panels is that end. `sums` has the rows' sums over the remainder.
-#[derive(Debug, Drop)]
+#[derive(Drop)]
 pub(crate) struct Face {
     pub(crate) columns: Vec<Span>,
     pub(crate) rows: Vec<Span>,
@@ -48,16 +48,13 @@ impl Face {
 
     /// True if a panel, given by a value of 0 or 1 for each volunteer, is within the spans of the face.
     pub(crate) fn has(&self, rows: &[PanelRow], point: &[Narrow]) -> Result<bool, ProveStop> {
-        if !self
-            .columns
-            .iter()
-            .zip(point)
-            .all(|(span, value)| is_in(*span, value.wide()))
-        {
-            return Ok(false);
+        for column in 0..self.columns.len().min(point.len()) {
+            if !is_in(self.columns[column], point[column].wide()) {
+                return Ok(false);
+            }
         }
-        for (span, row) in self.rows.iter().zip(rows) {
-            if !is_in(*span, row.sum(point)?) {
+        for row in 0..self.rows.len().min(rows.len()) {
+            if !is_in(self.rows[row], rows[row].sum(point)?) {
                 return Ok(false);
             }
         }

@@ -116,8 +116,9 @@ impl<'a> FreeClasses<'a> {
 
     /// Returns the counts of the free classes of a composition, given by its count for each class, or None if a count is not in its span.
     pub(crate) fn free_counts(&self, counts: &[i64]) -> Result<Option<Vec<i64>>, AllocError> {
-        for (count, span) in counts.iter().zip(&self.spans) {
-            if *count < span.least().get() || span.greatest().get() < *count {
+        for class in 0..counts.len().min(self.spans.len()) {
+            let (count, span) = (counts[class], self.spans[class]);
+            if count < span.least().get() || span.greatest().get() < count {
                 return Ok(None);
             }
         }
@@ -134,9 +135,9 @@ impl<'a> FreeClasses<'a> {
         for span in &self.spans {
             all.push(span.least().get())?;
         }
-        for (class, count) in self.numbers.iter().zip(counts) {
-            if let Some(own) = all.get_mut(*class) {
-                *own = *count;
+        for place in 0..self.numbers.len().min(counts.len()) {
+            if let Some(own) = all.get_mut(self.numbers[place]) {
+                *own = counts[place];
             }
         }
         Ok(all)
@@ -146,13 +147,14 @@ impl<'a> FreeClasses<'a> {
     /// 0 for classes that are not free.
     pub(crate) fn weights(&self, duals: &[i64], most: i128) -> Result<Vec<Narrow>, AllocError> {
         let mut greatest: i128 = 1;
-        for (dual, _) in duals.iter().zip(&self.numbers) {
-            greatest = greatest.max(i128::from(dual.unsigned_abs()));
+        let places = duals.len().min(self.numbers.len());
+        for place in 0..places {
+            greatest = greatest.max(i128::from(duals[place].unsigned_abs()));
         }
         let mut weights = vec![in self.alloc; Narrow::ZERO; self.classes.columns()]?;
-        for (dual, class) in duals.iter().zip(&self.numbers) {
-            let scaled = i128::from(*dual).wrapping_neg().wrapping_mul(most);
-            if let Some(weight) = weights.get_mut(*class) {
+        for place in 0..places {
+            let scaled = i128::from(duals[place]).wrapping_neg().wrapping_mul(most);
+            if let Some(weight) = weights.get_mut(self.numbers[place]) {
                 *weight = i64::try_from(rounded(scaled, greatest))
                     .ok()
                     .and_then(Narrow::new)

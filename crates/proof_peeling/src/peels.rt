@@ -23,7 +23,7 @@ pub(crate) const MOST_NODES: u64 = 2000;
 const NEXT_NODES: u64 = 50;
 
 /// A turn of peeling: its number, which seeds its pseudo-random numbers, and how far these may shift wishes.
-#[derive(Clone, Copy, Debug)]
+#[derive(Clone, Copy)]
 pub(crate) struct Turn {
     pub(crate) number: u64,
     // how far pseudo-random numbers may shift each wish, up or down
@@ -81,11 +81,12 @@ fn wishes_of(
     random: &mut PseudoRandom,
 ) -> Result<Vec<i64>, ProveStop> {
     let mut wishes = Vec::new(alloc);
-    for (part, span) in remainder.parts.iter().zip(&face.columns) {
+    for column in 0..remainder.parts.len().min(face.columns.len()) {
+        let part = remainder.parts[column];
         let mut wish = 0;
-        if !span.is_point() {
+        if !face.columns[column].is_point() {
             let others = narrow_sub(remainder.total.wide(), part.wide())?;
-            wish = log(*part).saturating_sub(log(others));
+            wish = log(part).saturating_sub(log(others));
         }
         if turn.wildness > 0 {
             wish = wish.saturating_add(random.next_within(turn.wildness));
@@ -105,16 +106,18 @@ fn greatest_weight(
 ) -> Result<Narrow, ProveStop> {
     let total = remainder.total;
     let mut weight = total.wide();
-    for (part, value) in remainder.parts.iter().zip(point) {
-        let left = if value.is_zero() {
-            wide_sub(total.wide(), part.wide())?
+    for column in 0..remainder.parts.len().min(point.len()) {
+        let part = remainder.parts[column].wide();
+        let left = if point[column].is_zero() {
+            wide_sub(total.wide(), part)?
         } else {
-            part.wide()
+            part
         };
         weight = weight.min(left);
     }
-    for ((row, span), sum) in rows.iter().zip(&face.rows).zip(&face.sums) {
-        weight = weight.min(row_weight(row.sum(point)?, *span, *sum, total)?);
+    for row in 0..rows.len().min(face.rows.len()).min(face.sums.len()) {
+        let own = rows[row].sum(point)?;
+        weight = weight.min(row_weight(own, face.rows[row], face.sums[row], total)?);
     }
     narrow_add(weight, 0)
 }

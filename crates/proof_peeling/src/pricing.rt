@@ -8,10 +8,22 @@ use proof_stages::CompositionSearch;
 use std::alloc::Global;
 
 /// A row over classes: a coefficient for each class, and the span of its sums.
-#[derive(Debug, Drop)]
+#[derive(Drop)]
 pub(crate) struct ClassRow {
     coefficients: Vec<Narrow>,
     span: Span,
+}
+
+impl ClassRow {
+    /// Returns the sum of the counts, each times the coefficient of its class.
+    fn sum(&self, counts: &[i64]) -> Result<i128, ProveStop> {
+        let mut sum = 0;
+        for class in 0..self.coefficients.len().min(counts.len()) {
+            let coefficient = self.coefficients[class].wide();
+            sum = wide_add(sum, wide_mul(coefficient, i128::from(counts[class]))?)?;
+        }
+        Ok(sum)
+    }
 }
 
 /// Returns the rows over classes. A row whose sum over the point is an end of its span has that sum in each composition of a mix.
@@ -45,10 +57,7 @@ pub(crate) fn search_of(
 /// True if a composition, given by its count for each class, is within all rows.
 pub(crate) fn are_met(rows: &[ClassRow], counts: &[i64]) -> Result<bool, ProveStop> {
     for row in rows {
-        let mut sum = 0;
-        for (coefficient, count) in row.coefficients.iter().zip(counts) {
-            sum = wide_add(sum, wide_mul(coefficient.wide(), i128::from(*count))?)?;
-        }
+        let sum = row.sum(counts)?;
         if sum < row.span.least().wide() || row.span.greatest().wide() < sum {
             return Ok(false);
         }

@@ -7,14 +7,14 @@ use proof_limits::{Narrow, ProveStop, narrow_add, narrow_sub, times};
 use std::alloc::{AllocError, Global};
 
 /// A panel that was taken off, by its number among the panels seen, and how often.
-#[derive(Clone, Copy, Debug)]
+#[derive(Clone, Copy)]
 pub(crate) struct Taken {
     pub(crate) weight: Narrow,
     pub(crate) panel: usize,
 }
 
 /// What remains of a point: each volunteer's part, and the total; and the panels that were taken off.
-#[derive(Debug, Drop)]
+#[derive(Drop)]
 pub(crate) struct Remainder {
     pub(crate) parts: Vec<Narrow>,
     pub(crate) total: Narrow,

@@ -10,7 +10,7 @@ use proof_stages::ClassStage;
 use std::alloc::Global;
 
 /// A row over volunteers: its coefficients, the places of the coefficients that are not 0, and the span of its sums.
-#[derive(Debug, Drop)]
+#[derive(Drop)]
 pub(crate) struct PanelRow {
     pub(crate) coefficients: Vec<Narrow>,
     pub(crate) places: Vec<usize>,
@@ -18,7 +18,7 @@ pub(crate) struct PanelRow {
 }
 
 /// The rows that each panel of a lottery satisfies.
-#[derive(Debug, Drop)]
+#[derive(Drop)]
 pub struct PanelRows {
     pub(crate) rows: Vec<PanelRow>,
 }

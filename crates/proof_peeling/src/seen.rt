@@ -5,7 +5,7 @@ use proof_limits::{Narrow, ProveStop};
 use std::alloc::{AllocError, Global};
 
 /// Panels of one size, each once, in the order in which they were found: the numbers of their members, rising.
-#[derive(Debug, Drop)]
+#[derive(Drop)]
 pub(crate) struct SeenPanels {
     alloc: Global,
     size: usize,

@@ -16,7 +16,7 @@ use proof_table::{PseudoRandom, Table};
 use std::alloc::Global;
 
 /// How far a tail may go.
-#[derive(Clone, Copy, Debug)]
+#[derive(Clone, Copy)]
 pub(crate) struct TailLimits {
     /// The greatest absolute value that an entry of the tail's table may have.
     pub(crate) width: Narrow,
@@ -30,7 +30,7 @@ pub(crate) struct TailLimits {
 const MOST_TIE_BREAK: u64 = 64;
 
 /// The result of a tail.
-#[derive(Debug, Drop)]
+#[derive(Drop)]
 pub(crate) enum Tail {
     /// The weight and the number of each panel that makes up the remainder, and the denominator of the weights.
     Inside(Vec<(i128, usize)>, Narrow),
@@ -224,9 +224,9 @@ impl PanelMix {
     fn weights(&self, alloc: Global) -> Result<Tail, ProveStop> {
         let values = self.table.point(alloc)?;
         let mut weights = Vec::new(alloc);
-        for (value, number) in values.iter().zip(&self.panels) {
-            if *value != 0 {
-                weights.push((*value, *number))?;
+        for column in 0..values.len().min(self.panels.len()) {
+            if values[column] != 0 {
+                weights.push((values[column], self.panels[column]))?;
             }
         }
         Ok(Tail::Inside(weights, self.table.denominator()))
@@ -244,11 +244,13 @@ impl PanelMix {
         let mut wishes = vec![in alloc; Narrow::ZERO; remainder.parts.len()]?;
         let multipliers = self.table.refutation(alloc)?;
         let mut sum = 0;
-        for (i, multiplier) in self.moving.iter().zip(&multipliers) {
-            if let Some(wish) = wishes.get_mut(*i) {
-                *wish = -*multiplier;
+        for row in 0..self.moving.len().min(multipliers.len()) {
+            let (volunteer, multiplier) = (self.moving[row], multipliers[row]);
+            if let Some(wish) = wishes.get_mut(volunteer) {
+                *wish = -multiplier;
             }
-            sum = wide_sub(sum, times(*multiplier, value_at(&remainder.parts, *i)))?;
+            let part = value_at(&remainder.parts, volunteer);
+            sum = wide_sub(sum, times(multiplier, part))?;
         }
         if remainder.total < Narrow::ONE {
             return Err(ProveStop::Lost);

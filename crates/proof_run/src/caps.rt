@@ -4,8 +4,9 @@ ghost use Rattle.std.specs.Prelude.{◌≡◌, ◌+◌, ◌<◌, ◌^◌, IfOk, 
 ghost use Rattle.proof_limits.specs.Budgets.{SpendsOn};
 ghost use Rattle.proof_run.specs.Shapes.{IsCapSearch};
 
+use crate::splits::{SplitRow, SplitSearch, is_line};
 use proof_branching::{Found, Step, add_weights, prove_empty, reach_of, search_weighing};
-use proof_limits::{Budget, Narrow, ProveStop, Span, narrow_add, times, wide_add};
+use proof_limits::{Budget, Limit, Narrow, ProveStop, Span, narrow_add, times, wide_add};
 use proof_program::Program;
 use proof_stages::{row_spans, table_of};
 use proof_table::Table;
@@ -34,6 +35,56 @@ pub(crate) fn tree_of_none(
         budget,
     )?;
     steps.ok_or(ProveStop::Lost)
+}
+
+/// Returns the steps that show that there is no quota panel, by a search that splits where a table fails. Returns None if it meets a panel.
+/// Stops only if no node is left in `trees`, or for want of memory or width.
+pub(crate) fn split_tree_of_none(
+    alloc: Global,
+    program: &Program,
+    trees: &mut Budget,
+) -> Result<Option<Vec<Step>>, ProveStop>
+    ensures { SpendsOn trees.old trees.new }
+{
+    let rows = split_rows(alloc, program, &[], 0, 0)?;
+    SplitSearch::new(alloc, program.spans(), rows, Vec::new(alloc)).steps(trees)
+}
+
+/// Returns the rows of a search after the first `earlier` of the stages `closed`, in the order of their numbers: those of the program, and
+/// one for each earlier stage. `quotas` constraints come before those of stages.
+fn split_rows(
+    alloc: Global,
+    program: &Program,
+    closed: &[CapRow],
+    earlier: usize,
+    quotas: usize,
+) -> Result<Vec<SplitRow>, ProveStop>
+    requires { earlier < 2 ^ 63 }
+{
+    let mut before = Vec::new(alloc);
+    let mut after = Vec::new(alloc);
+    for row in program.rows() {
+        let number = program.number_after(row, earlier);
+        let own = SplitRow {
+            coefficients: Vec::from_slice(alloc, row.coefficients())?,
+            span: row.span(),
+            number: Some(number),
+        };
+        if number < quotas {
+            before.push(own)?;
+        } else {
+            after.push(own)?;
+        }
+    }
+    for (stage, own) in closed.iter().enumerate().take(earlier) {
+        before.push(SplitRow {
+            coefficients: Vec::from_slice(alloc, &own.weights)?,
+            span: Span::point(own.cap),
+            number: Some(quotas.saturating_add(stage)),
+        })?;
+    }
+    before.append(&mut after)?;
+    Ok(before)
 }
 
 /// Returns, for each row of the program, the number of its constraint at a stage after `stages` earlier ones.
@@ -115,6 +166,75 @@ impl<'a> CapSearch<'a> {
             }
             found => found,
         }
+    }
+
+    /// Returns the steps that show the cap of the next stage as `tree` does. Where that stops before no node is left, or where a step passes
+    /// the limits of a line, splits go on.
+    pub(crate) fn tree_or_splits(
+        &mut self,
+        weights: &[Narrow],
+        cap: Narrow,
+        trees: &mut Budget,
+    ) -> Result<Option<Vec<Step>>, ProveStop>
+        requires { IsCapSearch self.old }
+        ensures search { OnOk result (IsCapSearch self.new) }
+        ensures spends { SpendsOn trees.old trees.new }
+    {
+        let earlier = self.closed.len();
+        match self.tree(weights, cap, trees) {
+            Ok(None) => return Ok(None),
+            Ok(Some(steps)) if are_lines(&steps) => return Ok(Some(steps)),
+            Err(ProveStop::OutOfMemory) => return Err(ProveStop::OutOfMemory),
+            Err(ProveStop::Spent(Limit::Nodes)) => return Err(ProveStop::Spent(Limit::Nodes)),
+            _ => {}
+        }
+        self.begin_anew()?;
+        self.split_tree(earlier, weights, cap, trees)
+    }
+
+    /// Returns the steps that show the cap of the next stage, by a search that splits where a table fails. Later calls search among the
+    /// panels that attain this cap too.
+    pub(crate) fn next_split_tree(
+        &mut self,
+        weights: &[Narrow],
+        cap: Narrow,
+        trees: &mut Budget,
+    ) -> Result<Option<Vec<Step>>, ProveStop>
+        requires { IsCapSearch self.old }
+        ensures search { OnOk result (IsCapSearch self.new) }
+        ensures spends { SpendsOn trees.old trees.new }
+    {
+        let earlier = self.closed.len();
+        self.closed.push(CapRow {
+            weights: Vec::from_slice(self.alloc, weights)?,
+            cap,
+        })?;
+        self.split_tree(earlier, weights, cap, trees)
+    }
+
+    /// Returns the steps that show a cap after the first `earlier` stages, by a search that splits where a table fails, or None if it meets a
+    /// panel above the cap.
+    fn split_tree(
+        &self,
+        earlier: usize,
+        weights: &[Narrow],
+        cap: Narrow,
+        trees: &mut Budget,
+    ) -> Result<Option<Vec<Step>>, ProveStop>
+        requires { earlier < 2 ^ 63 }
+        ensures { SpendsOn trees.old trees.new }
+    {
+        let mut rows = split_rows(self.alloc, self.program, &self.closed, earlier, self.quotas)?;
+        rows.push(SplitRow {
+            coefficients: Vec::from_slice(self.alloc, weights)?,
+            span: span_above(weights, cap)?,
+            number: None,
+        })?;
+        let mut goal = Vec::new(self.alloc);
+        for weight in weights {
+            goal.push(weight.get())?;
+        }
+        SplitSearch::new(self.alloc, self.program.spans(), rows, goal).steps(trees)
     }
 
     /// Returns the steps that show the cap of a stage after `earlier` earlier ones, within the rows of the table, or None if a panel within
@@ -257,6 +377,14 @@ impl<'a> CapSearch<'a> {
             None => Err(ProveStop::Lost),
         }
     }
+}
+
+/// True if a line of a proof can have each step's numbers.
+fn are_lines(steps: &[Step]) -> bool {
+    steps.iter().all(|step| match step {
+        Step::Split(_) => true,
+        Step::Refuted(refutation) => is_line(refutation),
+    })
 }
 
 /// Returns the span of the weights above a cap that panels can have.

@@ -1,66 +1,97 @@
-//! The whole run: stages, a lottery of their point, and trees. Stands on all other modules. The two public calls are the crate's promises;
+//! The whole run: stages, a lottery of their point, and trees. Stands on all other modules. The three public calls are the crate's promises;
 //! the other functions are helpers.
 
-ghost use Rattle.std.specs.Prelude.{IfErr, IfOk};
+ghost use Rattle.std.specs.Prelude.{IfOk};
 ghost use Rattle.proof_limits.specs.Budgets.{SpendsOn};
-ghost use Rattle.proof_run.specs.Made.{IsOfBundle, IsOfPool, StopsSo};
+ghost use Rattle.proof_run.specs.Made.{IsMadeOf, IsOfBundleIfAny, IsOfPoolIfAny};
 
 use crate::answers::answer_of;
-use crate::caps::{CapSearch, tree_of_none};
+use crate::caps::{CapSearch, split_tree_of_none, tree_of_none};
 use crate::programs::Programs;
-use crate::trees::{searched_trees, stage_trees, tree_of_steps};
+use crate::trees::{TreesBy, searched_trees, stage_trees, tree_of_steps};
 use bundle_text::Bundle;
 use pool_model::Pool;
-use proof_limits::{Budget, Limit, ProveStop};
-use proof_model::Proof;
+use proof_limits::{Budget, ProveStop};
+use proof_model::{Proof, TreeLines};
 use proof_peeling::{PanelRows, Peeled, WeightedPanel, lottery_of_point, mix_of};
 use proof_program::Program;
 use proof_stages::{Chances, ClassStage, Columned, Relaxed, column_stages_from, relaxed_stages};
-use std::alloc::Global;
+use std::alloc::{AllocError, Global};
+
+/// What a run makes of a pool.
+#[derive(Debug, Drop)]
+pub enum RunMade {
+    /// A proof, which need not be valid.
+    Proof(Proof),
+    /// A lottery with its stages, whose trees weren't found. Nothing says that it is leximin greatest.
+    Lottery(Bundle),
+    /// Nothing.
+    Nothing,
+}
 
 /// Makes a proof of a lottery over a pool's quota panels, or that there is no quota panel, within a budget. `proof_verify` decides whether
-/// the proof is valid. Stops if a limit is spent, an operation passes 2^62, the run is lost, or memory runs out.
-pub fn make_proof(alloc: Global, pool: &Pool, budget: &mut Budget) -> Result<Proof, ProveStop>
-    ensures about { IfOk result (IsOfPool pool.now) }
+/// the proof is valid. Makes a lottery alone if its trees aren't found, and nothing if the budget is spent before, or if the run can't go on.
+///
+/// # Errors
+///
+/// Want of memory.
+pub fn make_proof(alloc: Global, pool: &Pool, budget: &mut Budget) -> Result<RunMade, AllocError>
+    ensures about { IfOk result (IsMadeOf pool.now) }
     ensures spends { SpendsOn budget.old budget.new }
-    ensures stops { IfErr result (StopsSo budget.new) }
 {
     match made(alloc, pool, budget) {
-        Ok(proof) => Ok(proof),
-        Err(stop) => Err(reported(stop, budget)),
+        Ok(made) => Ok(made),
+        Err(ProveStop::OutOfMemory) => Err(AllocError),
+        Err(_) => Ok(RunMade::Nothing),
     }
 }
 
-/// Makes a proof of a bundle's lottery and stages, with the trees that searches find within a budget. If some quota panel is above the cap
-/// of a stage, the trees of this and all later stages have no lines. Stops as `make_proof` does.
-pub fn prove_bundle(alloc: Global, bundle: &Bundle, budget: &mut Budget) -> Result<Proof, ProveStop>
-    ensures about { IfOk result (IsOfBundle bundle.now) }
-    ensures spends { SpendsOn budget.old budget.new }
-    ensures stops { IfErr result (StopsSo budget.new) }
+/// Makes a proof of a bundle's lottery and stages, with the trees that a search finds at the nodes of `trees`. Returns None if it finds
+/// none: a quota panel is above the cap of a stage, no node is left, or the search can't go on.
+///
+/// # Errors
+///
+/// Want of memory.
+pub fn prove_bundle(
+    alloc: Global,
+    bundle: &Bundle,
+    by: TreesBy,
+    trees: &mut Budget,
+) -> Result<Option<Proof>, AllocError>
+    ensures about { IfOk result (IsOfBundleIfAny bundle.now) }
+    ensures spends { SpendsOn trees.old trees.new }
 {
-    match searched(alloc, bundle, budget) {
-        Ok(proof) => Ok(proof),
-        Err(stop) => Err(reported(stop, budget)),
+    match searched(alloc, bundle, by, trees) {
+        Ok(found) => Ok(found),
+        Err(ProveStop::OutOfMemory) => Err(AllocError),
+        Err(_) => Ok(None),
     }
 }
 
-/// Returns a stop as the run reports it. The run is reported as lost if an entry passed a width below 2^62, or if pivots or nodes are left
-/// although the stop says that they are spent.
-fn reported(stop: ProveStop, budget: &Budget) -> ProveStop
-    ensures { StopsSo budget.now result }
+/// Makes a proof that a pool has no quota panel, by a search at the nodes of `trees`. Returns None if it finds none.
+///
+/// # Errors
+///
+/// Want of memory.
+pub fn prove_none(
+    alloc: Global,
+    pool: &Pool,
+    trees: &mut Budget,
+) -> Result<Option<Proof>, AllocError>
+    ensures about { IfOk result (IsOfPoolIfAny pool.now) }
+    ensures spends { SpendsOn trees.old trees.new }
 {
-    match stop {
-        ProveStop::BeyondWidth => ProveStop::Lost,
-        ProveStop::Spent(Limit::Pivots) if budget.pivots() > 0 => ProveStop::Lost,
-        ProveStop::Spent(Limit::Nodes) if budget.nodes() > 0 => ProveStop::Lost,
-        other => other,
+    match searched_none(alloc, pool, trees) {
+        Ok(found) => Ok(found),
+        Err(ProveStop::OutOfMemory) => Err(AllocError),
+        Err(_) => Ok(None),
     }
 }
 
 /// Makes a proof of a pool: first by the relaxation; if no panel can attain some cap of it, or no lottery of its point is found, by
 /// compositions.
-fn made(alloc: Global, pool: &Pool, budget: &mut Budget) -> Result<Proof, ProveStop>
-    ensures about { IfOk result (IsOfPool pool.now) }
+fn made(alloc: Global, pool: &Pool, budget: &mut Budget) -> Result<RunMade, ProveStop>
+    ensures about { IfOk result (IsMadeOf pool.now) }
     ensures spends { SpendsOn budget.old budget.new }
 {
     let programs = Programs {
@@ -92,8 +123,8 @@ fn by_compositions(
     programs: &Programs,
     known: &mut Vec<Vec<i64>>,
     budget: &mut Budget,
-) -> Result<Proof, ProveStop>
-    ensures about { IfOk result (IsOfPool pool.now) }
+) -> Result<RunMade, ProveStop>
+    ensures about { IfOk result (IsMadeOf pool.now) }
     ensures spends { SpendsOn budget.old budget.new }
 {
     match column_stages_from(alloc, &programs.by_class, known, budget)? {
@@ -109,7 +140,7 @@ fn by_compositions(
                 Peeled::Found(panels) => {
                     of_lottery(alloc, pool, programs, stages, &panels, budget)
                 }
-                _ => Err(ProveStop::Spent(Limit::Lottery)),
+                _ => Ok(RunMade::Nothing),
             }
         }
     }
@@ -149,14 +180,25 @@ fn of_lottery(
     stages: Vec<ClassStage>,
     panels: &[WeightedPanel],
     budget: &mut Budget,
-) -> Result<Proof, ProveStop>
-    ensures about { IfOk result (IsOfPool pool.now) }
+) -> Result<RunMade, ProveStop>
+    ensures about { IfOk result (IsMadeOf pool.now) }
     ensures spends { SpendsOn budget.old budget.new }
 {
     let answer = answer_of(alloc, &programs.by_class, &stages, panels)?;
-    let trees = stage_trees(alloc, programs, quotas_of(pool), stages, budget)?;
     let bundle = Bundle::new(pool.copy()?, answer).ok_or(ProveStop::Lost)?;
-    Proof::of_lottery(bundle, trees).ok_or(ProveStop::Lost)
+    match stage_trees(alloc, programs, quotas_of(pool), stages, budget) {
+        Ok(trees) => made_of(bundle, trees),
+        Err(ProveStop::OutOfMemory) => Err(ProveStop::OutOfMemory),
+        Err(_) => Ok(RunMade::Lottery(bundle)),
+    }
+}
+
+/// Returns the proof of a bundle by these trees.
+fn made_of(bundle: Bundle, trees: Vec<TreeLines>) -> Result<RunMade, ProveStop>
+    ensures { IfOk result (IsMadeOf bundle.pool) }
+{
+    let proof = Proof::of_lottery(bundle, trees).ok_or(ProveStop::Lost)?;
+    Ok(RunMade::Proof(proof))
 }
 
 /// Makes the proof that there is no quota panel.
@@ -165,25 +207,48 @@ fn of_no_panel(
     pool: &Pool,
     programs: &Programs,
     budget: &mut Budget,
-) -> Result<Proof, ProveStop>
-    ensures about { IfOk result (IsOfPool pool.now) }
+) -> Result<RunMade, ProveStop>
+    ensures about { IfOk result (IsMadeOf pool.now) }
     ensures spends { SpendsOn budget.old budget.new }
 {
     let steps = tree_of_none(alloc, &programs.by_volunteer, budget)?;
     let lines = tree_of_steps(alloc, steps)?;
-    Proof::of_no_panel(pool.copy()?, lines).ok_or(ProveStop::Lost)
+    let proof = Proof::of_no_panel(pool.copy()?, lines).ok_or(ProveStop::Lost)?;
+    Ok(RunMade::Proof(proof))
 }
 
-/// Makes a proof of a bundle.
-fn searched(alloc: Global, bundle: &Bundle, budget: &mut Budget) -> Result<Proof, ProveStop>
-    ensures about { IfOk result (IsOfBundle bundle.now) }
-    ensures spends { SpendsOn budget.old budget.new }
+/// Searches for a proof that there is no quota panel.
+fn searched_none(alloc: Global, pool: &Pool, trees: &mut Budget) -> Result<Option<Proof>, ProveStop>
+    ensures about { IfOk result (IsOfPoolIfAny pool.now) }
+    ensures spends { SpendsOn trees.old trees.new }
+{
+    let program = Program::by_volunteer(alloc, pool)?;
+    match split_tree_of_none(alloc, &program, trees)? {
+        Some(steps) => {
+            let lines = tree_of_steps(alloc, steps)?;
+            Ok(Proof::of_no_panel(pool.copy()?, lines))
+        }
+        None => Ok(None),
+    }
+}
+
+/// Searches for a proof of a bundle.
+fn searched(
+    alloc: Global,
+    bundle: &Bundle,
+    by: TreesBy,
+    trees: &mut Budget,
+) -> Result<Option<Proof>, ProveStop>
+    ensures about { IfOk result (IsOfBundleIfAny bundle.now) }
+    ensures spends { SpendsOn trees.old trees.new }
 {
     let program = Program::by_volunteer(alloc, bundle.pool())?;
     let search = CapSearch::new(alloc, &program, quotas_of(bundle.pool()))?;
     let stages = bundle.answer().certificate().stages();
-    let trees = searched_trees(alloc, search, stages, budget)?;
-    Proof::of_lottery(bundle.copy()?, trees).ok_or(ProveStop::Lost)
+    match searched_trees(alloc, search, stages, by, trees)? {
+        Some(found) => Ok(Proof::of_lottery(bundle.copy()?, found)),
+        None => Ok(None),
+    }
 }
 
 /// Returns how many constraints come before those of stages: one for the size, and one for each value.

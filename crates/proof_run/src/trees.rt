@@ -1,6 +1,7 @@
 //! The trees of a proof, whose lines are made of the steps of a search or of a refutation. Stands on `caps` and `programs`; `runs` uses
 //! this.
 
+ghost use Rattle.std.specs.Prelude.{OnOk};
 ghost use Rattle.proof_limits.specs.Budgets.{SpendsOn};
 ghost use Rattle.proof_run.specs.Shapes.{IsCapSearch};
 
@@ -75,33 +76,55 @@ fn leaf_line(alloc: Global, refutation: Refutation) -> Result<TreeLine, AllocErr
     Ok(TreeLine::leaf(Leaf::new(refutation.scale, multipliers)))
 }
 
-/// Returns a tree for each stage of a certificate, by a search for a panel above its cap. If some panel is above the cap of a stage, the
-/// trees of this and all later stages have no lines.
+/// How the trees of a bundle are searched.
+#[derive(Clone, Copy, Debug, PartialEq, Eq)]
+pub enum TreesBy {
+    /// By one table for all nodes of a stage, and by splits where it fails.
+    Tables,
+    /// By splits wherever the table of a node fails.
+    Splits,
+}
+
+/// Returns a tree for each stage of a certificate, by a search for a panel above its cap. Returns None if some panel is above the cap of a
+/// stage.
 pub(crate) fn searched_trees(
     alloc: Global,
     mut search: CapSearch<'_>,
     stages: &[Stage],
-    budget: &mut Budget,
-) -> Result<Vec<TreeLines>, ProveStop>
+    by: TreesBy,
+    trees: &mut Budget,
+) -> Result<Option<Vec<TreeLines>>, ProveStop>
     requires { IsCapSearch search }
-    ensures { SpendsOn budget.old budget.new }
+    ensures { SpendsOn trees.old trees.new }
 {
-    let mut trees = Vec::new(alloc);
-    let mut is_shown = true;
+    let mut found = Vec::new(alloc);
     for stage in stages {
-        let mut tree = None;
-        if is_shown {
-            let weights = narrow_weights(alloc, stage)?;
-            let cap = narrow_add(stage.cap(), 0)?;
-            tree = search.tree(&weights, cap, budget)?;
-            is_shown = tree.is_some();
-        }
-        match tree {
-            Some(steps) => trees.push(tree_of_steps(alloc, steps)?)?,
-            None => trees.push(TreeLines::new(Vec::new(alloc)))?,
+        let weights = narrow_weights(alloc, stage)?;
+        let cap = narrow_add(stage.cap(), 0)?;
+        match searched_tree(&mut search, &weights, cap, by, trees)? {
+            Some(steps) => found.push(tree_of_steps(alloc, steps)?)?,
+            None => return Ok(None),
         }
     }
-    Ok(trees)
+    Ok(Some(found))
+}
+
+/// Returns the steps that show the cap of the next stage, or None if a panel is above it.
+fn searched_tree(
+    search: &mut CapSearch<'_>,
+    weights: &[Narrow],
+    cap: Narrow,
+    by: TreesBy,
+    trees: &mut Budget,
+) -> Result<Option<Vec<Step>>, ProveStop>
+    requires { IsCapSearch search.old }
+    ensures search { OnOk result (IsCapSearch search.new) }
+    ensures spends { SpendsOn trees.old trees.new }
+{
+    match by {
+        TreesBy::Tables => search.tree_or_splits(weights, cap, trees),
+        TreesBy::Splits => search.next_split_tree(weights, cap, trees),
+    }
 }
 
 /// Returns the weights of a stage. Stops if the absolute value of one is above 2^62.

@@ -1,12 +1,13 @@
-//! The search for compositions that weigh enough. Stands on `tables` and on the searches of `proof_branching`; `columned` uses this.
+//! The search for compositions that weigh enough. Stands on `tables`, `searches` and on the searches of `proof_branching`; `columned` uses this.
 
 ghost use Rattle.std.specs.Prelude.{◌≡◌, ◌<◌, IfOk, IfSome, OnOk, length};
 ghost use Rattle.proof_stages.specs.Shapes.{IsFinder};
 ghost use Rattle.proof_limits.specs.Budgets.{SpendsOn};
 
+use crate::searches::reach;
 use crate::tables::{row_spans, table_of};
 use proof_branching::{Found, search, search_weighing};
-use proof_limits::{Budget, Narrow, ProveStop, Span, narrow_add, times, wide_add};
+use proof_limits::{Budget, Narrow, ProveStop, Span};
 use proof_program::Program;
 use proof_table::Table;
 use std::alloc::Global;
@@ -69,7 +70,7 @@ impl<'a> Finder<'a> {
         ensures spends { SpendsOn budget.old budget.new }
         ensures nodes { OnOk result (budget.new.nodes < budget.old.nodes) }
     {
-        let span = Span::reaching(need, reach(self.program, weights)?);
+        let span = Span::reaching(need, reach(self.program.spans(), weights)?);
         let found = search_weighing(
             self.alloc,
             &mut self.table,
@@ -104,13 +105,4 @@ fn point_of(found: Found, columns: usize) -> Result<Option<Vec<Narrow>>, ProveSt
         Found::Nothing => Ok(None),
         Found::Point(_) | Found::Doubt => Err(ProveStop::Lost),
     }
-}
-
-/// Returns the most that a point of the columns' spans weighs by the absolute values of the weights.
-fn reach(program: &Program, weights: &[Narrow]) -> Result<Narrow, ProveStop> {
-    let mut reach = 0;
-    for (weight, span) in weights.iter().zip(program.spans()) {
-        reach = wide_add(reach, times(weight.abs(), span.greatest()))?;
-    }
-    narrow_add(reach, 0)
 }

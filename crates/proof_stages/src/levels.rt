@@ -10,7 +10,7 @@ use proof_limits::{Narrow, ProveStop, narrow_add, narrow_div, wide_add, wide_mul
 use proof_program::Program;
 
 /// The sums of weights over settled and over unsettled columns.
-#[derive(Clone, Copy, Debug)]
+#[derive(Clone, Copy)]
 pub(crate) struct WeightSums {
     /// The sum over all members of settled columns: weight times chance, times the common denominator.
     pub(crate) settled: i128,

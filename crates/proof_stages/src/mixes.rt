@@ -13,7 +13,7 @@ use std::alloc::Global;
 const MOST_TIE_BREAK: u64 = 64;
 
 /// A composition, and whether it weighs less than the cap of a closed stage; if so, the mix gives it no weight any more.
-#[derive(Debug, Drop)]
+#[derive(Drop)]
 struct Known {
     counts: Vec<Narrow>,
     is_lighter: bool,
@@ -129,8 +129,8 @@ impl CompositionMix {
 /// Returns the weight of a composition: the sum of its counts times the weights of their columns.
 pub(crate) fn weight_of(weights: &[Narrow], counts: &[Narrow]) -> Result<Narrow, ProveStop> {
     let mut sum = 0;
-    for (weight, count) in weights.iter().zip(counts) {
-        sum = wide_add(sum, times(*weight, *count))?;
+    for column in 0..weights.len().min(counts.len()) {
+        sum = wide_add(sum, times(weights[column], counts[column]))?;
     }
     narrow_add(sum, 0)
 }

@@ -17,6 +17,7 @@ use proof_limits::{Budget, Narrow, ProveStop, Span, narrow_add, wide_mul};
 use proof_mixes::{Columns, Master, Solved, UNIT, fraction};
 use proof_program::Program;
 use std::alloc::Global;
+use std::mem;
 
 /// How many steps a stage may have, each of which may add a composition, and how many stages there may be.
 const MOST_STEPS: u32 = 5000;
@@ -38,7 +39,7 @@ const MOST_TRIES: u32 = 64;
 const MOST_ERROR: u64 = 1_048_576;
 
 /// How a step of the search for a stage ended.
-#[derive(Clone, Copy, Debug, PartialEq, Eq)]
+#[derive(Clone, Copy, PartialEq, Eq)]
 enum Step {
     /// The stage is closed.
     Closed,
@@ -85,7 +86,7 @@ pub(crate) fn quick_stages(
 }
 
 /// Whether a composition is known to begin with.
-#[derive(Clone, Copy, Debug, PartialEq, Eq)]
+#[derive(Clone, Copy)]
 enum First {
     Known,
     /// There is none.
@@ -214,9 +215,9 @@ fn cover(
 
 /// Sets the weights of the columns of which a composition has members to 0.
 fn clear(weights: &mut [Narrow], counts: &[i64]) {
-    for (weight, count) in weights.iter_mut().zip(counts) {
-        if *count > 0 {
-            *weight = Narrow::ZERO;
+    for column in 0..weights.len().min(counts.len()) {
+        if counts[column] > 0 {
+            weights[column] = Narrow::ZERO;
         }
     }
 }
@@ -290,11 +291,7 @@ impl<'a> Quick<'a> {
             for span in self.program.spans() {
                 counts.push(span.least().get())?;
             }
-            for (place, count) in self.free.iter().zip(&column.counts) {
-                if let Some(own) = counts.get_mut(*place) {
-                    *own = *count;
-                }
-            }
+            write_counts(&mut counts, &self.free, &column.counts);
             known.push(counts)?;
         }
         Ok(())
@@ -412,9 +409,10 @@ impl<'a> Quick<'a> {
     /// at least 0.
     fn multipliers(&self) -> Result<Vec<i64>, ProveStop> {
         let mut multipliers = Vec::new(self.alloc);
-        for (dual, column) in self.master.duals.iter().zip(&self.free) {
-            let own = dual.saturating_neg();
-            let is_settled = self.chances.chance(*column).is_some();
+        let duals = &self.master.duals;
+        for place in 0..duals.len().min(self.free.len()) {
+            let own = duals[place].saturating_neg();
+            let is_settled = self.chances.chance(self.free[place]).is_some();
             multipliers.push(if is_settled { own } else { own.max(0) })?;
         }
         Ok(multipliers)
@@ -428,9 +426,9 @@ impl<'a> Quick<'a> {
     /// Returns the weight of each column, which is 0 if the column isn't free.
     fn spread_weights(&self, own: &[i64]) -> Result<Vec<Narrow>, ProveStop> {
         let mut weights = vec![in self.alloc; Narrow::ZERO; self.program.columns()]?;
-        for (column, number) in self.free.iter().zip(own) {
-            if let Some(weight) = weights.get_mut(*column) {
-                *weight = Narrow::new(*number).ok_or(ProveStop::Lost)?;
+        for place in 0..self.free.len().min(own.len()) {
+            if let Some(weight) = weights.get_mut(self.free[place]) {
+                *weight = Narrow::new(own[place]).ok_or(ProveStop::Lost)?;
             }
         }
         Ok(weights)
@@ -488,9 +486,9 @@ impl<'a> Quick<'a> {
             return Ok(None);
         };
         let mut weights = Vec::new(self.alloc);
-        for (dual, column) in duals.iter().zip(&self.free) {
-            let own = dual.saturating_neg();
-            if own < 0 && self.chances.chance(*column).is_none() {
+        for place in 0..duals.len().min(self.free.len()) {
+            let own = duals[place].saturating_neg();
+            if own < 0 && self.chances.chance(self.free[place]).is_none() {
                 return Ok(None);
             }
             weights.push(own)?;
@@ -541,7 +539,7 @@ impl<'a> Quick<'a> {
         let mut most = None;
         for column in &self.columns.list {
             if !column.is_off {
-                let weight = weight_of(own, &column.counts)?;
+                let weight = weight_of(own, &column.counts);
                 most = Some(most.map_or(weight, |most: i128| most.max(weight)));
             }
         }
@@ -557,25 +555,11 @@ impl<'a> Quick<'a> {
         chance: Chance,
     ) -> Result<(), ProveStop> {
         for column in self.columns.list.iter_mut() {
-            if weight_of(own, &column.counts)? < cap.wide() {
+            if weight_of(own, &column.counts) < cap.wide() {
                 column.is_off = true;
             }
         }
-        for (row, (column, weight)) in self.free.iter().zip(own).enumerate() {
-            if self.chances.chance(*column).is_none() && *weight > 0 {
-                let size = match self.entries.get_mut(row) {
-                    Some(entry) => {
-                        let size = entry.saturating_neg();
-                        *entry = 0;
-                        size
-                    }
-                    None => 0,
-                };
-                let amount = wide_mul(chance.num().wide(), i128::from(size))?;
-                self.master
-                    .set_row(row, fraction(amount, chance.den().wide()), false);
-            }
-        }
+        self.fix_rows(own, chance)?;
         self.search.add_row(&weights, Span::point(cap))?;
         settle(&mut self.chances, &weights, chance)?;
         self.stages.push(ClassStage {
@@ -585,13 +569,39 @@ impl<'a> Quick<'a> {
         })?;
         Ok(())
     }
+
+    /// Fixes the rows of the unsettled columns whose weight is above 0: each has the chance `chance`.
+    fn fix_rows(&mut self, own: &[i64], chance: Chance) -> Result<(), ProveStop> {
+        let free = self.free.as_slice();
+        for row in 0..free.len().min(own.len()) {
+            if own[row] > 0 && self.chances.chance(free[row]).is_none() {
+                let size = match self.entries.get_mut(row) {
+                    Some(entry) => mem::replace(entry, 0).saturating_neg(),
+                    None => 0,
+                };
+                let amount = wide_mul(chance.num().wide(), i128::from(size))?;
+                let fixed = fraction(amount, chance.den().wide());
+                self.master.set_row(row, fixed, false);
+            }
+        }
+        Ok(())
+    }
 }
 
 /// Returns the weight of a composition, by its counts of the free columns.
-fn weight_of(own: &[i64], counts: &[i64]) -> Result<i128, ProveStop> {
+fn weight_of(own: &[i64], counts: &[i64]) -> i128 {
     let mut sum: i128 = 0;
-    for (weight, count) in own.iter().zip(counts) {
-        sum = sum.wrapping_add(i128::from(*weight).wrapping_mul(i128::from(*count)));
+    for place in 0..own.len().min(counts.len()) {
+        sum = sum.wrapping_add(i128::from(own[place]).wrapping_mul(i128::from(counts[place])));
     }
-    Ok(sum)
+    sum
+}
+
+/// Writes the counts of the free columns `free` into the counts of all columns.
+fn write_counts(all: &mut [i64], free: &[usize], counts: &[i64]) {
+    for place in 0..free.len().min(counts.len()) {
+        if let Some(own) = all.get_mut(free[place]) {
+            *own = counts[place];
+        }
+    }
 }

@@ -9,7 +9,7 @@ use proof_table::common_divisor;
 use std::alloc::Global;
 
 /// Weights by column, a cap that no point of the quotas passes, and the number that the weights were divided by.
-#[derive(Debug, Drop)]
+#[derive(Drop)]
 pub(crate) struct Shown {
     pub(crate) weights: Vec<Narrow>,
     pub(crate) cap: Narrow,
@@ -44,9 +44,10 @@ pub(crate) fn shown_by(
 {
     let mut weights = vec![in alloc; Narrow::ZERO; program.columns()]?;
     let mut cap = 0;
-    for (row, multiplier) in program.rows().iter().zip(multipliers) {
-        cap = wide_add(cap, charge(row, *multiplier))?;
-        add_row(&mut weights, row, *multiplier)?;
+    let rows = program.rows();
+    for row in 0..rows.len().min(multipliers.len()) {
+        cap = wide_add(cap, charge(&rows[row], multipliers[row]))?;
+        add_row(&mut weights, &rows[row], multipliers[row])?;
     }
     let cap = charge_columns(program, chances, &mut weights, cap)?;
     lowest(weights, cap)
@@ -66,8 +67,10 @@ fn charge(row: &QuotaRow, multiplier: Narrow) -> i128 {
 fn add_row(weights: &mut [Narrow], row: &QuotaRow, multiplier: Narrow) -> Result<(), ProveStop>
     ensures { length weights.new ≡ length weights.old }
 {
-    for (weight, coefficient) in weights.iter_mut().zip(row.coefficients()) {
-        *weight = narrow_add(weight.wide(), times(multiplier, *coefficient))?;
+    let coefficients = row.coefficients();
+    for column in 0..weights.len().min(coefficients.len()) {
+        let amount = times(multiplier, coefficients[column]);
+        weights[column] = narrow_add(weights[column].wide(), amount)?;
     }
     Ok(())
 }
@@ -83,11 +86,13 @@ fn charge_columns(
     ensures { length weights.new ≡ length weights.old }
 {
     let mut cap = cap;
-    for (column, (weight, span)) in weights.iter_mut().zip(program.spans()).enumerate() {
+    let spans = program.spans();
+    for column in 0..weights.len().min(spans.len()) {
+        let (weight, span) = (weights[column], spans[column]);
         let is_charged = weight.get() < 0 || !span.least().is_zero();
         if chances.chance(column).is_none() && is_charged {
-            cap = wide_sub(cap, times(*weight, span.greatest()))?;
-            *weight = Narrow::ZERO;
+            cap = wide_sub(cap, times(weight, span.greatest()))?;
+            weights[column] = Narrow::ZERO;
         }
     }
     Ok(cap)

@@ -73,7 +73,7 @@ fn settled(
 }
 
 /// A stage, the chance of the columns that it settles, and whether its cap is a multiple of its weights' common divisor.
-#[derive(Debug, Drop)]
+#[derive(Drop)]
 struct FoundStage {
     stage: ClassStage,
     chance: Chance,
@@ -181,9 +181,11 @@ fn found_by(
     ensures { IfOk result (λ found. length found.stage.weights.items ≡ length shown.weights.items) }
 {
     let mut pairs = Vec::new(alloc);
-    for (row, multiplier) in program.rows().iter().zip(multipliers) {
+    let rows = program.rows();
+    for row in 0..rows.len().min(multipliers.len()) {
+        let multiplier = multipliers[row];
         if !multiplier.is_zero() {
-            pairs.push((program.number_after(row, earlier), *multiplier))?;
+            pairs.push((program.number_after(&rows[row], earlier), multiplier))?;
         }
     }
     let refutation = in_lowest_terms(alloc, shown.scale, &pairs)?;

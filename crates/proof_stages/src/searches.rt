@@ -101,9 +101,10 @@ impl CompositionSearch {
     /// Returns a search within the rows without a coefficient above 1 by absolute value.
     fn of_few_rows(&self) -> Result<CompositionSearch, ProveStop> {
         let mut search = CompositionSearch::new(self.alloc, &self.columns)?;
-        for (coefficients, span) in self.coefficients.iter().zip(&self.rows) {
+        for row in 0..self.coefficients.len().min(self.rows.len()) {
+            let coefficients = &self.coefficients[row];
             if coefficients.iter().all(|own| own.abs() <= Narrow::ONE) {
-                search.add_row(coefficients, *span)?;
+                search.add_row(coefficients, self.rows[row])?;
             }
         }
         Ok(search)
@@ -125,11 +126,9 @@ impl CompositionSearch {
 
     /// Returns the number of the first row that a point breaks, or None if it is within all.
     fn broken_by(&self, point: &[Narrow]) -> Result<Option<usize>, ProveStop> {
-        for (row, (coefficients, span)) in self.coefficients.iter().zip(&self.rows).enumerate() {
-            let mut sum = 0;
-            for (own, value) in coefficients.iter().zip(point) {
-                sum = wide_add(sum, times(*own, *value))?;
-            }
+        for row in 0..self.coefficients.len().min(self.rows.len()) {
+            let sum = sum_of(&self.coefficients[row], point)?;
+            let span = self.rows[row];
             if sum < span.least().wide() || span.greatest().wide() < sum {
                 return Ok(Some(row));
             }
@@ -147,7 +146,7 @@ impl CompositionSearch {
     ) -> Result<Found, ProveStop>
         ensures { SpendsOn budget.old budget.new }
     {
-        let span = Span::reaching(need, self.reach(weights)?);
+        let span = Span::reaching(need, reach(&self.columns, weights)?);
         if self.columns.len() != self.table.columns()
             || self.rows.len() != self.table.rows()
             || weights.len() != self.table.columns()
@@ -189,13 +188,23 @@ impl CompositionSearch {
             budget,
         )
     }
+}
 
-    /// Returns the most that a composition weighs by the absolute values of the weights.
-    fn reach(&self, weights: &[Narrow]) -> Result<Narrow, ProveStop> {
-        let mut reach = 0;
-        for (weight, span) in weights.iter().zip(&self.columns) {
-            reach = wide_add(reach, times(weight.abs(), span.greatest()))?;
-        }
-        narrow_add(reach, 0)
+/// Returns the most that a composition within the columns' spans weighs by the absolute values of the weights.
+pub(crate) fn reach(columns: &[Span], weights: &[Narrow]) -> Result<Narrow, ProveStop> {
+    let mut reach = 0;
+    for column in 0..columns.len().min(weights.len()) {
+        let greatest = columns[column].greatest();
+        reach = wide_add(reach, times(weights[column].abs(), greatest))?;
     }
+    narrow_add(reach, 0)
+}
+
+/// Returns the sum of a row's coefficients, each times the value of its column.
+fn sum_of(coefficients: &[Narrow], point: &[Narrow]) -> Result<i128, ProveStop> {
+    let mut sum = 0;
+    for column in 0..coefficients.len().min(point.len()) {
+        sum = wide_add(sum, times(coefficients[column], point[column]))?;
+    }
+    Ok(sum)
 }

@@ -57,10 +57,12 @@ impl Coefficients {
     // Adds the coefficients of a row. If memory runs out, those of the first columns stay added.
     fn push_row(&mut self, row: usize, values: &[Narrow]) -> Result<(), AllocError> {
         let mut greatest: u64 = 0;
-        for (own, value) in self.columns.iter_mut().zip(values) {
-            if !value.is_zero() {
-                own.push(Coefficient { row, value: *value })?;
-                greatest = greatest.max(value.get().unsigned_abs());
+        for (column, value) in values.iter().enumerate() {
+            if let Some(own) = self.columns.get_mut(column) {
+                if !value.is_zero() {
+                    own.push(Coefficient { row, value: *value })?;
+                    greatest = greatest.max(value.get().unsigned_abs());
+                }
             }
         }
         self.greatest.truncate(row);
@@ -87,8 +89,10 @@ impl Coefficients {
             }
         }
         self.columns.push(own)?;
-        for (greatest, value) in self.greatest.iter_mut().zip(values) {
-            *greatest = value.get().unsigned_abs().max(*greatest);
+        for (row, value) in values.iter().enumerate() {
+            if let Some(greatest) = self.greatest.get_mut(row) {
+                *greatest = value.get().unsigned_abs().max(*greatest);
+            }
         }
         Ok(())
     }
@@ -97,8 +101,9 @@ impl Coefficients {
     // coefficients times these multipliers passes 2^62, and no part of such a sum does.
     pub(crate) fn are_small(&self, multipliers: &[Narrow]) -> bool {
         let mut bound: u128 = 0;
-        for (greatest, multiplier) in self.greatest.iter().zip(multipliers) {
-            let own = u128::from(*greatest) * u128::from(multiplier.get().unsigned_abs());
+        for row in 0..self.greatest.len().min(multipliers.len()) {
+            let multiplier = multipliers[row].get().unsigned_abs();
+            let own = u128::from(self.greatest[row]) * u128::from(multiplier);
             bound = bound.saturating_add(own);
         }
         bound <= 1 << 62

@@ -9,7 +9,7 @@ const INCREMENT: u64 = 1442695040888963407;
 
 /// A stream of pseudo-random numbers. One seed gives the same numbers in every run, so that a run can be repeated. No proof rests on their
 /// values.
-#[derive(Debug, Drop)]
+#[derive(Drop)]
 pub struct PseudoRandom {
     state: u64,
 }

@@ -4,7 +4,7 @@
 use std::cmp::Reverse;
 
 // The sum of a row, or a column, by its number. In the order of variables all rows come before all columns, and the latest row is first.
-#[derive(Clone, Copy, Debug, PartialEq, Eq, PartialOrd, Ord)]
+#[derive(Clone, Copy, PartialEq, Eq, PartialOrd, Ord)]
 pub(crate) enum Variable {
     Row(Reverse<usize>),
     Column(usize),

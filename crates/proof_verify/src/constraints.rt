@@ -14,7 +14,7 @@ use std::alloc::{AllocError, Global};
 use std::marker::Model;
 
 /// A coefficient for each volunteer, and the least and greatest sum of its members' coefficients that a panel may have.
-#[derive(Debug, Drop)]
+#[derive(Drop)]
 pub(crate) struct Constraint {
     coefficients: Vec<i128>,
     lower: i128,
@@ -53,7 +53,7 @@ impl Constraint {
 }
 
 /// The constraints of a stage: the size, the values, the earlier stages, and the shared households, in this order.
-#[derive(Debug, Drop)]
+#[derive(Drop)]
 pub(crate) struct Constraints {
     rows: Vec<Constraint>,
     // the place of the stage's own constraint, once the stage is passed

@@ -15,7 +15,7 @@ use proof_model::{Leaf, Multiplier};
 use std::marker::Model;
 
 /// What is to be shown: that no panel that meets the constraints weighs more in the stage than its cap.
-#[derive(Debug, Drop)]
+#[derive(Drop)]
 pub(crate) struct Problem<'a> {
     constraints: &'a [Constraint],
     stage: &'a Stage,

@@ -12,7 +12,7 @@ use std::alloc::{AllocError, Global};
 use std::marker::Model;
 
 /// The volunteer on whom a split decides, and whether the next line is in the subtree with this volunteer or in the one without.
-#[derive(Debug, Drop)]
+#[derive(Drop)]
 pub(crate) struct Decision {
     volunteer: usize,
     is_in: bool,
@@ -50,7 +50,7 @@ impl Decision {
 }
 
 /// Decisions over a pool, with the standings where they lead.
-#[derive(Debug, Drop)]
+#[derive(Drop)]
 pub(crate) struct Path<'a> {
     pool: &'a Pool,
     decisions: Vec<Decision>,

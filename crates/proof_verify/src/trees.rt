@@ -24,7 +24,7 @@ const NO_NEXT_LINE: u8 = 11;
 const SHOWS_NO_CAP: u8 = 12;
 
 /// The number of a line, and the reason why it is refused.
-#[derive(Debug, Drop)]
+#[derive(Drop)]
 pub(crate) struct Fault {
     line: usize,
     reason: u8,

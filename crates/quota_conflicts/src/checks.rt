@@ -34,7 +34,11 @@ impl Model for Conflict {
 }
 
 impl Conflict {
-    fn new(quotas: Vec<Quota>, least_miss: Option<usize>, is_each_needed: bool) -> Conflict
+    pub(crate) fn new(
+        quotas: Vec<Quota>,
+        least_miss: Option<usize>,
+        is_each_needed: bool,
+    ) -> Conflict
         ensures { result ≡ record { quotas = quotas.items; least_miss = least_miss; is_each_needed = is_each_needed } }
     {
         Conflict {

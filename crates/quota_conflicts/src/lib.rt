@@ -20,6 +20,7 @@ mod searches;
 mod selections;
 mod shrinking;
 mod texts;
+mod together;
 
 pub use answers::{Explanation, reported, why};
 pub use checks::Conflict;
@@ -30,3 +31,4 @@ pub use misses::{asked, given, greatest_weight, times_below};
 pub use searches::selection_of;
 pub use selections::{are_below, keep_standings};
 pub use texts::conflict_text;
+pub use together::all_together;

@@ -2,8 +2,7 @@
 
 use crate::forms::{LineForm, Place, SECOND, Word};
 use crate::reading::{Entry, Reading, first_of, number_at, place_of};
-use crate::rows::{Checked, answer};
-use crate::showing::{Counted, Listed, Shown};
+use crate::rows::{Checked, first_of_rows};
 use std::alloc::{AllocError, Global};
 use std::str;
 use text_lines::{fields, signed_number};
@@ -12,17 +11,14 @@ impl Reading<'_> {
     /// Tests whether the first field is spelt as the word of the form. `word` is the part of the field that was taken for the word.
     pub(crate) fn check_spelling(&self, form: &LineForm, field: &[u8], word: &[u8]) -> Checked {
         let right = form.spelling;
-        let shown = Shown(field);
-        answer! { self.alloc;
+        first_of_rows! { self.alloc; shown: Shown(field), right: Words(right);
             word.len() < field.len() => "{shown} has a blank in the place of a TAB: fields are separated by one TAB each";
             field != right.as_bytes() => "the line begins with {shown}, and the word is spelt \"{right}\": in small letters, and without blanks";
         }
-        Ok(None)
     }
 
     /// Tests the fields after the word of a line of this form.
     pub(crate) fn check_fields(&self, form: &LineForm, rest: &[&[u8]]) -> Checked {
-        let LineForm { spelling, has, .. } = form;
         let given = rest.len();
         let is_counted = match given.checked_sub(form.fields.len()) {
             Some(more) if matches!(form.word, Word::Stage) => more == self.volunteers.len(),
@@ -35,11 +31,15 @@ impl Reading<'_> {
         let is_category = matches!(form.word, Word::Category);
         let is_late = matches!(form.word, Word::Category | Word::Value)
             && !self.volunteers.is_empty();
-        answer! { self.alloc;
+        let words = first_of_rows! { self.alloc;
+            spelling: Words(form.spelling), has: Words(form.has), given: Number(given), comes: Words(comes);
             is_late => "all categories and values come before the first volunteer";
             !is_counted => "\"{spelling}\" has {has}; here it has {given}";
             is_other && matches!(form.word, Word::Pool) => "{comes}";
             is_category && place_of(&self.categories, name).is_some() => "a category of this name came before";
+        }?;
+        if words.is_some() {
+            return Ok(words);
         }
         match form.word {
             Word::Category => self.check_name(name, self.categories.len(), 20),
@@ -54,18 +54,17 @@ impl Reading<'_> {
 
     fn check_value(&self, form: &LineForm, name: &[u8], rest: &[&[u8]]) -> Checked {
         let (Some(category), Some(values)) = (self.categories.last(), self.values.last()) else {
-            answer! { self.alloc; true => "a value comes after its category, and no category came yet"; }
-            return Ok(None);
+            return first_of_rows! { self.alloc;; true => "a value comes after its category, and no category came yet"; };
         };
-        let category = Shown(first_of(&category.fields));
         let numbers = self.check_numbers(form, rest)?;
         let lower = number_at(rest, 1);
         let upper = number_at(rest, 2);
-        answer! { self.alloc;
+        let words = first_of_rows! { self.alloc;
+            category: Shown(first_of(&category.fields)), lower: Number(lower), upper: Number(upper);
             place_of(values, name).is_some() => "category {category} has this value already";
             numbers.is_none() && upper < lower => "lower bound {lower} is above upper bound {upper}";
-        }
-        match numbers {
+        };
+        match words?.or(numbers) {
             None => self.check_name(name, values.len(), 50),
             words => Ok(words),
         }
@@ -73,7 +72,9 @@ impl Reading<'_> {
 
     fn check_volunteer(&self, id: &[u8], rest: &[&[u8]]) -> Checked {
         let is_late = 0 < self.passed_households || 0 < self.passed_standings;
-        answer! { self.alloc; is_late => "all volunteers come before the lines of households, seated and gone"; }
+        if is_late {
+            return first_of_rows! { self.alloc;; true => "all volunteers come before the lines of households, seated and gone"; };
+        }
         let names = rest.iter().skip(1);
         for ((category, values), name) in self
             .categories
@@ -87,20 +88,22 @@ impl Reading<'_> {
         }
         let given = rest.len().saturating_sub(1);
         let wanted = self.categories.len();
-        let names = Listed(&self.categories);
-        let values = Counted(given, "value", "values");
-        let categories = Counted(wanted, "category", "categories");
         let mut line = 0;
         for earlier in self.volunteers.iter() {
             if first_of(&earlier.fields) == id {
                 line = earlier.line;
             }
         }
-        answer! { self.alloc;
+        let words = first_of_rows! { self.alloc;
+            values: Counted(given, "value", "values"), categories: Counted(wanted, "category", "categories"),
+            names: Listed(&self.categories), line: Number(line);
             given != wanted => "the volunteer has {values}, and the pool has {categories} ({names})";
             0 < line => "this id is that of the volunteer in line {line}";
+        };
+        match words? {
+            None => self.check_name(id, self.volunteers.len(), 400),
+            words => Ok(words),
         }
-        self.check_name(id, self.volunteers.len(), 400)
     }
 
     /// Returns words on a value that isn't one of its category, and on what may be wrong.
@@ -120,18 +123,13 @@ impl Reading<'_> {
         }
         let has_meant = !plain.is_empty() && !meant.is_empty();
         let has_other = !other.is_empty();
-        let shown = Shown(given);
-        let of = Shown(first_of(&category.fields));
-        let names = Listed(values);
-        let meant = Shown(meant);
-        let other = Shown(other);
-        answer! { self.alloc;
+        first_of_rows! { self.alloc;
+            shown: Shown(given), of: Shown(first_of(&category.fields)), names: Listed(values), meant: Shown(meant), other: Shown(other);
             given.is_empty() => "{shown} is no value of {of} ({names}): the field is empty";
             has_meant => "{shown} is no value of {of} ({names}); perhaps {meant} is meant";
             has_other => "{shown} is no value of {of} ({names}); it is one of {other}, and values come in the order of the categories";
             true => "{shown} is no value of {of} ({names})";
         }
-        Ok(None)
     }
 
     /// Tests a line about a volunteer with this id, or the end of a pool, which may come where `seated` and `gone` may.
@@ -145,30 +143,28 @@ impl Reading<'_> {
         };
         let number = place_of(&self.volunteers, id);
         let is_behind = number < Some(passed);
-        answer! { self.alloc;
+        let words = first_of_rows! { self.alloc;;
             is_home && !self.is_second => "a text with households says 2 in its first line, in a bundle in the lines \"bundle\" and \"pool\"; this one says 1";
             is_home && 0 < self.passed_standings => "all households come before the lines \"seated\" and \"gone\"";
             !is_home && self.is_second && self.passed_households == 0 => "the text says version 2, which a text with households has, and no household came; without any it says version 1";
             !is_end && number.is_none() => "no volunteer has this id";
             !is_end && is_behind => "this volunteer doesn't come after the one of the line before: such lines are in the order of the volunteers, at most one for each";
-        }
-        match rest {
-            [_, household] => self.check_name(household, 0, 1),
-            _ => Ok(None),
+        };
+        match (words?, rest) {
+            (None, [_, household]) => self.check_name(household, 0, 1),
+            (words, _) => Ok(words),
         }
     }
 
     /// Tests a name or an id, of something of which there are `count` already and may be `most`.
     fn check_name(&self, name: &[u8], count: usize, most: usize) -> Checked {
         let length = name.len();
-        let shown = Shown(name);
-        answer! { self.alloc;
+        first_of_rows! { self.alloc; length: Number(length), shown: Shown(name), most: Number(most);
             length == 0 => "the name or id is empty";
             200 < length => "the name or id has {length} bytes, and 200 are the most";
             name.iter().any(u8::is_ascii_control) => "{shown} has a control character, which no name or id may have";
             most <= count => "this is one too many: {most} are the most";
         }
-        Ok(None)
     }
 
     /// Tests the fields that are numbers.
@@ -190,10 +186,10 @@ impl Reading<'_> {
             if !is_right {
                 return self.refuse_number(form, i, text, what, words);
             }
-            let shown = Shown(text);
-            let place = i.saturating_add(1);
-            answer! { self.alloc;
-                is_rising && number < Some(least) => "{shown} (field {place}) isn't above the number of its sort before it";
+            if is_rising && number < Some(least) {
+                return first_of_rows! { self.alloc; shown: Shown(text), place: Number(i.saturating_add(1));
+                    true => "{shown} (field {place}) isn't above the number of its sort before it";
+                };
             }
             least = match number {
                 Some(number) if is_rising => number.saturating_add(1),
@@ -204,23 +200,21 @@ impl Reading<'_> {
     }
 
     /// Says that field `i` isn't the number that may stand there, and what may.
-    fn refuse_number(
+    fn refuse_number<'b>(
         &self,
         form: &LineForm,
         i: usize,
-        text: &[u8],
-        what: &str,
-        words: &str,
+        text: &'b [u8],
+        what: &'b str,
+        words: &'b str,
     ) -> Checked {
-        let shown = Shown(text);
-        let place = i.saturating_add(1);
-        let volunteers = self.volunteers.len();
-        answer! { self.alloc;
+        first_of_rows! { self.alloc;
+            shown: Shown(text), place: Number(i.saturating_add(1)), volunteers: Number(self.volunteers.len()), what: Words(what),
+            words: Words(words);
             what == "volunteer" => "{shown} (field {place}) is no volunteer: there are {volunteers}, and they are numbered from 0 on";
             form.more.is_empty() => "{shown} is no {what}: it is {words}, in plain digits";
             true => "{shown} (field {place}) is no {what}: it is {words}, in plain digits";
         }
-        Ok(None)
     }
 
     /// Tests whether the line is UTF-8.
@@ -234,12 +228,17 @@ impl Reading<'_> {
                 for byte in field.iter().take(60) {
                     latin.push(char::from(*byte))?;
                 }
-                let shown = Shown(field);
-                let latin = Shown(latin.as_bytes());
-                answer! { self.alloc; true => "{shown} isn't UTF-8; in Latin-1, the old character set, it is {latin}: save the file as UTF-8"; }
+                return refuse_bytes(self.alloc, field, latin.as_bytes());
             }
         }
         Ok(None)
+    }
+}
+
+/// Says that a field isn't UTF-8, and what its bytes are in Latin-1.
+fn refuse_bytes<'b>(alloc: Global, field: &'b [u8], latin: &'b [u8]) -> Checked {
+    first_of_rows! { alloc; shown: Shown(field), latin: Shown(latin);
+        true => "{shown} isn't UTF-8; in Latin-1, the old character set, it is {latin}: save the file as UTF-8";
     }
 }
 

@@ -4,7 +4,7 @@ use crate::files::other_file;
 use crate::forms::{Place, before, form_like};
 use crate::reading::Reading;
 use crate::rows::{Done, say};
-use crate::showing::Shown;
+use crate::showing::push_shown;
 use crate::summaries::summary;
 use std::alloc::{AllocError, Global};
 use text_lines::TextFault;
@@ -35,20 +35,21 @@ pub fn words_about(
     let mut text = String::new(alloc);
     let mut reading = Reading::new(alloc, first);
     reading.told = usize::from(content.len() < bytes.len());
-    say! { text; 0 < reading.told => "line 1: the file begins with a byte order mark (the bytes EF BB BF, \\u{{feff}}), which no text of this program has: save it as UTF-8 without one."; }
+    say! { &mut text; mark: Words("\\u{feff}"); 0 < reading.told => "line 1: the file begins with a byte order mark (the bytes EF BB BF, {mark}), which no text of this program has: save it as UTF-8 without one."; };
     take_lines(&mut text, &mut reading, content)?;
     let told = reading.told;
     let returns = reading.returns;
     let tabs = reading.tabs;
-    let form = reading.form.spelling;
-    say! { text;
+    say! { &mut text;
+        first: Number(first), kind: Number(usize::from(kind)), returns: Number(returns), tabs: Number(tabs), told: Number(told),
+        form: Words(reading.form.spelling);
         told == 0 => "line {first}: the line has a fault of kind {kind}: docs/CLERK.md says what each kind means.";
         1 < returns => "{returns} lines end with a carriage return.";
         1 < tabs => "{tabs} lines end with a TAB.";
         1 < told => "{told} lines of this {form} are faulty.";
         told <= 1 => "Nothing else is wrong with what was read of this {form}.";
         reading.is_lost || MOST_TOLD <= told => "What follows wasn't read.";
-    }
+    };
     Ok(text)
 }
 
@@ -71,10 +72,9 @@ fn take_lines<'a>(text: &mut String, reading: &mut Reading<'a>, content: &'a [u8
         rest = piece;
     }
     if !rest.is_empty() {
-        let begin = Shown(before(rest, b'\t'));
-        let mut words = format!(in reading.alloc;
-            "the last line, which begins with {begin}, isn't ended by a line feed (LF), as every line has to be"
-        )?;
+        let mut words = format!(in reading.alloc; "the last line, which begins with ")?;
+        push_shown(&mut words, before(rest, b'\t'))?;
+        words.push_str(", isn't ended by a line feed (LF), as every line has to be")?;
         if let Some(flaw) = reading.take(number, rest)? {
             write!(words, "; besides, {flaw}")?;
         }
@@ -104,7 +104,8 @@ fn tell(text: &mut String, reading: &mut Reading, number: usize, line: &[u8], wo
     {
         let name = before(&line[word.len() + 1..], b'\t');
         let name = name.strip_suffix(b"\r").unwrap_or(name);
-        write!(text, ", {} {}", form.spelling, Shown(name))?;
+        write!(text, ", {} ", form.spelling)?;
+        push_shown(text, name)?;
     }
     writeln!(text, ": {words}.")
 }

@@ -1,7 +1,7 @@
 //! Recognizes files that are no text of this program, mostly by how they begin, and says what they are and what to do.
 
 use crate::forms::{Place, before, form_like};
-use crate::rows::{Checked, answer, rows};
+use crate::rows::{Checked, first_of_rows, rows};
 use std::alloc::Global;
 
 const UTF16: &str =
@@ -55,16 +55,19 @@ pub(crate) fn other_file(alloc: Global, content: &[u8]) -> Checked {
     let is_utf16 = matches!(content, [0, 1..=255, 0, ..] | [1..=255, 0, 1..=255, 0, ..]);
     let has_zero = content[..content.len().min(4096)].contains(&0);
     let has_returns = content.contains(&b'\r') && !content.contains(&b'\n');
-    answer! { alloc;
+    let words = first_of_rows! { alloc; known: Words(known), utf16: Words(UTF16);
         content.is_empty() => "This file is empty. Often the command that should have written it failed: `>` leaves an empty file. Call that command again, and look at its status.\n";
         text.is_empty() => "This file has only blanks and empty lines.\n";
         !known.is_empty() => "This file is {known}\n";
-        is_utf16 => "This file is {UTF16}\n";
+        is_utf16 => "This file is {utf16}\n";
         has_zero => "This file is no text: it has bytes 0. Give the pool, the bundle or the proof itself.\n";
         has_returns => "The lines of this file end with a carriage return alone (CR, as old Macs end lines). Save it with line ends of Unix, LF alone.\n";
         is_charter(content) => "This file looks like the charter of an office. It is read by: ./sortition import-charter --store STORE < FILE\n";
+    };
+    match words? {
+        None => table(alloc, content, first),
+        words => Ok(words),
     }
-    table(alloc, content, first)
 }
 
 /// Returns what a file is, known by its beginning or its first field, or no words.
@@ -122,7 +125,7 @@ fn table(alloc: Global, content: &[u8], first: &[u8]) -> Checked {
         None => false,
     };
     let (begin, more) = long_field(content);
-    answer! { alloc;
+    first_of_rows! { alloc; name: Words(name), separators: Words(separators), begin: Number(begin), more: Number(more);
         (is_register || is_rules) && separator == b',' && 0 < begin => "This file looks like the {name} of an office. It is read by: ./sortition import-{name} --store STORE < FILE\nline {begin}: a quote (\") opens a field here, and the field isn't closed in this line. It takes in {more} more lines, which aren't read as rows. If they are rows, close the quote or take it out.\n";
         (is_register || is_rules) && separator == b',' => "This file looks like the {name} of an office. It is read by: ./sortition import-{name} --store STORE < FILE\n";
         is_register || is_rules => "This file looks like the {name} of an office, but its fields aren't separated by commas. Save it as CSV with commas, in UTF-8; then it is read by: ./sortition import-{name} --store STORE < FILE\n";
@@ -130,7 +133,6 @@ fn table(alloc: Global, content: &[u8], first: &[u8]) -> Checked {
         !has_tab && 0 < commas.max(semicolons) => "This file is a table whose fields are separated by {separators} (CSV). If it is a sheet of people, tools/prepare.py makes the files of an office from it. If it is to be a pool, bundle or proof, its fields are separated by one TAB each.\n";
         is_spaced => "No line of this file has a TAB, and fields are separated by one TAB each. Blanks are in their place; some editors write them for the TAB key, and they are what one gets from a web page. Make the file again, or put TABs in.\n";
     }
-    Ok(None)
 }
 
 /// True if the line names all these columns, in any order and whatever their capitals, blanks and quotes.

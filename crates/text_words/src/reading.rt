@@ -4,8 +4,7 @@
 //! kinds of fault.
 
 use crate::forms::{FORMS, LineForm, POOL, Place, SECOND, Word, before, form_like};
-use crate::rows::{Checked, Done, answer};
-use crate::showing::Shown;
+use crate::rows::{Checked, Done, first_of_rows};
 use std::alloc::{AllocError, Global};
 use text_lines::{fields, number_up_to, signed_number};
 
@@ -151,19 +150,17 @@ impl<'a> Reading<'a> {
     /// Returns words on a line that begins with this field and isn't expected here, but soon if `is_soon`.
     fn refuse(&mut self, field: &[u8], is_soon: bool) -> Checked {
         let (comes, _) = self.place.words();
-        let shown = Shown(field);
         let is_entry = matches!(self.place, Place::Entries);
         let is_ended = matches!(self.place, Place::Nothing);
         let is_edge = is_ended || matches!(self.place, Place::FirstLine | Place::SecondOfProof);
         self.is_lost = is_edge && !is_soon;
-        answer! { self.alloc;
+        first_of_rows! { self.alloc; comes: Words(comes), shown: Shown(field);
             is_ended => "{comes}";
             is_entry && is_soon => "the line \"end\" of the pool is missing before this one";
             field.is_empty() => "the line is empty: {comes}";
             is_entry => "{shown} begins no line of a pool here: {comes}";
             true => "{shown} isn't expected here: {comes}";
         }
-        Ok(None)
     }
 
     /// Removes empty fields at the end of a line that are more than it needs. Returns words on the first line with such fields, and on the
@@ -184,11 +181,10 @@ impl<'a> Reading<'a> {
         rest.truncate(kept);
         self.returns = self.returns.saturating_add(usize::from(has_return));
         self.tabs = self.tabs.saturating_add(usize::from(has_tab));
-        answer! { self.alloc;
+        first_of_rows! { self.alloc;;
             has_return && self.returns == 1 => "the line ends with a carriage return (CR LF, as Windows ends lines): save the file with line ends of Unix, LF alone";
             has_tab && self.tabs == 1 => "the line ends with a TAB, which begins one more field, an empty one: remove the TABs at the ends of lines";
         }
-        Ok(None)
     }
 
     /// Goes on to the place after a line of this form, and notes what the line gives.

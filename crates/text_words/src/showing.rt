@@ -1,8 +1,8 @@
-//! Shows a name, an id or any field in quotes, so that a reader sees blanks at its ends, look-alikes and bytes that are no text.
+//! Shows a name, an id or any field in quotes, so that a reader sees blanks at its ends, look-alikes and bytes that are no text; and lists
+//! and counts.
 
 use crate::reading::{Entry, first_of};
-use crate::rows::rows;
-use std::fmt;
+use crate::rows::{Done, rows};
 
 /// The most characters that are shown of a field, and the most bytes that these have.
 const MOST_SHOWN: usize = 60;
@@ -12,45 +12,71 @@ const MOST_BYTES: usize = 240;
 /// The most names that are listed.
 const MOST_LISTED: usize = 12;
 
-/// A field in quotes. A character that is invisible is shown by its number, for instance as `\u{a0}`, and so is one that looks like a Latin
-/// letter, if the field has Latin letters. A byte that is no text is shown for instance as `\xe9`. A long field is cut.
-#[derive(Drop)]
-pub(crate) struct Shown<'a>(pub(crate) &'a [u8]);
+/// What words speak of.
+#[derive(Clone, Copy)]
+pub(crate) enum Part<'a> {
+    /// A field in quotes. A character that is invisible is shown by its number, for instance as `\u{a0}`, and so is one that looks like a
+    /// Latin letter, if the field has Latin letters. A byte that is no text is shown for instance as `\xe9`. A long field is cut.
+    Shown(&'a [u8]),
+    /// The names of the first 12 entries with commas between them, and how many more there are.
+    Listed(&'a [Entry<'a>]),
+    /// A number and the word for what is counted, for one or for several.
+    Counted(usize, &'static str, &'static str),
+    Number(usize),
+    Whole(i128),
+    Words(&'a str),
+}
 
-impl fmt::Display for Shown<'_> {
-    fn fmt<W: fmt::Write>(&self, f: &mut fmt::Formatter<W>) -> fmt::Result {
-        let length = self.0.len();
-        let is_latin = self.0.iter().any(u8::is_ascii_alphabetic);
-        let mut left = MOST_SHOWN;
-        let mut bytes: usize = 0;
-        f.write_str("\"")?;
-        for chunk in self.0[..length.min(MOST_BYTES)].utf8_chunks() {
-            for character in chunk.valid().chars().take(left) {
-                left = left.saturating_sub(1);
-                bytes = bytes.saturating_add(character.len_utf8());
-                if character == '"' || character == '\\' {
-                    write!(f, "\\{character}")?;
-                } else if is_among(&UNSEEN, character)
-                    || is_latin && is_among(&LOOK_ALIKE, character)
-                {
-                    let number = u32::from(character);
-                    write!(f, "\\u{{{number:x}}}")?;
-                } else {
-                    write!(f, "{character}")?;
-                }
-            }
-            for byte in chunk.invalid().iter().take(left) {
-                left = left.saturating_sub(1);
-                bytes = bytes.saturating_add(1);
-                write!(f, "\\x{byte:02x}")?;
-            }
+impl Part<'_> {
+    /// Adds this to a text.
+    pub(crate) fn push(self, text: &mut String) -> Done {
+        match self {
+            Part::Shown(field) => push_shown(text, field),
+            Part::Listed(entries) => push_listed(text, entries),
+            Part::Counted(1, one, _) => write!(text, "1 {one}"),
+            Part::Counted(number, _, several) => write!(text, "{number} {several}"),
+            Part::Number(number) => write!(text, "{number}"),
+            Part::Whole(number) => write!(text, "{number}"),
+            Part::Words(words) => text.push_str(words),
         }
-        f.write_str("\"")?;
-        if bytes < length {
-            write!(f, ".. ({length} bytes)")?;
-        }
-        Ok(())
     }
+}
+
+/// Adds a field in quotes.
+pub(crate) fn push_shown(text: &mut String, field: &[u8]) -> Done {
+    let length = field.len();
+    let is_latin = field.iter().any(u8::is_ascii_alphabetic);
+    let mut left = MOST_SHOWN;
+    let mut bytes: usize = 0;
+    text.push('"')?;
+    for chunk in field[..length.min(MOST_BYTES)].utf8_chunks() {
+        for character in chunk.valid().chars().take(left) {
+            left = left.saturating_sub(1);
+            bytes = bytes.saturating_add(character.len_utf8());
+            push_character(text, character, is_latin)?;
+        }
+        for byte in chunk.invalid().iter().take(left) {
+            left = left.saturating_sub(1);
+            bytes = bytes.saturating_add(1);
+            write!(text, "\\x{byte:02x}")?;
+        }
+    }
+    text.push('"')?;
+    if bytes < length {
+        write!(text, ".. ({length} bytes)")?;
+    }
+    Ok(())
+}
+
+/// Adds a character of a field, which has Latin letters if `is_latin`.
+fn push_character(text: &mut String, character: char, is_latin: bool) -> Done {
+    if character == '"' || character == '\\' {
+        text.push('\\')?;
+    } else if is_among(&UNSEEN, character) || is_latin && is_among(&LOOK_ALIKE, character) {
+        let number = u32::from(character);
+        return write!(text, "\\u{{{number:x}}}");
+    }
+    text.push(character)
 }
 
 /// The first and the last of characters that are invisible or have no picture: control characters, blanks other than the space, combining
@@ -79,37 +105,16 @@ fn is_among(table: &[(u32, u32)], character: char) -> bool {
     false
 }
 
-/// The names of the first 12 entries with commas between them, and how many more there are.
-#[derive(Drop)]
-pub(crate) struct Listed<'a>(pub(crate) &'a [Entry<'a>]);
-
-impl fmt::Display for Listed<'_> {
-    fn fmt<W: fmt::Write>(&self, f: &mut fmt::Formatter<W>) -> fmt::Result {
-        for (i, entry) in self.0.iter().take(MOST_LISTED).enumerate() {
-            if 0 < i {
-                f.write_str(", ")?;
-            }
-            write!(f, "{}", Shown(first_of(&entry.fields)))?;
+fn push_listed(text: &mut String, entries: &[Entry]) -> Done {
+    for (i, entry) in entries.iter().take(MOST_LISTED).enumerate() {
+        if 0 < i {
+            text.push_str(", ")?;
         }
-        match self.0.len() {
-            0 => f.write_str("it has none"),
-            number if MOST_LISTED < number => write!(f, " and {} more", number - MOST_LISTED),
-            _ => Ok(()),
-        }
+        push_shown(text, first_of(&entry.fields))?;
     }
-}
-
-/// A number and the word for what is counted, for one or for several.
-#[derive(Drop)]
-pub(crate) struct Counted(
-    pub(crate) usize,
-    pub(crate) &'static str,
-    pub(crate) &'static str,
-);
-
-impl fmt::Display for Counted {
-    fn fmt<W: fmt::Write>(&self, f: &mut fmt::Formatter<W>) -> fmt::Result {
-        let Counted(number, one, several) = *self;
-        write!(f, "{number} {}", if number == 1 { one } else { several })
+    match entries.len() {
+        0 => text.push_str("it has none"),
+        number if MOST_LISTED < number => write!(text, " and {} more", number - MOST_LISTED),
+        _ => Ok(()),
     }
 }

@@ -1,6 +1,6 @@
 use Rattle.std.proofs.Common.{ℕ, Vec, Global}
 use Rattle.std.proofs.lemmas.Result.{IfOk-weaker}
-use Rattle.command_covers.specs.CheckCover.{CheckCoverMeans}
+use Rattle.command_meanings.specs.CheckCover.{CheckCoverMeans}
 use Rattle.command_covers.specs.CoverFormat.{cover_format}
 use Rattle.command_browser.proofs.HasBytes.{check_cover_some, text_some}
 use Rattle.command_browser.proofs.Telling.{told_so}

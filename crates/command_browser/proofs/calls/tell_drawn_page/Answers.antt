@@ -1,7 +1,7 @@
 use Rattle.std.proofs.Common.{ℕ, None, Vec, Global}
 use Rattle.std.proofs.lemmas.Result.{IfOk-weaker}
-use Rattle.command_page.specs.Inputs.{bundle_or_proof_format}
-use Rattle.command_page.specs.Page.{DrawnPageMeans}
+use Rattle.command_shell.specs.BundlesOrProofs.{bundle_or_proof_format}
+use Rattle.command_meanings.specs.Page.{DrawnPageMeans}
 use Rattle.command_browser.proofs.HasBytes.{drawn_page_some, text_some, with_words_some}
 use Rattle.command_browser.proofs.Telling.{told_so}
 use Rattle.command_browser.proofs.calls.tell_drawn_page.Goals as goal

@@ -1,7 +1,7 @@
 use Rattle.std.proofs.Common.{ℕ, Vec, Global}
 use Rattle.std.proofs.lemmas.Result.{IfOk-weaker}
-use Rattle.command_page.specs.Inputs.{bundle_or_proof_format}
-use Rattle.command_page.specs.Page.{PageMeans}
+use Rattle.command_shell.specs.BundlesOrProofs.{bundle_or_proof_format}
+use Rattle.command_meanings.specs.Page.{PageMeans}
 use Rattle.command_browser.proofs.HasBytes.{page_some, text_some}
 use Rattle.command_browser.proofs.Telling.{told_so}
 use Rattle.command_browser.proofs.calls.tell_page.Goals as goal

@@ -6,7 +6,7 @@ use Rattle.define_lines.proofs.LineLemmas.{text_of-append}
 use Rattle.define_loosenings.proofs.Freed.{team_parts}
 use Rattle.define_pools.specs.Pool.{Category, Pool}
 use Rattle.command_meanings.specs.Lines.{panel_line}
-use Rattle.command_loosen.specs.Lines.{moved_lines, total_line}
+use Rattle.command_meanings.specs.LooseningLines.{moved_lines, total_line}
 use Rattle.command_loosen.proofs.lines.loosening_text.Goals as goal
 
 pub push_panel-requires : goal.push_panel-requires

@@ -3,7 +3,7 @@ use Rattle.std.specs.List.{flat_map, zip}
 use Rattle.std.proofs.lemmas.List.{take_all}
 use Rattle.std.proofs.lemmas.Slice.Zip.{length-zip, zip_end, zip_turn}
 use Rattle.define_lines.specs.Lines.{text_of}
-use Rattle.command_loosen.specs.Lines.{moved_line}
+use Rattle.command_meanings.specs.LooseningLines.{moved_line}
 use Rattle.command_loosen.proofs.Pairs.{pair_written}
 use Rattle.command_loosen.proofs.lines.push_values.Goals as goal
 

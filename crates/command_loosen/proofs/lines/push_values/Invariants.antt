@@ -1,7 +1,7 @@
 use Rattle.std.proofs.Common.{◌≡◌, ◌++◌, length, take}
 use Rattle.std.specs.List.{flat_map, zip}
 use Rattle.define_lines.specs.Lines.{text_of}
-use Rattle.command_loosen.specs.Lines.{moved_line}
+use Rattle.command_meanings.specs.LooseningLines.{moved_line}
 use Rattle.command_loosen.proofs.lines.push_values.Given as goal
 
 -- `text` gained the lines of the values read so far

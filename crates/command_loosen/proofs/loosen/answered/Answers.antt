@@ -6,7 +6,7 @@ use Rattle.command_shell.specs.declared.answer.Answer.{Answer}
 use Rattle.command_shell.specs.declared.status.Printed.TheVariants.{NoPanel}
 use Rattle.command_shell.specs.Answers.{IsRight, Prints, saying}
 use Rattle.command_shell.specs.Lines.{no_panel_line}
-use Rattle.command_loosen.specs.Loosening.{IsLeastLoosening, LoosenMeans, PrintsNoTeam}
+use Rattle.command_meanings.specs.Loosening.{IsLeastLoosening, LoosenMeans, PrintsNoTeam}
 use Rattle.command_loosen.proofs.Least.{no_panels, the_least}
 use Rattle.command_loosen.proofs.loosen.answered.Goals as goal
 

@@ -1,5 +1,4 @@
 use Rattle.command_loosen.proofs.loosen_by_proof.told.Goals as goal
 
 pub returns : goal.returns
-returns c =
-    λ left. record { loosening = c.args.loosened.now; least = c.requires.least; team = c.requires.team; lines = c.in_ok-loosening_text.ensures }
+returns c = record { loosening = c.args.loosened.now; least = c.requires.least; team = c.requires.team; lines = c.in_ok-loosening_text.ensures }

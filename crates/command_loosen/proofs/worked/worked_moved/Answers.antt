@@ -3,7 +3,7 @@ use Rattle.std.specs.Fmt.{digits}
 use Rattle.define_loosenings.specs.Loosenings.{Loosening, least_loosening}
 use Rattle.define_loosenings.specs.WorkedLoosenings.{one_woman}
 use Rattle.define_searches.specs.Classes.{are_alike}
-use Rattle.command_loosen.specs.Loosening.{visits_of}
+use Rattle.command_meanings.specs.Loosening.{visits_of}
 use Rattle.command_loosen.proofs.Least.{the_least}
 use Rattle.command_loosen.proofs.worked.worked_moved.Goals as goal
 

@@ -1,7 +1,7 @@
 use Rattle.std.proofs.Common.{◌≡◌, ◌≤◌, None, refl, arith}
 use Rattle.define_loosenings.specs.Loosenings.{least_loosening}
 use Rattle.define_pools.specs.WorkedExamples.{couple, nobody}
-use Rattle.command_loosen.specs.Loosening.{visits_of}
+use Rattle.command_meanings.specs.Loosening.{visits_of}
 use Rattle.command_loosen.proofs.Least.{no_panels}
 use Rattle.command_loosen.proofs.worked.worked_no_team.Goals as goal
 

@@ -3,8 +3,14 @@ use Rattle.command_desk.proofs.LinksRead.{none_read}
 use Rattle.command_office.proofs.Calls.{as_asked, imports_so, leaves, proofs_so, serves_so, shut, steps_so, texts_so}
 use Rattle.command_office.proofs.top_call.run.Goals as goal
 
+pub returns-in-Prove-clause-right : goal.returns-in-Prove-clause-right
+returns-in-Prove-clause-right g c = as_asked _ _ _ c.in-Prove.is (shut _ _ _ _ _ _ (leaves _ _ _ _ _ c.call_prove.ensures))
+
 pub returns-in-Lottery-clause-right : goal.returns-in-Lottery-clause-right
 returns-in-Lottery-clause-right g c = as_asked _ _ _ c.in-Lottery.is (shut _ _ _ _ _ _ (leaves _ _ _ _ _ c.call_lottery.ensures))
+
+pub returns-in-SharedLottery-clause-right : goal.returns-in-SharedLottery-clause-right
+returns-in-SharedLottery-clause-right g c = as_asked _ _ _ c.in-SharedLottery.is (shut _ _ _ _ _ _ (leaves _ _ _ _ _ c.call_shared_lottery.ensures))
 
 pub returns-in-Legs-clause-right : goal.returns-in-Legs-clause-right
 returns-in-Legs-clause-right g c = as_asked _ _ _ c.in-Legs.is (shut _ _ _ _ _ _ (leaves _ _ _ _ _ c.call_legs.ensures))

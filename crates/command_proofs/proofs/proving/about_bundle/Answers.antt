@@ -1,12 +1,6 @@
-use Rattle.std.proofs.lemmas.Result.{IfOk-weaker}
-use Rattle.command_shell.specs.declared.formats.PoolOrBundle.TheVariants as either
 use Rattle.command_shell.specs.Answers.{saying}
-use Rattle.command_proofs.proofs.Proved.{no_proof}
+use Rattle.command_proofs.proofs.Proved.{check_of_given}
 use Rattle.command_proofs.proofs.proving.about_bundle.Goals as goal
 
-pub returns-in-Ok-clause-right : goal.returns-in-Ok-clause-right
-returns-in-Ok-clause-right c =
-    IfOk-weaker c.told_of_bundle.result _ _ (λ answer means. means c.prove_bundle.new.budget c.args.bundle.now c.in-Ok.ensures.about) c.told_of_bundle.ensures
-
-pub returns-in-Err-clause-right : goal.returns-in-Err-clause-right
-returns-in-Err-clause-right c = IfOk-weaker c.stopped.result _ _ (λ answer means. no_proof c.prove_bundle.new.budget (either.Bundle c.args.bundle.now) (saying answer) means) c.stopped.ensures
+pub returns-in-Checked-clause-right : goal.returns-in-Checked-clause-right
+returns-in-Checked-clause-right c = check_of_given c.settle.new.trees c.args.bundle.now (saying c.in-Checked.answer) (rw c.in-Checked.is at c.in_ok-answer.ensures.right)

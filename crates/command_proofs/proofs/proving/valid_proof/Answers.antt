@@ -5,4 +5,4 @@ use Rattle.command_proofs.proofs.proving.valid_proof.Goals as goal
 
 pub returns : goal.returns
 returns c =
-    IfOk-weaker c.proof_text.result _ _ (λ answer tells. λ left pool valid. pool_told left (saying answer) pool c.args.proof.now c.facts.ensures valid tells) c.proof_text.ensures
+    IfOk-weaker c.proof_answer.result _ _ (λ answer tells. λ count pool valid. pool_told count (saying answer) pool c.args.proof.now c.facts.ensures valid tells) c.proof_answer.ensures

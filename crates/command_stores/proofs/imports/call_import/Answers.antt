@@ -1,6 +1,6 @@
 use Rattle.std.proofs.Common.{refl, subst}
 use Rattle.command_shell.specs.Told.{object}
-use Rattle.command_stores.specs.Imports.{ImportMeans}
+use Rattle.command_meanings.specs.Imports.{ImportMeans}
 use Rattle.command_stores.specs.StoreOutcomes.{SettlesAttached}
 use Rattle.command_stores.specs.StoreTold.{keeper_told}
 use Rattle.command_stores.proofs.Importing.{file_read, no_file, not_attached}

@@ -1,8 +1,6 @@
-use Rattle.std.proofs.Common.{subst}
 use Rattle.command_shell.specs.Told.{object}
 use Rattle.command_stores.specs.StoreTold.{keeper_told}
-use Rattle.proof_limits.specs.Budgets.{SpendsOn}
-use Rattle.command_stores.proofs.RoundProofs.{keeps_proof, no_proof}
+use Rattle.command_stores.proofs.RoundProofs.{keeps_proof}
 use Rattle.command_stores.proofs.proving.prove_open.Goals as goal
 
 pub returns-in-Ok-Valid-clause-settles : goal.returns-in-Ok-Valid-clause-settles
@@ -10,8 +8,3 @@ returns-in-Ok-Valid-clause-settles g c =
     keeps_proof c.args.proving c.args.tables.now c.args.pool.now c.in-Ok-Valid.proof
     (keeper_told (object (g.K.Keeper.tables c.args.keeper.now) (g.K.Keeper.tables c.settle_over.new.keeper) (g.K.Keeper.faults c.args.keeper.now) (g.K.Keeper.faults c.settle_over.new.keeper)) (g.K.Keeper.course c.args.keeper.now) (g.K.Keeper.course c.settle_over.new.keeper))
     c.settle_over.result c.requires.open_now (rw c.in-Ok-Valid.field-0-is at c.in-Ok-Valid.ensures.makes) c.settle_over.ensures.settles
-
-pub returns-in-Ok-Stopped-clause-settles : goal.returns-in-Ok-Stopped-clause-settles
-returns-in-Ok-Stopped-clause-settles g c =
-    no_proof c.args.proving c.args.tables.now c.args.pool.now c.proof_within.new.budget c.in-Ok-Stopped.answer (g.K.Keeper.tables c.args.keeper.now) (g.K.Keeper.faults c.args.keeper.now) (g.K.Keeper.course c.args.keeper.now)
-    c.requires.open_now (subst (λ old. SpendsOn old c.proof_within.new.budget) c.new-budget.ensures c.proof_within.ensures.spends) (rw c.in-Ok-Stopped.field-0-is at c.in-Ok-Stopped.ensures.makes)

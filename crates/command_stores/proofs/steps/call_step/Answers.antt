@@ -1,7 +1,7 @@
 use Rattle.command_shell.specs.Answers.{status_number}
 use Rattle.command_shell.specs.Told.{object, told}
 use Rattle.office_core.specs.Commands.{seen_command}
-use Rattle.command_stores.specs.Steps.{StepMeans}
+use Rattle.command_meanings.specs.Steps.{StepMeans}
 use Rattle.command_stores.specs.StoreTold.{keeper_told}
 use Rattle.command_stores.proofs.Answering.{ends}
 use Rattle.command_stores.proofs.steps.call_step.Goals as goal

@@ -1,5 +1,5 @@
 use Rattle.office_core.specs.Commands.{seen_command}
-use Rattle.command_stores.specs.Steps.{StepMeans}
+use Rattle.command_meanings.specs.Steps.{StepMeans}
 use Rattle.command_stores.proofs.Answering.{settles_over}
 use Rattle.command_stores.proofs.steps.settle.Goals as goal
 

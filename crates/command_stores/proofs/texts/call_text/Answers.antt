@@ -1,6 +1,6 @@
 use Rattle.command_shell.specs.Answers.{status_number}
 use Rattle.command_shell.specs.Told.{object, told}
-use Rattle.command_stores.specs.Steps.{TextMeans}
+use Rattle.command_meanings.specs.Steps.{TextMeans}
 use Rattle.command_stores.specs.StoreTold.{keeper_told}
 use Rattle.command_stores.proofs.Answering.{ends}
 use Rattle.command_stores.proofs.texts.call_text.Goals as goal

@@ -1,11 +1,8 @@
 use Rattle.command_texts.proofs.Equal.{as_command, draws_so, pages_so, short_draws_so}
 use Rattle.command_texts.proofs.answering.answer_text.Goals as goal
 
-pub returns-in-Prove : goal.returns-in-Prove
-returns-in-Prove c = as_command _ _ _ _ c.in-Prove.is c.answer_about.ensures
-
 pub returns-in-Verify : goal.returns-in-Verify
-returns-in-Verify c = as_command _ _ _ _ c.in-Verify.is c.answer_about-in-Verify.ensures
+returns-in-Verify c = as_command _ _ _ _ c.in-Verify.is c.answer_about.ensures
 
 pub returns-in-Bundle : goal.returns-in-Bundle
 returns-in-Bundle c = as_command _ _ _ _ c.in-Bundle.is c.answer_about-in-Bundle.ensures

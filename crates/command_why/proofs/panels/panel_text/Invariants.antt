@@ -1,6 +1,6 @@
 use Rattle.std.proofs.Common.{◌≡◌, [], ◌∷◌, ◌++◌, codes, take}
 use Rattle.std.specs.List.{flat_map}
-use Rattle.command_why.specs.Why.{id_line}
+use Rattle.command_meanings.specs.Why.{id_line}
 use Rattle.command_why.proofs.panels.panel_text.Given as goal
 
 -- `text` has the first line and the ids of the members read so far

@@ -58,7 +58,7 @@ returns-clause-searches c = record { panel = refl; panel_least = refl; panel_mos
 
 pub returns-clause-lottery : goal.returns-clause-lottery
 unfolding given_in command_table proof_commands draw_commands office_commands run_commands clap_on_literals
-returns-clause-lottery c = record { defaults = refl; least = refl; most = refl; no_bits = refl; more_bits = refl; more_pivots = refl; more_nodes = refl; no_workers = refl; more_workers = refl }
+returns-clause-lottery c = record { defaults = refl; least = refl; most = refl; share = refl; share_twice = refl; share_value = refl; no_bits = refl; more_bits = refl; more_pivots = refl; more_nodes = refl; no_workers = refl; more_workers = refl }
 
 pub returns-clause-legs : goal.returns-clause-legs
 unfolding given_in command_table proof_commands draw_commands office_commands run_commands clap_on_literals
@@ -66,7 +66,7 @@ returns-clause-legs c = record { defaults = refl; least = refl; most = refl; no_
 
 pub returns-clause-make : goal.returns-clause-make
 unfolding given_in command_table proof_commands draw_commands office_commands run_commands clap_on_literals
-returns-clause-make c = record { defaults = refl; most = refl; no_seed = refl; no_volunteers = refl; greater_seed = refl; nobody = refl; too_many = refl; more_bits = refl }
+returns-clause-make c = record { defaults = refl; most = refl; no_seed = refl; no_volunteers = refl; greater_seed = refl; nobody = refl; too_many = refl; more_bits = refl; share = refl }
 
 pub returns-clause-others : goal.returns-clause-others
 unfolding given_in command_table proof_commands draw_commands office_commands run_commands clap_on_literals

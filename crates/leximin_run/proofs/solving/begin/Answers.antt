@@ -2,11 +2,12 @@ use Rattle.std.proofs.Common.{◌≤◌, [], length, None, Err, sym, ap, ◌∙�
 use Rattle.std.specs.Prelude.{slice_index}
 use Rattle.std.specs.List.{All}
 use Rattle.define_rows.specs.Pivot.{start}
-use Rattle.define_runs.specs.Run.{Ends, TooWide, run_limits}
+use Rattle.define_runs.specs.Run.{TooWide, run_limits}
 use Rattle.exact_table.specs.Starting.{IsStarted}
-use Rattle.leximin_run.specs.Advancing.{Reaches}
+use Rattle.leximin_run.specs.Advancing.{HoldsFrom, Reaches}
+use Rattle.leximin_run.specs.Answers.{EndsFrom}
 use Rattle.leximin_run.specs.Tracing.{ReachesWithLegs}
-use Rattle.leximin_run.proofs.Beginning.{begun, begun_with_legs, may_start, wide_at_once}
+use Rattle.leximin_run.proofs.Beginning.{begun, begun_with_legs, may_start, wide_first}
 use Rattle.leximin_run.proofs.solving.begin.Goals as goal
 
 pub start-requires-clause-sizes : goal.start-requires-clause-sizes
@@ -28,20 +29,20 @@ pub finish-requires-clause-reached : goal.finish-requires-clause-reached
 finish-requires-clause-reached g c = λ lifetimes outlives.
     let table_is = sym (ap (λ sizes. start sizes c.args.composition c.args.limits.bits) (c.deref.ensures.value ∙ c.in_ok-sizes.ensures))
     ∙ sym (ap (start c.deref.result.now c.args.composition) c.bits.ensures.value) ∙ c.in-Ok.ensures in
-    subst (λ p. Reaches p.classes (run_limits c.args.limits) c.in-Ok.table p.closed) (sym c.new.ensures)
-    (begun c.args.classes.now (run_limits c.args.limits) c.args.composition c.requires.within c.requires.first c.facts.ensures c.bits.ensures.ranges c.in-Ok.table table_is)
+    subst (λ p. Reaches c.args.share p.classes (run_limits c.args.limits) c.in-Ok.table p.closed) (sym c.new.ensures)
+    (begun c.args.share c.args.classes.now (run_limits c.args.limits) c.args.composition c.requires.within c.requires.first c.facts.ensures c.bits.ensures.ranges c.in-Ok.table table_is)
 
 pub finish-requires-clause-legs : goal.finish-requires-clause-legs
 finish-requires-clause-legs g c = λ lifetimes outlives.
     let table_is = sym (ap (λ sizes. start sizes c.args.composition c.args.limits.bits) (c.deref.ensures.value ∙ c.in_ok-sizes.ensures))
     ∙ sym (ap (start c.deref.result.now c.args.composition) c.bits.ensures.value) ∙ c.in-Ok.ensures in
-    subst (λ p. ReachesWithLegs p.classes (run_limits c.args.limits) c.in-Ok.table []) (sym c.new.ensures)
-    (begun_with_legs c.args.classes.now (run_limits c.args.limits) c.args.composition c.requires.within c.requires.first c.in-Ok.table table_is)
+    subst (λ p. HoldsFrom c.args.share (run_limits c.args.limits) (λ free. ReachesWithLegs p.classes free c.in-Ok.table [])) (sym c.new.ensures)
+    (begun_with_legs c.args.share c.args.classes.now (run_limits c.args.limits) c.args.composition c.requires.within c.requires.first c.in-Ok.table table_is)
 
 pub returns-in-Err-Pass : goal.returns-in-Err-Pass
 returns-in-Err-Pass g c =
     let passes = subst (λ stop. IsStarted (Err stop) (start c.deref.result.now c.args.composition c.bits.result)) c.in-Err-Pass.field-0-is c.in-Err-Pass.ensures in
     let passed = sym (ap (λ sizes. start sizes c.args.composition c.args.limits.bits) (c.deref.ensures.value ∙ c.in_ok-sizes.ensures))
     ∙ sym (ap (start c.deref.result.now c.args.composition) c.bits.ensures.value) ∙ passes in
-    subst (λ pass. Ends c.args.classes.now (run_limits c.args.limits) (TooWide None pass)) (sym c.in-Err-Pass.pass-is)
-    (wide_at_once c.args.classes.now (run_limits c.args.limits) c.args.composition c.requires.within c.requires.first c.in-Err-Pass.pass passed)
+    subst (λ pass. EndsFrom c.args.share c.args.classes.now (run_limits c.args.limits) (TooWide None pass)) (sym c.in-Err-Pass.pass-is)
+    (wide_first c.args.share c.args.classes.now (run_limits c.args.limits) c.args.composition c.requires.within c.requires.first c.in-Err-Pass.pass passed)

@@ -3,9 +3,9 @@ use Rattle.std.specs.List.{enumerate_from, flat_map}
 use Rattle.std.proofs.lemmas.List.{append_assoc}
 use Rattle.define_conflicts.specs.declared.Quota.{Quota}
 use Rattle.define_conflicts.specs.LeastMisses.{quotas_of}
-use Rattle.define_cost_bounds.specs.CostBounds.{quotas_of_value}
+use Rattle.define_conflicts.specs.AllQuotas.{quotas_of_value}
 use Rattle.define_pools.specs.Pool.{BoundedValue}
-use Rattle.loosening_by_proof.proofs.Listed.{all_listed, one_more_list}
+use Rattle.define_conflicts.proofs.Listed.{all_listed, one_more_list}
 use Rattle.loosening_by_proof.proofs.quotas.push_category.Goals as goal
 
 pub loop-value-preserved : goal.loop-value-preserved

@@ -1,4 +1,4 @@
-use Rattle.std.proofs.Common.{◌∙◌, ap, subst}
+use Rattle.std.proofs.Common.{ap, subst}
 use Rattle.panel_search.specs.Answers.{AnswersBest}
 use Rattle.define_waves.specs.Waves.{best_in_waves}
 use Rattle.pricing_pool.proofs.pricing.best_by.Goals as goal

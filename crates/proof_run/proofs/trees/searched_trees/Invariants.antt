@@ -3,4 +3,4 @@ use Rattle.proof_run.specs.Shapes.{IsCapSearch}
 use Rattle.proof_run.proofs.trees.searched_trees.Given as goal
 
 abbrev pub invariant-loop-stage : goal.invariant-loop-stage
-invariant-loop-stage l = IsCapSearch l.search × SpendsOn l.fn.budget l.budget
+invariant-loop-stage l = IsCapSearch l.search × SpendsOn l.fn.trees l.trees

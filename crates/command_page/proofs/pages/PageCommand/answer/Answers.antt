@@ -1,6 +1,6 @@
 use Rattle.std.proofs.lemmas.Result.{IfOk-weaker}
 use Rattle.command_shell.specs.Answers.{IsRight, IsTheAnswer, saying}
-use Rattle.command_page.specs.Page.{PageMeans}
+use Rattle.command_meanings.specs.Page.{PageMeans}
 use Rattle.command_page.proofs.pages.PageCommand.answer.Goals as goal
 
 pub returns : goal.returns

@@ -5,9 +5,9 @@ use Rattle.define_rows.specs.declared.Var.{Var}
 use Rattle.define_rows.specs.Table.{Table}
 use Rattle.define_rows.specs.Pivot.{pivot}
 use Rattle.exact_table.specs.Parts.{counted_on}
-use Rattle.define_runs.specs.Run.{pivoted, run_limits}
+use Rattle.define_runs.specs.Run.{Ended, GoOn, PivotsSpent, pivoted, run_limits}
 use Rattle.define_runs.proofs.Kept.{closed_rows_stay}
-use Rattle.leximin_run.proofs.Turns.{pivot_due, stands_on}
+use Rattle.leximin_run.proofs.Turns.{pivot_due, pivot_steps, stands_on}
 use Rattle.leximin_run.proofs.running.Run.pivot.Goals as goal
 
 -- If the count of pivots is below its limit, one more pivot adds 1 to it.
@@ -21,8 +21,8 @@ made_whole table made r v limit few most counted e = sym (ap (λ n. Ok (record m
 pub returns-then-pivots-clause-makes : goal.returns-then-pivots-clause-makes
 returns-then-pivots-clause-makes c =
     let run = c.args.self.now in (
-      pivot_due run.pricer.classes (run_limits run.limits) run.table c.args.row c.args.variable c.requires.open c.requires.chosen true
-          (le-leb run.limits.pivots run.table.pivots (omega (arith, c.if-pivots.true, c.pivots.ensures.value, c.pivots-2.ensures))),
+      pivot_steps run.share run.pricer.classes (run_limits run.limits) run.table c.args.row c.args.variable c.requires.open c.requires.chosen true
+          (le-leb run.limits.pivots run.table.pivots (omega (arith, c.if-pivots.true, c.pivots.ensures.value, c.pivots-2.ensures))) (Ended (PivotsSpent run.table)) refl,
       refl,
     )
 
@@ -30,8 +30,8 @@ pub returns-clause-makes : goal.returns-clause-makes
 returns-clause-makes c =
     let run = c.args.self.now in
     let few : run.table.pivots < run.limits.pivots = omega (arith, c.if-pivots.false, c.pivots.ensures.value, c.pivots-2.ensures) in
-    pivot_due run.pricer.classes (run_limits run.limits) run.table c.args.row c.args.variable c.requires.open c.requires.chosen false (lt-leb run.limits.pivots run.table.pivots few)
-    ∙ ap (pivoted run.table) (made_whole run.table c.pivot.new.self c.args.row c.args.variable run.limits.pivots few (omega (arith, c.pivots.ensures.ranges.few_pivots)) c.in_ok-pivot.ensures.counted c.in_ok-pivot.ensures.made)
+    pivot_steps run.share run.pricer.classes (run_limits run.limits) run.table c.args.row c.args.variable c.requires.open c.requires.chosen false (lt-leb run.limits.pivots run.table.pivots few) (GoOn c.pivot.new.self)
+    (ap (pivoted run.table) (made_whole run.table c.pivot.new.self c.args.row c.args.variable run.limits.pivots few (omega (arith, c.pivots.ensures.ranges.few_pivots)) c.in_ok-pivot.ensures.counted c.in_ok-pivot.ensures.made))
 
 pub returns-clause-stands : goal.returns-clause-stands
 returns-clause-stands c =
@@ -50,7 +50,7 @@ returns-in_err-pivot-clause-makes c =
     let few : run.table.pivots < run.limits.pivots = omega (arith, c.if-pivots.false, c.pivots.ensures.value, c.pivots-2.ensures) in
     let out = err_from_is_err_and c.from_residual.result c.from_residual.ensures.1 in
     rw (out.1, out.2) (
-      pivot_due run.pricer.classes (run_limits run.limits) run.table c.args.row c.args.variable c.requires.open c.requires.chosen false (lt-leb run.limits.pivots run.table.pivots few)
-          ∙ ap (pivoted run.table) (sym c.in_err-pivot.ensures.made),
+      pivot_steps run.share run.pricer.classes (run_limits run.limits) run.table c.args.row c.args.variable c.requires.open c.requires.chosen false (lt-leb run.limits.pivots run.table.pivots few)
+          _ (ap (pivoted run.table) (sym c.in_err-pivot.ensures.made)),
       c.in_err-pivot.ensures.kept,
     )
