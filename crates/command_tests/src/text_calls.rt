@@ -74,7 +74,7 @@ const USAGE_ROWS: &[Row] = &[
         FOUR,
         2,
         b"",
-        b"Prints the lottery over the quota panels of the pool on standard input, with its certificate\n\nUsage: sortition lottery [OPTIONS]\n\nOptions:\n      --bits <bits>        The width in bits of the run's numbers, 1 to 127 [default: 127]\n      --pivots <pivots>    The most pivots that the run may make, up to 1000000000 [default: 100000]\n      --nodes <nodes>      The most visits that a search may make, up to 1000000000000 [default: 50000000]\n      --workers <workers>  How many workers price, on threads, 1 to 64 [default: 1]\n  -h, --help               Print help\n\nExample: sortition lottery < city.pool > city.bundle\n",
+        b"Prints the lottery over the quota panels of the pool on standard input, with its certificate\n\nUsage: sortition lottery [OPTIONS]\n\nOptions:\n      --bits <bits>        The width in bits of the run's numbers, 1 to 127 [default: 127]\n      --pivots <pivots>    The most pivots that the run may make, up to 1000000000 [default: 100000]\n      --nodes <nodes>      The most visits that a search may make, up to 1000000000000 [default: 50000000]\n      --workers <workers>  How many workers price, on threads, 1 to 64 [default: 1]\n      --share              Lets the workers share what they have found, which may save visits\n  -h, --help               Print help\n\nExample: sortition lottery < city.pool > city.bundle\n",
     ),
 ];
 
@@ -584,7 +584,6 @@ fn texts_are_answered(rt: HostRuntime) -> Result<(), AllocError> {
 /// kind if at least its number of whole lines is left, and fewer than the next kind's number.
 const CUT: &[(&[&str], &[u8], &[(usize, u8)])] = &[
     (&["panel"], FOUR, &[(0, 12)]),
-    (&["prove"], FOUR, &[(0, 12)]),
     (&["check"], FOUR_BUNDLE, &[(0, 17), (1, 12), (11, 17)]),
     (
         &["verify"],
