@@ -3,10 +3,9 @@
 use crate::page_texts::{MARKED_BUNDLE, MARKED_PAGE};
 use crate::texts::{
     COUPLE, COUPLE_PROOF, CROSSED, DOUBLED_PROOF, EITHER_BUNDLE, EITHER_COVER, FIVE_BUNDLE, FOUR,
-    FOUR_BUNDLE, FOUR_BUNDLE_PROVED, FOUR_COVER, FOUR_PROOF, FOUR_PROVED, LATER, MEN_LEFT,
-    MORE_BUNDLE, NOBODY, ONE_WOMAN, ONE_WOMAN_BUNDLE, OPEN_COVER, PASSED_CAP, SHORT, SHORT_COVER,
-    SHORT_PROVED, STRANGER_BUNDLE, SURE_BUNDLE, TOTAL_OF_THREE, WIDE_BUNDLE, WRONG_COVER,
-    WRONG_TOTAL,
+    FOUR_BUNDLE, FOUR_COVER, FOUR_PROOF, LATER, MEN_LEFT, MORE_BUNDLE, NOBODY, ONE_WOMAN,
+    ONE_WOMAN_BUNDLE, OPEN_COVER, PASSED_CAP, SHORT, SHORT_COVER, STRANGER_BUNDLE, SURE_BUNDLE,
+    TOTAL_OF_THREE, WIDE_BUNDLE, WRONG_COVER, WRONG_TOTAL,
 };
 use command_shell::{Answer, Status};
 use command_texts::{answer_text, text_asked};
@@ -472,48 +471,6 @@ const PAGE_ROWS: &[Row] = &[(
     b"",
 )];
 
-/// Calls of `prove`.
-const PROVE_ROWS: &[Row] = &[
-    (&["prove"], FOUR, 0, FOUR_PROVED, b""),
-    (&["prove"], SHORT, 1, SHORT_PROVED, b""),
-    // the run of `lottery` takes over, and its lottery is proved as a bundle
-    (
-        &["prove", "--pivots", "0"],
-        FOUR,
-        0,
-        FOUR_BUNDLE_PROVED,
-        b"",
-    ),
-    (
-        &["prove", "--nodes", "0"],
-        FOUR,
-        5,
-        b"",
-        b"spent\ttrees\t0\n",
-    ),
-    (&["prove", "--nodes", "0"], SHORT, 1, b"no panel\n", b""),
-    (&["prove"], FOUR_BUNDLE, 0, FOUR_BUNDLE_PROVED, b""),
-    (
-        &["prove", "--pivots", "0", "--nodes", "1"],
-        FOUR_BUNDLE,
-        5,
-        b"",
-        b"spent\ttrees\t1\n",
-    ),
-    (&["prove"], PASSED_CAP, 11, b"refused\t1\t8\t0\t3\n", b""),
-    (
-        &["prove", "--nodes", "0"],
-        PASSED_CAP,
-        11,
-        b"refused\t1\t8\t0\t3\n",
-        b"",
-    ),
-    (&["prove"], TOTAL_OF_THREE, 11, b"refused\t0\t3\n", b""),
-    (&["prove"], MEN_LEFT, 11, b"refused\t1\t10\t2\n", b""),
-    (&["prove"], FOUR_PROOF, 3, b"", b"input\t1\t1\n"),
-    (&["prove"], b"bundle\t3\n", 3, b"", b"input\t1\t13\n"),
-];
-
 /// What a call told: its status, and what `out` and `errs` gain.
 #[derive(Drop)]
 struct Told {
@@ -568,7 +525,6 @@ fn texts_are_answered(rt: HostRuntime) -> Result<(), AllocError> {
         CHECK_ROWS,
         PROOF_ROWS,
         PAGE_ROWS,
-        PROVE_ROWS,
     ] {
         for (words, text, status, out, errs) in rows {
             let told = answered(alloc, words, text)?;
