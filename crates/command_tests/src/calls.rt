@@ -13,14 +13,15 @@ use std::io;
 use std::thread::Threads;
 
 /// Returns a call with these words over this text, in which nothing fails.
-fn asking<'a>(words: &'a [&'a str], text: &'a [u8]) -> Call<'a> {
+pub(crate) fn asking<'a>(words: &'a [&'a str], text: &'a [u8]) -> Call<'a> {
     Call {
         text,
         ..Call::new(words)
     }
 }
 
-fn answer_of<R: Threads + Sync>(
+/// Answers a call over a store of its own.
+pub(crate) fn answer_of<R: Threads + Sync>(
     rt: &R,
     alloc: Global,
     call: &Call<'_>,
@@ -37,7 +38,7 @@ fn answer_of<R: Threads + Sync>(
 }
 
 /// The words of a call, the text of the source, the status, and what `out` and `errs` gained.
-type Row = (
+pub(crate) type Row = (
     &'static [&'static str],
     &'static [u8],
     u8,

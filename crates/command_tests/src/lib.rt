@@ -15,6 +15,8 @@ mod office_calls;
 #[cfg(test)]
 mod page_texts;
 #[cfg(test)]
+mod prove_calls;
+#[cfg(test)]
 mod proved;
 #[cfg(test)]
 mod stores;

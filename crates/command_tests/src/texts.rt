@@ -36,6 +36,19 @@ pub(crate) const FOUR_PROOF: &[u8] =
 pub(crate) const DOUBLED_PROOF: &[u8] =
     b"proof\t1\nbundle\t1\npool\t1\nsize\t2\ncategory\tgender\nvalue\tfemale\t1\t1\nvalue\tmale\t1\t1\nvolunteer\ta\tfemale\nvolunteer\tb\tfemale\nvolunteer\tc\tmale\nvolunteer\td\tmale\nend\ntotal\t2\npanel\t1\t0\t2\npanel\t1\t1\t3\nstage\t1\t1\t1\t0\t0\nstage\t0\t-1\t-1\t1\t1\ndone\ntree\t1\nbound\t1\t1\t2\ntree\t2\nbound\t1\t2\t1\t3\t-1\nclose\n";
 
+/// The proof that `prove` makes for two women and two men.
+pub(crate) const FOUR_PROVED: &[u8] =
+    b"proof\t1\nbundle\t1\npool\t1\nsize\t2\ncategory\tgender\nvalue\tfemale\t1\t1\nvalue\tmale\t1\t1\nvolunteer\ta\tfemale\nvolunteer\tb\tfemale\nvolunteer\tc\tmale\nvolunteer\td\tmale\nend\ntotal\t2\npanel\t1\t0\t3\npanel\t1\t1\t2\nstage\t1\t1\t1\t0\t0\nstage\t1\t0\t0\t1\t1\ndone\ntree\t1\nbound\t1\t1\t1\ntree\t2\nbound\t1\t0\t1\t1\t-1\nclose\n";
+
+/// The proof that `prove` makes for `FOUR_BUNDLE`. A volunteer's weight in the second stage is 1, the coefficient in the size, less twice
+/// the coefficient in the value `female`.
+pub(crate) const FOUR_BUNDLE_PROVED: &[u8] =
+    b"proof\t1\nbundle\t1\npool\t1\nsize\t2\ncategory\tgender\nvalue\tfemale\t1\t1\nvalue\tmale\t1\t1\nvolunteer\ta\tfemale\nvolunteer\tb\tfemale\nvolunteer\tc\tmale\nvolunteer\td\tmale\nend\ntotal\t2\npanel\t1\t0\t2\npanel\t1\t1\t3\nstage\t1\t1\t1\t0\t0\nstage\t0\t-1\t-1\t1\t1\ndone\ntree\t1\nbound\t1\t1\t1\ntree\t2\nbound\t1\t0\t1\t1\t-2\nclose\n";
+
+/// The proof that `prove` makes for `SHORT`.
+pub(crate) const SHORT_PROVED: &[u8] =
+    b"proof\t1\npool\t1\nsize\t2\ncategory\tgender\nvalue\tfemale\t2\t2\nvalue\tmale\t0\t2\nvolunteer\ta\tfemale\nvolunteer\tb\tmale\nvolunteer\tc\tmale\nend\nnone\ntree\t0\nbound\t0\t1\t-1\nclose\n";
+
 pub(crate) const NOBODY: &[u8] = b"pool\t1\nsize\t1\nend\n";
 
 /// The bundle of two women and two men.
