@@ -23,3 +23,4 @@ pub mod Steps
 pub mod Imports
 pub mod RoundPages
 pub mod Question
+pub mod ProvedRounds

@@ -2,8 +2,8 @@
 -- the search of `loosen`. Builds on the loosenings of `define_loosenings`, on LooseningLines and on Loosening.
 --
 -- The engine that is asked first, within the budget of the words, has no definition. So the meaning doesn't say which of several least
--- loosenings is told. If the engine has no answer within this budget, the search of `loosen` decides. So no answer is given only where that
--- search is spent. If `loosen` finds a loosening too, the totals are equal, since both loosenings are least.
+-- loosenings is told. If the engine has no answer within this budget, the search of `loosen` decides. So status 5 comes only if that search
+-- is spent. If `loosen` finds a loosening too, the totals are equal, since both loosenings are least.
 use Rattle.std.specs.Prelude.{◌≡◌, ℕ, List, [], IsTrue}
 use Rattle.define_loosenings.specs.Loosenings.{IsLeast, Loosening}
 use Rattle.define_loosenings.specs.Teams.{is_team}

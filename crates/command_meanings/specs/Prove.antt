@@ -73,7 +73,7 @@ lottery_limits = record { bits = 127; pivots = 100000; nodes = 50000000 }
 abbrev pub check_visits : ℕ
 check_visits = 50000000
 
--- the line that trees aren't found: `nodes` nodes of trees were visited
+-- the line that trees aren't found: `nodes` nodes of trees were taken
 abbrev pub trees_spent_line : ℕ → List ℕ
 trees_spent_line nodes = proof_spent_line (codes "trees") nodes
 
@@ -123,7 +123,7 @@ pub data SpendsProve (count : Left) (about : PoolOrBundle) (text : List ℕ) : T
   RunSpends : EndsRun SpendsBudget about text → SpendsProve count about text
   -- a search of `check` needs more than its visits
   CheckSpends : (its : Answer) → IsGivenOrFound about its → SpendsStage check_visits (over about its) text → SpendsProve count about text
-  -- no trees are found, though the certificate holds, and no stage's numbers pass what a proof's lines hold: all nodes of trees were visited
+  -- no trees are found, though the certificate holds, and no stage's numbers pass what a proof's lines hold: no node of trees is left
   TreesSpent : (its : Answer) → IsChecked about its → first_beyond its.stages ≡ None → count.nodes ≡ 0 → text ≡ trees_spent_line count.most_nodes → SpendsProve count about text
 
 pub data RefusesProve (about : PoolOrBundle) (text : List ℕ) : Type 0 where
@@ -147,8 +147,8 @@ ProveMeans count about = record no_answer {
   refused = RefusesProve about;
 }
 
--- what is right to answer, if trees have `nodes` nodes. That `count` was counted down from them node by node, the contract of `prove_within`
--- says, whose counter nothing else can write
+-- what is right to answer if trees have `nodes` nodes, for some count of what is left of them. Any count will do here, so this doesn't say that
+-- a node was taken: the contract of `prove_within` says so of its own counter, which only `take_node` lowers
 pub record ProvesWithin (nodes : ℕ) (about : PoolOrBundle) (answer : Saying) : Type 0 where
   pub count : Left
   pub most : count.most_nodes ≡ nodes

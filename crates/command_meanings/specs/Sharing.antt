@@ -12,31 +12,30 @@ use Rattle.define_sharing.specs.Sharing.{RunMayEnd, spends_pricing}
 use Rattle.command_shell.specs.Answers.{IsRight, RightAnswers, Saying}
 use Rattle.command_meanings.specs.Lottery.{LotteryMeans, TellsBudget, TellsWidth}
 
--- the run without a bound on its pricings finds this answer
+-- the unbounded run, whose pricings have no bound on their visits, finds this answer
 abbrev pub MayFind : Limits → Pool → Answer → Type 0
 MayFind limits pool answer = (last : Table) × RunMayEnd pool limits (Ending.Found last answer)
 
--- this run finds this answer. Its stages certify its lottery, so no lottery over the pool's quota panels is
--- above it
+-- the unbounded run finds this answer. Its stages certify its lottery, so no lottery over the pool's quota panels is above it
 pub record SharingFinds (limits : Limits) (pool : Pool) (answer : Answer) : Type 0 where
   pub ends : MayFind limits pool answer
   pub certified : Certifies pool answer.lottery answer.stages
   pub greatest : LeximinGreatest pool answer.lottery
 
--- the text is the bundle of the answer that this run finds
+-- the text is the bundle of the answer that the unbounded run finds
 pub record PrintsSharedBundle (limits : Limits) (pool : Pool) (text : List ℕ) : Type 0 where
   pub answer : Answer
   pub finds : SharingFinds limits pool answer
   pub bundle : text ≡ bundle_text pool answer
 
--- in the run without a bound on its pricings an operation passes the width, or the lottery's total passes 10 ^ 38; the line names it
+-- in the unbounded run an operation passes the width, or the lottery's total passes 10 ^ 38; the line names it
 pub record SharingPassesWidth (limits : Limits) (pool : Pool) (line : List ℕ) : Type 0 where
   pub ending : Ending
   pub ends : RunMayEnd pool limits ending
   pub tells : TellsWidth ending line
 
--- This run needs more than `limits.pivots` pivots, or the opening search needs more than `limits.nodes` visits; or this run reaches a table
--- at which the pricing of `lottery` needs more than `limits.nodes` visits. The line says which
+-- The unbounded run has made `limits.pivots` pivots and another is due; or the opening search needs more than `limits.nodes` visits; or the
+-- unbounded run reaches a table where the pricing of `lottery` needs more. The line says which
 pub record SharingSpendsBudget (limits : Limits) (pool : Pool) (line : List ℕ) : Type 0 where
   pub ending : Ending
   pub ends : RunMayEnd pool limits ending

@@ -2,8 +2,8 @@
 -- or else a quota panel.
 --
 -- The engine that is asked first, within the budget of the words, has no definition. So the meaning doesn't say which of several conflicts
--- or panels is told. If the engine has no answer within this budget, the search of `panel` decides: its panel is told, or all quotas are.
--- So no answer is given only where that search is spent.
+-- or panels is told. If the engine has no answer within this budget, the search of `panel` decides: `why` tells its panel or, if there is
+-- none, names all quotas. So status 5 comes only if that search is spent.
 use Rattle.std.specs.Prelude.{◌≡◌, ℕ, IsTrue, List, [], ◌∷◌, ◌++◌, codes}
 use Rattle.std.specs.List.{flat_map}
 use Rattle.define_conflicts.specs.Conflicts.{IsConflict}

@@ -1,7 +1,7 @@
 //! What the commands answer: which text or line is right at which status. Each command has a file in `specs/`, which says it status by status;
 //! so has `lottery` with its flag `--share` (Sharing), and so have all questions about a bundle (Question), all commands of the office and
-//! texts about a round (Steps), and all imports (Imports). `prove` over a store is said in `command_stores`, and `serve` in `command_desk`.
-//! Stands on `command_shell` and on definitions.
+//! texts about a round (Steps), all imports (Imports), and `prove` over a store (ProvedRounds). `serve` prints no answer of its own: what a
+//! call of it does is said in `command_desk`. Stands on `command_shell` and on definitions.
 //!
 //! Promises: the laws in `laws.rt`.
 #![tactic(auto)]

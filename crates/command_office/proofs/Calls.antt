@@ -8,9 +8,8 @@ use Rattle.command_shell.specs.Told.{Told, object}
 use Rattle.command_meanings.specs.Imports.{ImportMeans}
 use Rattle.command_meanings.specs.Steps.{StepMeans, TextMeans}
 use Rattle.command_stores.specs.StoreOutcomes.{SilentStoreOutcome, TextStoreOutcome}
-use Rattle.command_stores.specs.ProvedRounds.{ProvesRound}
+use Rattle.command_meanings.specs.ProvedRounds.{ProvesRound}
 use Rattle.command_meanings.specs.declared.office.Import.{Import}
-use Rattle.command_stores.specs.declared.proving.ProveRound.{ProveRound}
 use Rattle.command_meanings.specs.declared.office.StoreText.{StoreText}
 use Rattle.define_offices.specs.Commands.{Command}
 use Rattle.command_stores.specs.StoreTold.{StoreTold, keeper_told, store_told}
@@ -39,8 +38,8 @@ steps_so path store one other told same equal right =
 pub imports_so : (path store : List ℕ) (import : Import) (told : StoreTold) → path ≡ store → TextStoreOutcome path (ImportMeans import) told → TextStoreOutcome store (ImportMeans import) told
 imports_so path store import told same right = subst (λ p. TextStoreOutcome p (ImportMeans import) told) same right
 
-pub proofs_so : (path store : List ℕ) (proving : ProveRound) (told : StoreTold) → path ≡ store → SilentStoreOutcome path (ProvesRound proving) told → SilentStoreOutcome store (ProvesRound proving) told
-proofs_so path store proving told same right = subst (λ p. SilentStoreOutcome p (ProvesRound proving) told) same right
+pub proofs_so : (path store : List ℕ) (round : ℕ) (told : StoreTold) → path ≡ store → SilentStoreOutcome path (ProvesRound round) told → SilentStoreOutcome store (ProvesRound round) told
+proofs_so path store round told same right = subst (λ p. SilentStoreOutcome p (ProvesRound round) told) same right
 
 pub texts_so : (path store : List ℕ) (text : StoreText) (told : StoreTold) → path ≡ store → SilentStoreOutcome path (TextMeans text) told → SilentStoreOutcome store (TextMeans text) told
 texts_so path store text told same right = subst (λ p. SilentStoreOutcome p (TextMeans text) told) same right

@@ -89,7 +89,7 @@ module _ (told : StoreTold) where
   call_stays (Some (asks.Step store step)) right = store_stays (Some (asks.Step store step)) told store (λ tables answer change n0 means. step_quiet tables answer change n0 step means) right.ends
   call_stays (Some (asks.Import store file)) right =
       file_stays (Some (asks.Import store file)) told store (λ bytes tables answer change n0 means. import_quiet tables answer change n0 file bytes means) right
-  call_stays (Some (asks.ProveRound store it)) right = store_stays (Some (asks.ProveRound store it)) told store (λ tables answer change n0 means. round_quiet tables answer change n0 it means) right.ends
+  call_stays (Some (asks.ProveRound store it)) right = store_stays (Some (asks.ProveRound store it)) told store (λ tables answer change n0 means. round_quiet tables answer change n0 it.round means) right.ends
   call_stays (Some (asks.StoreText store text)) right = store_stays (Some (asks.StoreText store text)) told store (λ tables answer change n0 means. means.stays) right.ends
   call_stays other right = λ n0 n8. right.keeper.object.same
 

@@ -42,7 +42,7 @@ use Rattle.command_office.specs.declared.asked.Asked.TheVariants as asks
 use Rattle.command_office.specs.declared.steps.Step.TheVariants as steps
 use Rattle.command_office.specs.Office.{AnswersRightly}
 use Rattle.command_office.specs.About.{ToldPool, ToldRoundPool}
-use Rattle.command_office.specs.Headline.{nodes_of}
+use Rattle.command_office.specs.About.{nodes_of}
 use Rattle.command_office.proofs.Checkers.{due, due_by}
 use Rattle.command_office.proofs.Reading.{its_status}
 use Rattle.std.specs.Prelude.{IfSome}

@@ -40,13 +40,12 @@ use Rattle.command_meanings.specs.Seal.{bundle_seal}
 use Rattle.command_shell.specs.BundlesOrProofs.{bundle_in}
 use Rattle.command_meanings.specs.Page.{DrawnPageOfBundle, PageOfBundle, about}
 use Rattle.command_meanings.specs.Imports.{Does, HasFault, ImportMeans, NoRules, keeping}
-use Rattle.command_stores.specs.ProvedRounds.{AsSolve, IsOpenWith, Keeps as KeepsProof, ProvesRound}
+use Rattle.command_meanings.specs.ProvedRounds.{AsSolve, IsOpenWith, Keeps as KeepsProof, ProvesRound}
 use Rattle.command_meanings.specs.Steps.{StepMeans, change_of, text_or_refusal}
 use Rattle.command_stores.specs.StoreOutcomes.{IsAnswered, StoreMeaning}
 use Rattle.command_stores.specs.StoreTold.{StoreTold}
 use Rattle.command_meanings.specs.declared.office.Import.{Import}
 use Rattle.command_meanings.specs.declared.office.Import.TheVariants as imports
-use Rattle.command_stores.specs.declared.proving.ProveRound.{ProveRound}
 use Rattle.command_texts.specs.declared.commands.TextCommand.TheVariants as texts
 use Rattle.command_office.specs.declared.asked.Asked.{Asked}
 use Rattle.command_office.specs.declared.asked.Asked.TheVariants as asks
@@ -133,13 +132,13 @@ module _ (told : StoreTold) where
   no_also round tables change Also (Opened pool its open_now of leximin_so also so) = Opened pool its open_now of leximin_so tt so
   no_also round tables change Also (HadBundle it bundle at has none) = HadBundle it bundle at has none
 
-  proof_solves : (path : List ℕ) (it : ProveRound) (text : List ℕ) (is : IsAnswered path (ProvesRound it) told.keeper (Prints Done text)) → ProvesRound it is.tables (Prints Done text) is.change →
-      SettlesRound it.round is.tables is.change (λ pool answer. ⊤)
-  proof_solves path it text is (KeepsProof pool proof of same valid means) =
-      keep_done is.tables it.round is.loaded.is proof means.is_command is.change text (keep_comes is.tables it.round proof (Replies is.change (Lines text)) (comes_text (Keep it.round proof) is.tables is.change text means))
-  proof_solves path it text is (AsSolve means) =
-      no_also it.round is.tables is.change (λ pool answer. RunFinds pool lottery_limits answer)
-      (solve_done is.tables it.round lottery_limits is.loaded.is means.is_command is.change text (comes_text (Solve it.round lottery_limits) is.tables is.change text means))
+  proof_solves : (path : List ℕ) (round : ℕ) (text : List ℕ) (is : IsAnswered path (ProvesRound round) told.keeper (Prints Done text)) → ProvesRound round is.tables (Prints Done text) is.change →
+      SettlesRound round is.tables is.change (λ pool answer. ⊤)
+  proof_solves path round text is (KeepsProof pool proof of same valid means) =
+      keep_done is.tables round is.loaded.is proof means.is_command is.change text (keep_comes is.tables round proof (Replies is.change (Lines text)) (comes_text (Keep round proof) is.tables is.change text means))
+  proof_solves path round text is (AsSolve means) =
+      no_also round is.tables is.change (λ pool answer. RunFinds pool lottery_limits answer)
+      (solve_done is.tables round lottery_limits is.loaded.is means.is_command is.change text (comes_text (Solve round lottery_limits) is.tables is.change text means))
 
   -- ---- status 0
 
@@ -180,7 +179,7 @@ module _ (told : StoreTold) where
       (solve_done right.tables round limits right.loaded.is right.means.is_command right.change text (comes_text (Solve round limits) right.tables right.change text right.means))
   done (Some (asks.Import store (imports.Proof round))) text (bytes, input, right) is =
       solves store round (λ pool answer. ⊤) (Prints Done text) right (read_solves store round bytes text right right.means)
-  done (Some (asks.ProveRound store it)) text right is = solves store it.round (λ pool answer. ⊤) (Prints Done text) right (proof_solves store it text right right.means)
+  done (Some (asks.ProveRound store it)) text right is = solves store it.round (λ pool answer. ⊤) (Prints Done text) right (proof_solves store it.round text right right.means)
   done other text right is = tt
 
   -- ---- a draw
@@ -299,11 +298,11 @@ module _ (told : StoreTold) where
   read_none round bytes tables change text keeps (HasFault fault reads so none) = absurd (cc (so))
   read_none round bytes tables change text keeps (NoRules register none so kept) = absurd (cc (so))
 
-  proof_none : (it : ProveRound) (tables : Tables) (change : Option Change) (text : List ℕ) → IsTables tables → ProvesRound it tables (Prints NonePrinted text) change →
-      (pool : Pool) × IsOpenWith tables it.round pool × (panels pool ≡ [])
-  proof_none it tables change text keeps (KeepsProof pool proof of same valid means) = kept_none it.round proof tables change text keeps means
-  proof_none it tables change text keeps (AsSolve means) =
-      let (ran, empty) = solve_none tables it.round lottery_limits (change_of means.outcome) (comes_none (Solve it.round lottery_limits) tables change text means) in
+  proof_none : (round : ℕ) (tables : Tables) (change : Option Change) (text : List ℕ) → IsTables tables → ProvesRound round tables (Prints NonePrinted text) change →
+      (pool : Pool) × IsOpenWith tables round pool × (panels pool ≡ [])
+  proof_none round tables change text keeps (KeepsProof pool proof of same valid means) = kept_none round proof tables change text keeps means
+  proof_none round tables change text keeps (AsSolve means) =
+      let (ran, empty) = solve_none tables round lottery_limits (change_of means.outcome) (comes_none (Solve round lottery_limits) tables change text means) in
       (ran.pool, record { open_now = ran.open_now; is = ran.is }, empty)
 
   plain_none : (command : Command) (tables : Tables) (change : Option Change) (text : List ℕ) → is_plain_command command ≡ true → StepMeans command tables (Prints NonePrinted text) change → ⊥
@@ -355,6 +354,6 @@ module _ (told : StoreTold) where
   none (Some (asks.Step store step)) text right = absurd (plain_none (step_command step) right.tables right.change text refl right.means)
   none (Some (asks.Import store (imports.Proof round))) text (bytes, input, right) = round_none round right.tables right.loaded (read_none round bytes right.tables right.change text right.loaded.is right.means)
   none (Some (asks.Import store file)) text (bytes, input, right) = absurd (file_none file bytes right.tables right.change text refl right.means)
-  none (Some (asks.ProveRound store it)) text right = round_none it.round right.tables right.loaded (proof_none it right.tables right.change text right.loaded.is right.means)
+  none (Some (asks.ProveRound store it)) text right = round_none it.round right.tables right.loaded (proof_none it.round right.tables right.change text right.loaded.is right.means)
   none (Some (asks.StoreText store it)) text right = absurd (text_none _ text right.means.is)
   none (Some (asks.Serve store it)) text right = absurd right

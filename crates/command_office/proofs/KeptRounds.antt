@@ -21,7 +21,7 @@ use Rattle.define_offices.specs.Steps.{AtOnce, ByRun, Comes}
 use Rattle.define_offices.specs.Tables.{Drawn, Open, Round, Sealed, Solved, Tables, bundle_of, named_round}
 use Rattle.laws_of_offices.proofs.Pools.{pool_of_has}
 use Rattle.laws_of_offices.proofs.Steps.{same_pools}
-use Rattle.command_stores.specs.ProvedRounds.{IsOpenWith}
+use Rattle.command_meanings.specs.ProvedRounds.{IsOpenWith}
 use Rattle.define_leximin.proofs.Leximin.{leximin}
 use Rattle.command_office.proofs.SolvedRounds.{HadBundle, Opened, SettlesRound}
 

@@ -14,8 +14,7 @@ use Rattle.command_shell.specs.declared.status.Printed.TheVariants.{Done, NoPane
 use Rattle.command_shell.specs.Answers.{Saying, Prints, Stops as StopsBy, status_of}
 use Rattle.command_meanings.specs.Imports.{Does, HasFault, ImportMeans, NoRules, keeping}
 use Rattle.command_meanings.specs.Prove.{lottery_limits}
-use Rattle.command_stores.specs.ProvedRounds.{AsSolve, Keeps as KeepsProof, ProvesRound}
-use Rattle.command_stores.specs.declared.proving.ProveRound.{ProveRound}
+use Rattle.command_meanings.specs.ProvedRounds.{AsSolve, Keeps as KeepsProof, ProvesRound}
 use Rattle.command_meanings.specs.declared.office.Import.{Import}
 use Rattle.command_meanings.specs.declared.office.Import.TheVariants as imports
 use Rattle.command_meanings.specs.Steps.{StepMeans, TellsEnding, TellsOutcome, TellsStop, change_of}
@@ -117,9 +116,9 @@ module _ (tables : Tables) (answer : Saying) (change : Option Change) (n0 : stat
   step_quiet (steps.Solve round limits workers) means = solve_quiet round limits means
   step_quiet other means = plain_quiet (step_command other) tables change refl answer means n0
 
-  pub round_quiet : (it : ProveRound) → ProvesRound it tables answer change → change ≡ None
-  round_quiet it (KeepsProof pool proof is of valid means) = keep_quiet it.round proof means
-  round_quiet it (AsSolve means) = solve_quiet it.round lottery_limits means
+  pub round_quiet : (round : ℕ) → ProvesRound round tables answer change → change ≡ None
+  round_quiet round (KeepsProof pool proof is of valid means) = keep_quiet round proof means
+  round_quiet round (AsSolve means) = solve_quiet round lottery_limits means
 
   -- the command that a proof is read as is the keeping of it
   read_quiet : (round : ℕ) (result : Result Proof lines.Fault) (command : Command) → Ok command ≡ keeping round result → StepMeans command tables answer change → change ≡ None

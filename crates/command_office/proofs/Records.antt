@@ -21,11 +21,10 @@ use Rattle.command_shell.specs.declared.status.Printed.{Printed}
 use Rattle.command_shell.specs.declared.status.Printed.TheVariants.{Done, NoPanel as NonePrinted, Refused as Rejected}
 use Rattle.command_meanings.specs.Prove.{lottery_limits}
 use Rattle.command_meanings.specs.Imports.{Does, HasFault, ImportMeans, NoRules}
-use Rattle.command_stores.specs.ProvedRounds.{AsSolve, Keeps as KeepsProof, ProvesRound}
+use Rattle.command_meanings.specs.ProvedRounds.{AsSolve, Keeps as KeepsProof, ProvesRound}
 use Rattle.command_meanings.specs.Steps.{StepMeans, TextMeans, change_of}
 use Rattle.command_stores.specs.StoreOutcomes.{Answered as Tells, KeeperFault, NoMemory, NotAttached, Read, ReadFault, StoreOutcome, TextStoreOutcome, TooLong, WantOfMemory, WriteFault}
 use Rattle.command_meanings.specs.declared.office.Import.{Import}
-use Rattle.command_stores.specs.declared.proving.ProveRound.{ProveRound}
 use Rattle.command_meanings.specs.declared.office.StoreText.{StoreText}
 use Rattle.command_desk.specs.DeskTold.{DeskTold}
 use Rattle.command_desk.specs.ServeOutcomes.{Done as ServedDone, DoorFault, HasServed, KeeperFault as NoKeeper, ServeOutcome, WantOfMemory as WantsRoom, WriteFault as CutLine}
@@ -255,26 +254,26 @@ module _ (told : DeskTold) (before left : Tables) (b : told.store.keeper.object.
   abbrev undone_proof : List ℕ
   undone_proof = 9 ∷ 12 ∷ []
 
-  round_did : (it : ProveRound) (tables : Tables) (answer : Saying) (change : Option Change) → IsLoaded told.store.keeper.object.before tables →
-      told.store.keeper.object.after ≡ option_map (λ kept. applied kept change) told.store.keeper.object.before → ProvesRound it tables answer change →
-      (commands : List Command) × DidOne (IsOfRound it.round) undone_proof told.store commands × Leading before commands left
-  round_did it tables answer change loaded stored (KeepsProof pool proof is same valid means) = (
-    Keep it.round proof ∷ [],
-    DidIt (Keep it.round proof) (inl (proof, refl)) means.is_command refl,
-    did_step before left _ _ b a (Keep it.round proof) tables answer change loaded means stored,
+  round_did : (round : ℕ) (tables : Tables) (answer : Saying) (change : Option Change) → IsLoaded told.store.keeper.object.before tables →
+      told.store.keeper.object.after ≡ option_map (λ kept. applied kept change) told.store.keeper.object.before → ProvesRound round tables answer change →
+      (commands : List Command) × DidOne (IsOfRound round) undone_proof told.store commands × Leading before commands left
+  round_did round tables answer change loaded stored (KeepsProof pool proof is same valid means) = (
+    Keep round proof ∷ [],
+    DidIt (Keep round proof) (inl (proof, refl)) means.is_command refl,
+    did_step before left _ _ b a (Keep round proof) tables answer change loaded means stored,
   )
-  round_did it tables answer change loaded stored (AsSolve means) = (
-    Solve it.round lottery_limits ∷ [],
-    DidIt (Solve it.round lottery_limits) (inr (lottery_limits, refl)) means.is_command refl,
-    did_step before left _ _ b a (Solve it.round lottery_limits) tables answer change loaded means stored,
+  round_did round tables answer change loaded stored (AsSolve means) = (
+    Solve round lottery_limits ∷ [],
+    DidIt (Solve round lottery_limits) (inr refl) means.is_command refl,
+    did_step before left _ _ b a (Solve round lottery_limits) tables answer change loaded means stored,
   )
 
-  proof_did : (path : List ℕ) (it : ProveRound) → StoreOutcome path (ProvesRound it) told.store →
-      (commands : List Command) × DidOne (IsOfRound it.round) undone_proof told.store commands × Leading before commands left
-  proof_did path it (Tells answer is tells) = round_did it is.tables answer is.change is.loaded is.stored is.means
-  proof_did path it (WriteFault printed text is cut) = round_did it is.tables (Prints printed text) is.change is.loaded is.stored is.means
-  proof_did path it (KeeperFault failed stopped) = none_did _ (same_left failed.same) (ap (is_one_of undone_proof) stopped.status)
-  proof_did path it (WantOfMemory nothing stopped) = none_did _ (same_left nothing.same) (ap (is_one_of undone_proof) stopped.status)
+  proof_did : (path : List ℕ) (round : ℕ) → StoreOutcome path (ProvesRound round) told.store →
+      (commands : List Command) × DidOne (IsOfRound round) undone_proof told.store commands × Leading before commands left
+  proof_did path round (Tells answer is tells) = round_did round is.tables answer is.change is.loaded is.stored is.means
+  proof_did path round (WriteFault printed text is cut) = round_did round is.tables (Prints printed text) is.change is.loaded is.stored is.means
+  proof_did path round (KeeperFault failed stopped) = none_did _ (same_left failed.same) (ap (is_one_of undone_proof) stopped.status)
+  proof_did path round (WantOfMemory nothing stopped) = none_did _ (same_left nothing.same) (ap (is_one_of undone_proof) stopped.status)
 
   -- ---- texts of the tables, and the desk
 
@@ -311,7 +310,7 @@ module _ (told : DeskTold) (before left : Tables) (b : told.store.keeper.object.
       let (commands, did, leading) = step_did store (step_command step) right.call.ends in record { commands = commands; done = did; leading = leading }
   asks_did (Some (asks.Import store file)) right = let (commands, did, leading) = import_did store file right.call in record { commands = commands; done = did; leading = leading }
   asks_did (Some (asks.ProveRound store proving)) right =
-      let (commands, did, leading) = proof_did store proving right.call.ends in record { commands = commands; done = did; leading = leading }
+      let (commands, did, leading) = proof_did store proving.round right.call.ends in record { commands = commands; done = did; leading = leading }
   asks_did (Some (asks.StoreText store text)) right = record { commands = []; done = refl; leading = lead_none before left (text_stays store text right.call.ends) }
   asks_did (Some (asks.Serve store serve)) right =
       let (commands, did, leading) = serve_did store serve.port serve.connections right.ends in record { commands = commands; done = did; leading = leading }

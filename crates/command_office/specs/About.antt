@@ -70,7 +70,17 @@ ToldPool (Some (asks.Make it)) told pool = pool ≡ made_pool it.seed it.volunte
 ToldPool (Some (asks.Step store (steps.Solve round limits workers))) told pool = ToldRoundPool round told pool
 ToldPool other told pool = IsPool pool × ToldText told.call.source (spelling pool)
 
--- ---- a check by searches, and a store
+-- ---- searches, and a store
+
+-- the visits that the opening search may make, for the commands whose run is stated
+abbrev pub nodes_of : Option Asked → Option ℕ
+nodes_of (Some (asks.Text (texts.Panel it))) = Some it.nodes
+nodes_of (Some (asks.Lottery it)) = Some it.limits.nodes
+nodes_of (Some (asks.SharedLottery it)) = Some it.limits.nodes
+nodes_of (Some (asks.Legs it)) = Some it.limits.nodes
+nodes_of (Some (asks.Make it)) = Some it.limits.nodes
+nodes_of (Some (asks.Step store (steps.Solve round limits workers))) = Some limits.nodes
+nodes_of other = None
 
 -- the visits that each search may make, for the commands that check a certificate by searches
 abbrev pub searches_of : Option Asked → Option ℕ

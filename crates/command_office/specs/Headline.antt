@@ -1,11 +1,13 @@
--- The headline: what `office` promises, on one page; `main` calls it and has no contract. `office` ensures `Headline` of every call (command_office, src/top_call.rt; its
--- premises: docs/PROMISES.md), and the law `headline` (src/lib.rt) derives it from the exact contract, `OfficeIsRight`. `OfSeveralCalls`, at the end, is a law there too.
+-- The headline: what `office` promises, on one page; `main` calls it and has no contract. `office` ensures `Headline` of every call (command_office, src/top_call.rt). Its premises, and how
+-- to read the signs, are in docs/PROMISES.md. The law `headline` (src/promises.rt) derives it from the exact contract, `OfficeIsRight`; `OfSeveralCalls`, at the end, is a law there too.
+-- `Headline` and `Keeps`, below, say what is promised; what stands before them are the words that they use.
 --
 -- One step behind this page: pools, quota panels, lotteries and certificates (define_pools); what leximin greatest says part by part (define_leximin); when a proof or a cover is
--- valid (define_proofs, define_covers); the stated run (define_runs); what the words ask for (`asked`); how an answer is told (`Outcomes`); each command's meaning, status by
--- status (`TextMeans`, `ProveMeans`, `LotteryMeans`, `SharedLotteryMeans`, `LegsMeans`, `MakeMeans`; over a store `StepMeans`, `ImportMeans`, `ProvesRound`). `told` is what the call did: its status, and its source,
--- out, errs and keeper before and after it. Lotteries have whole weights, and are compared with such alone. What a clause says of bytes or tables it says of an object that tells
--- them, as one in memory does: of a terminal, a file, a pipe or a store on disk it is true of some bytes and tables, and no contract can say that they are the real ones.
+-- valid (define_proofs, define_covers); the stated run (define_runs; with `--share` define_sharing); what the words ask for (`asked`); how an answer is told (`Outcomes`); each command's
+-- meaning, status by status (`TextMeans`, `ProvesWithin`, `LotteryMeans`, `SharedLotteryMeans`, `LegsMeans`, `MakeMeans`; over a store `StepMeans`, `ImportMeans`, `ProvesRound`).
+-- `told` is what the call did: its status, and its source, out, errs and keeper before and after it. Lotteries have whole weights, and are compared with such alone. What a clause says of
+-- bytes or tables it says of an object that tells them, as one in memory does: of a terminal, a file, a pipe or a store on disk it is true of some bytes and tables, and no contract can
+-- say that they are the real ones. Not promised: that a call doesn't end with 12; how long it takes; that `prove` finds a lottery or a proof within its limits, or how it spends them.
 use Rattle.std.specs.Prelude.{◌≡◌, ◌≢◌, ◌↔◌, ◌⊎◌, ◌≤◌, ℕ, IsTrue, IsFalse, List, [], Option, Some, None, Ok, option_and_then, option_map, ⊤}
 use Rattle.define_proofs.specs.ProofVerdict.{OfLottery, Proof, verdict}
 use Rattle.define_proofs.specs.TreeLines.{TreeLine}
@@ -49,7 +51,7 @@ use Rattle.command_proofs.specs.declared.verify.Verify.{Verify}
 use Rattle.command_texts.specs.TextMeans.{OneAnswer, TextMeans}
 use Rattle.command_texts.specs.declared.commands.TextCommand.TheVariants as texts
 use Rattle.command_meanings.specs.Imports.{ImportMeans}
-use Rattle.command_stores.specs.ProvedRounds.{ProvesRound}
+use Rattle.command_meanings.specs.ProvedRounds.{ProvesRound}
 use Rattle.command_meanings.specs.Steps.{StepMeans, TextMeans as StoreTextMeans}
 use Rattle.command_stores.specs.StoreOutcomes.{IsAnswered}
 use Rattle.command_stores.specs.StoreTold.{IsLeftAlone, KeepsTables, StoreTold}
@@ -62,7 +64,7 @@ use Rattle.command_office.specs.Steps.{step_command}
 use Rattle.command_office.specs.declared.asked.Asked.{Asked}
 use Rattle.command_office.specs.declared.asked.Asked.TheVariants as asks
 use Rattle.command_office.specs.declared.steps.Step.TheVariants as steps
-use Rattle.command_office.specs.About.{HeldBundle, HeldPool, IsItsPool, IsRoundPool, ToldPool, ToldText, searches_of, uses_store}
+use Rattle.command_office.specs.About.{HeldBundle, HeldPool, IsItsPool, IsRoundPool, ToldPool, ToldText, nodes_of, searches_of, uses_store}
 use Rattle.command_office.specs.Again.{RepeatsChangeNothing}
 use Rattle.command_office.specs.Isolation.{TellsNothingOfOthers}
 use Rattle.command_office.specs.Records.{CallsAreRecorded}
@@ -70,8 +72,8 @@ use Rattle.command_office.specs.Workers.{WorkersChangeNothing}
 
 -- ---- an answer's text or line is what the command's meaning says at the answer's status
 
--- the answer is right by the meaning of the command that the words ask for: about all that the source held, about the tables that were loaded
--- from the store, about both (an import), or about the made pool. Over a store, the change that comes with the answer is kept (`IsAnswered`)
+-- the answer is right by the meaning of the command that the words ask for: about all that the source held, about the tables that were loaded from the store, about both (an import), or
+-- about the made pool. `OneAnswer` and `IsTheAnswer` add that no other answer is right. Over a store, the change that comes with the answer is kept (`IsAnswered`)
 abbrev pub IsRightAnswer : Option Asked → StoreTold → Saying → Type 0
 IsRightAnswer (Some (asks.Text it)) told answer = IsAboutSource (TextMeans it) told.call.source answer
 IsRightAnswer (Some (asks.Prove it)) told answer = IsAboutSource (About pool_or_bundle_format (ProvesWithin it.nodes)) told.call.source answer
@@ -81,11 +83,12 @@ IsRightAnswer (Some (asks.Legs it)) told answer = IsAboutSource (OneAnswer pool_
 IsRightAnswer (Some (asks.Make it)) told answer = IsTheAnswer (MakeMeans it.seed it.volunteers it.limits) answer
 IsRightAnswer (Some (asks.Step store it)) told answer = IsAnswered store (StepMeans (step_command it)) told.keeper answer
 IsRightAnswer (Some (asks.StoreText store it)) told answer = IsAnswered store (StoreTextMeans it) told.keeper answer
-IsRightAnswer (Some (asks.ProveRound store it)) told answer = IsAnswered store (ProvesRound it) told.keeper answer
+IsRightAnswer (Some (asks.ProveRound store it)) told answer = IsAnswered store (ProvesRound it.round) told.keeper answer
 IsRightAnswer (Some (asks.Import store it)) told answer = (bytes : List ℕ) × IsInput told.call.source bytes × IsAnswered store (ImportMeans it bytes) told.keeper answer
 IsRightAnswer other told answer = ⊥
 
--- how a call ends, by its status: 0 done, 1 no quota panel, 3 faulty input, 4 a number too great, 5 a budget spent, 6 refused by a rule, 11 a proof or certificate refused
+-- how a call ends, by its status; there is no other. 0 done, 1 no quota panel, 3 faulty input, 4 a number too great, 5 a budget spent, 6 refused by a rule, 11 a proof or certificate refused
+-- (by `prove` also a certificate that holds, if no proof can have its numbers)
 pub data Ends (it : Option Asked) (told : StoreTold) : Type 0 where
   -- 0, 1, 3 to 6 and 11: a right answer was told. Its text is what out gained; or its line is what errs gained, of which a part may be missing if errs counted a fault
   Answered : (answer : Saying) → IsRightAnswer it told answer → IsTold answer told.call → Ends it told
@@ -93,7 +96,7 @@ pub data Ends (it : Option Asked) (told : StoreTold) : Type 0 where
   CutOff : (printed : Printed) (text : List ℕ) → IsRightAnswer it told (Prints printed text) → IsCutOff text told.call → Ends it told
   -- 2: the words ask for no command: they have none of the program's forms, a value is out of its range, options don't go together, or they ask for help
   Usage : it ≡ None → IsUsage told.call → Ends it told
-  -- 3: the source held more bytes than an input may have
+  -- 3: the source held more bytes than an input may have, 16,777,216
   TooLong : IsTooLong told.call → Ends it told
   -- 7: the source counted a fault
   ReadFault : IsReadFault told.call → Ends it told
@@ -104,22 +107,22 @@ pub data Ends (it : Option Asked) (told : StoreTold) : Type 0 where
 
 -- ---- a lottery that is answered
 
--- a lottery was found that is leximin greatest over the quota panels of a pool, and `Told` says which pool and where it was told
+-- a lottery was found that is leximin greatest over the quota panels of a pool, and `Told` says which pool it is and what became of the lottery
 pub record Finds (Told : Pool → Answer → Type 0) : Type 0 where
   pub pool : Pool
   pub answer : Answer
   pub leximin : IsLeximin pool answer.lottery
   pub told : Told pool answer
 
--- a round that was open got the bundle of such a lottery over its pool. Or it had a bundle, and the tables stay; a proof that was given isn't
--- judged then. If the tables are the record of an office, the lottery of this bundle is leximin greatest too (`CallsAreRecorded`)
+-- a round that was open got the bundle of such a lottery over its pool. Or it had a bundle, and the tables stay: then this call says nothing of that lottery, and a given proof isn't judged.
+-- If the tables are the record of an office, that lottery is leximin greatest too (`CallsAreRecorded`)
 pub data SolvesRound (round : ℕ) (told : StoreTold) (ByRun : Pool → Answer → Type 0) : Type 0 where
   GotBundle : Finds (λ pool answer. IsRoundPool round told pool × ByRun pool answer ×
       (told.keeper.object.after ≡ option_map (λ tables. apply tables (SolvedWith round (record { pool = pool; answer = answer }))) told.keeper.object.before)) → SolvesRound round told ByRun
   HadBundle : (tables : Tables) (bundle : Bundle) → IsLoaded told.keeper.object.before tables → option_and_then bundle_of (named_round tables.rounds round) ≡ Some bundle →
       KeepsTables told.keeper → SolvesRound round told ByRun
 
--- what status 0 means for `lottery`, `prove`, `make`, `solve` and `keep`
+-- what status 0 means for `lottery`, also with `--share`, for `prove`, also over a store, and for `make`, `solve` and `keep`. Of any other command nothing is said here
 abbrev pub AnswersLottery : Option Asked → StoreTold → Type 0
 AnswersLottery (Some (asks.Lottery it)) told = Finds (λ pool answer. HeldPool told.call.source pool × RunFinds pool it.limits answer × Gains told.call.out (bundle_text pool answer))
 AnswersLottery (Some (asks.SharedLottery it)) told = Finds (λ pool answer. HeldPool told.call.source pool × MayFind it.limits pool answer × Gains told.call.out (bundle_text pool answer))
@@ -132,23 +135,13 @@ AnswersLottery (Some (asks.Import store (imports.Proof round))) told = SolvesRou
 AnswersLottery (Some (asks.ProveRound store it)) told = SolvesRound it.round told (λ pool answer. ⊤)
 AnswersLottery other told = ⊤
 
--- the visits that the opening search may make, for the commands whose run is stated
-abbrev pub nodes_of : Option Asked → Option ℕ
-nodes_of (Some (asks.Text (texts.Panel it))) = Some it.nodes
-nodes_of (Some (asks.Lottery it)) = Some it.limits.nodes
-nodes_of (Some (asks.SharedLottery it)) = Some it.limits.nodes
-nodes_of (Some (asks.Legs it)) = Some it.limits.nodes
-nodes_of (Some (asks.Make it)) = Some it.limits.nodes
-nodes_of (Some (asks.Step store (steps.Solve round limits workers))) = Some limits.nodes
-nodes_of other = None
-
 -- `seal`, its capitals made small, is the seal of the bundle's text, and `drawn` is what the digits of dice draw from this lottery
 pub record IsSealedDraw (seal digits : List ℕ) (bundle : Bundle) (lottery : Lottery) : Type 0 where
   pub sealed : IsTrue (is_seal (bundle_seal bundle) seal)
   pub drawn : Drawn
   pub draws : draw lottery (bundle_seal bundle) seal digits ≡ Ok drawn
 
--- what status 0 means for a draw: from the bundle that the source held, from its lottery in a given number of tickets, or from a round of a store
+-- what status 0 means for a draw: from the bundle that the source held, from its lottery in a given number of tickets, or from a round of a store. For `page --drawn` see `DrawnPageMeans`
 abbrev pub DrawsSealed : Option Asked → StoreTold → Type 0
 DrawsSealed (Some (asks.Text (texts.Draw seal digits))) told = (bundle : Bundle) × HeldBundle told.call.source bundle × IsSealedDraw seal digits bundle bundle.answer.lottery
 DrawsSealed (Some (asks.Text (texts.ShortDraw tickets seal digits))) told =
@@ -161,29 +154,29 @@ DrawsSealed other told = ⊤
 
 pub record Keeps (it : Option Asked) (told : StoreTold) : Type 0 where
   pub ends : Ends it told
-  -- status 0 of `lottery`, `prove`, `make`, `solve` and `keep`: the lottery is leximin greatest. `bundle`, `short` and `draw` don't say so of theirs
+  -- status 0 of `lottery`, `prove`, `make`, `solve` and `keep`: the lottery is leximin greatest, unless the round had one already. `bundle`, `short`, `show`, `page` and draws say less
   pub lottery : told.call.status ≡ 0 → AnswersLottery it told
   -- status 1 comes only if the pool that the call is about has no quota panel
   pub no_panel : told.call.status ≡ 1 → (pool : Pool) × IsItsPool it told pool × (panels pool ≡ [])
-  -- 8, 9 and 12 aside: `panel`, `lottery`, `legs`, `make` and `solve`, about a pool that was told, have status 1 exactly if it has no quota panel and the opening search is within its budget
+  -- 8, 9, 12 aside, about a told pool: `panel`, `lottery` (with `--share` too), `legs`, `make` and `solve` have status 1 exactly if it has no quota panel and the opening search is in budget
   pub exactly : (nodes : ℕ) (pool : Pool) → nodes_of it ≡ Some nodes → ToldPool it told pool → told.call.status ≢ 8 → told.call.status ≢ 9 → told.call.status ≢ 12 →
-      told.call.status ≡ 1 ↔ ((panels pool ≡ []) × (visits_of pool ≤ nodes))
-  -- 5, 8 and 12 aside: if the text of a bundle was told, `check` and `cover` have status 0 exactly if the certificate holds. Then the lottery is leximin greatest (`CheckMeans`)
+      (told.call.status ≡ 1 ↔ ((panels pool ≡ []) × (visits_of pool ≤ nodes)))
+  -- 5, 8 and 12 aside: if the text of a bundle was told, `check` and `cover` have status 0 exactly if the certificate holds. Then the lottery is leximin greatest (`CheckMeans`, `CoverMeans`)
   pub certificate : (nodes : ℕ) → searches_of it ≡ Some nodes → (bundle : Bundle) → IsBundle bundle → ToldText told.call.source (bundle_spelling bundle) →
-      told.call.status ≢ 5 → told.call.status ≢ 8 → told.call.status ≢ 12 → told.call.status ≡ 0 ↔ Certifies bundle.pool bundle.answer.lottery bundle.answer.stages
+      told.call.status ≢ 5 → told.call.status ≢ 8 → told.call.status ≢ 12 → (told.call.status ≡ 0 ↔ Certifies bundle.pool bundle.answer.lottery bundle.answer.stages)
   -- 8 and 12 aside: if the text of a proof was told, `verify` has status 0 exactly if the proof is valid. Then its lottery is leximin greatest, or its pool has no quota panel (`VerifyMeans`)
   pub proof : (verify : Verify) → it ≡ Some (asks.Text (texts.Verify verify)) → (proof : Proof) → IsProof proof → ToldText told.call.source (proof_spelling proof) →
-      told.call.status ≢ 8 → told.call.status ≢ 12 → told.call.status ≡ 0 ↔ verdict proof ≡ Valid
+      told.call.status ≢ 8 → told.call.status ≢ 12 → (told.call.status ≡ 0 ↔ verdict proof ≡ Valid)
   -- 8 and 12 aside: if the text of a cover was told, `check-cover` has status 0 exactly if the cover is valid, and then its lottery is leximin greatest
-  pub cover : (check : CheckCover) → it ≡ Some (asks.Text (texts.CheckCover check)) → (cover : Cover) → IsCover cover → ToldText told.call.source (cover_spelling cover) → told.call.status ≢ 8 →
-      told.call.status ≢ 12 → (told.call.status ≡ 0 ↔ cover_verdict cover ≡ Valid) × (told.call.status ≡ 0 → IsLeximin cover.bundle.pool cover.bundle.answer.lottery)
+  pub cover : (check : CheckCover) → it ≡ Some (asks.Text (texts.CheckCover check)) → (cover : Cover) → IsCover cover → ToldText told.call.source (cover_spelling cover) →
+      told.call.status ≢ 8 → told.call.status ≢ 12 → (told.call.status ≡ 0 ↔ cover_verdict cover ≡ Valid) × (told.call.status ≡ 0 → IsLeximin cover.bundle.pool cover.bundle.answer.lottery)
   -- a draw is of the bundle whose seal was given. The panel that is printed is the drawn one (`Ends`). A draw doesn't ask whether the lottery is leximin greatest
   pub draw : told.call.status ≡ 0 → DrawsSealed it told
   -- unless the status is 0 or 8, the tables of the store are as before; a command without a store leaves the keeper alone at every status
   pub stays : told.call.status ≢ 0 → told.call.status ≢ 8 → KeepsTables told.keeper
   pub alone : IsFalse (uses_store it) → IsLeftAlone told.keeper
 
--- `serve` ends as `ServeOutcome` says, status by status: each link that the door gave is attended by the desk over the tables of the store.
+-- `serve` ends as `SilentServeOutcome` says, status by status: each link that the door gave is attended by the desk over the tables of the store.
 -- Any other call leaves the door alone
 abbrev pub Promises : Option Asked → DeskTold → Type 0
 Promises (Some (asks.Serve store serve)) told = SilentServeOutcome store serve.port serve.connections told
@@ -195,12 +188,13 @@ Headline words told = Promises (asked words) told
 -- ---- what is promised of several calls
 
 pub record OfSeveralCalls : Type 0 where
-  -- over the same told input, faults and 12 aside, the number of workers changes no byte of an answer of `lottery` without `--share`, `legs`, `make` or `solve`, and no table. With `--share`
-  -- the answer is that of `lottery`, unless a pricing of `lottery` spends its budget
+  -- over the same told input, faults and 12 aside, the number of workers changes no byte of an answer of `lottery`, `legs`, `make` or `solve`, and no table. `lottery --share` tells the same
+  -- as `lottery`, whatever the workers of both are, unless a pricing of `lottery` spends its budget
   pub workers : WorkersChangeNothing
-  -- the desk's reply to a key depends on the key's own row and dropouts, the last round's phase, and what is published: a sealed bundle has every volunteer of its pool
+  -- broken links, 503 and 507 aside: the desk's reply to a key depends on the key's own row and dropouts, the last round's phase, and what is published; it changes no row but this one.
+  -- What is published is much: a sealed bundle has the id and the values of every volunteer of its pool
   pub isolation : TellsNothingOfOthers
   -- a command that made a change, given again, changes nothing: a charter or rules at once, any other at any later time. One that changed nothing has the same outcome at once
   pub repeats : RepeatsChangeNothing
-  -- if a keeper tells its tables, began with none, and only these calls changed them: they are the fold of the commands that the calls did, and each lottery in them is leximin greatest
+  -- if a keeper tells its tables, began with `first_tables`, and only these calls changed them: they are the fold of the calls' commands, and each lottery in them is leximin greatest
   pub records : CallsAreRecorded

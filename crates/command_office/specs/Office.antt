@@ -15,7 +15,7 @@ use Rattle.command_shell.specs.Outcomes.{IsStopped, SilentOutcome, TextOutcome}
 use Rattle.command_shell.specs.Subjects.{About, Format}
 use Rattle.command_shell.specs.Told.{Told, IsUntouched}
 use Rattle.command_meanings.specs.Imports.{ImportMeans}
-use Rattle.command_stores.specs.ProvedRounds.{ProvesRound}
+use Rattle.command_meanings.specs.ProvedRounds.{ProvesRound}
 use Rattle.command_meanings.specs.Steps.{StepMeans, TextMeans as StoreTextMeans}
 use Rattle.command_stores.specs.StoreOutcomes.{SilentStoreOutcome, TextStoreOutcome}
 use Rattle.command_stores.specs.StoreTold.{IsLeftAlone, StoreTold}
@@ -70,7 +70,7 @@ AnswersRightly (Some (asks.Step store step)) told = SilentStoreOutcome store (St
 -- answer is right (`imports_answer_once`)
 AnswersRightly (Some (asks.Import store import)) told = TextStoreOutcome store (ImportMeans import) told
 -- a proof of the pool of an open round, which the round keeps, or else the outcome of a solve
-AnswersRightly (Some (asks.ProveRound store proving)) told = SilentStoreOutcome store (ProvesRound proving) told
+AnswersRightly (Some (asks.ProveRound store proving)) told = SilentStoreOutcome store (ProvesRound proving.round) told
 -- all texts that are made of the store's tables
 AnswersRightly (Some (asks.StoreText store text)) told = SilentStoreOutcome store (StoreTextMeans text) told
 AnswersRightly other told = LeavesStore (AnswersAlone other) told

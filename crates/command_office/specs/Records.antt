@@ -1,7 +1,7 @@
 -- The record of an office over many calls. If each call of a list satisfies the contract of `office`, and each finds the tables of the store
 -- as the one before left them, from the first tables on, then the tables at the end are what a list of commands leaves: those that the calls
 -- did, each by its words, its file or a visit of its desk. So the lottery of each bundle that is kept is leximin greatest. The law of
--- src/lib.rt says so of every list of calls.
+-- src/promises.rt says so of every list of calls.
 use Rattle.std.specs.Prelude.{◌≡◌, ◌⊎◌, ◌==◌, ◌++◌, ◌∷◌, ℕ, Bool, IfSome, IsTrue, List, [], None, Ok, Option, Some, bytes_eq, codes, if◌then◌else◌}
 use Rattle.std.specs.List.{AllByRecursion, list_any}
 use Rattle.outside.specs.Faults.{Rose}
@@ -15,7 +15,7 @@ use Rattle.define_offices.specs.Deciding.{with_hash}
 use Rattle.define_offices.specs.Facts.{AreGreatest, IsCommand}
 use Rattle.define_offices.specs.Steps.{Folds}
 use Rattle.define_offices.specs.Tables.{Entry, Tables, first_tables}
-use Rattle.define_runs.specs.Run.{Limits}
+use Rattle.command_meanings.specs.Prove.{lottery_limits}
 use Rattle.office_core.specs.Acting.{IsLoaded}
 use Rattle.office_http.specs.Visits.{RepliesTo, Visit}
 use Rattle.command_shell.specs.Told.{HeldAll}
@@ -57,9 +57,9 @@ abbrev pub IsReadFrom : Import → StoreTold → Command → Type 0
 IsReadFrom file told command =
     (bytes : List ℕ) × HeldAll told.call.source bytes × ((tables : Tables) × IsLoaded told.keeper.object.before tables × ReadsFile file tables bytes (Ok command))
 
--- a proof is kept for the round; or the command is a solve of it
+-- a proof is kept for the round; or the command is a solve of it with the limits that it has without words
 abbrev pub IsOfRound : ℕ → Command → Type 0
-IsOfRound round command = ((proof : Proof) × (command ≡ Keep round proof)) ⊎ ((limits : Limits) × (command ≡ Solve round limits))
+IsOfRound round command = ((proof : Proof) × (command ≡ Keep round proof)) ⊎ (command ≡ Solve round lottery_limits)
 
 -- ---- the commands of a desk
 

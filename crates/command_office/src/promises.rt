@@ -20,7 +20,7 @@ pub fn headline()
     ensures { (words : List (List ℕ)) (told : DeskTold) → OfficeIsRight words told → Headline words told }
 {}
 
-/// The number of workers changes no byte of an answer of `lottery`, `legs`, `make` or `solve`, and no table.
+/// The number of workers changes no byte of an answer of `lottery` without `--share`, of `legs`, `make` or `solve`, and no table.
 pub fn workers_change_nothing()
     ensures { WorkersChangeNothing }
 {

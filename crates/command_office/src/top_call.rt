@@ -31,9 +31,9 @@ use std::thread::Threads;
 ///
 /// If the door tells its links, the caller must show that no more links came back to it than it gave. A new door has given none.
 ///
-/// For `lottery`, `legs` and `make`, workers search the pieces of a pricing on threads, and `watch` is told of each piece as it starts, also of
-/// the one worker of `prove`. No answer depends on the workers or the watch, except whether `lottery --share` says that a pricing spent its
-/// budget.
+/// For `lottery`, `legs`, `make` and `solve`, workers search the pieces of a pricing on threads, and `watch` is told of each piece as it starts,
+/// also of the one worker of `prove`. No answer depends on the workers or the watch, except that of `lottery --share` where a pricing of
+/// `lottery` spends its budget.
 #[tactic(auto, using(crate::proofs::Kept::keeps))]
 pub fn office<R: Threads + Sync, S: Source, O: Sink, E: Sink, K: Keeper, D: Door, W: Watch + Sync>(
     rt: &R,

@@ -130,7 +130,8 @@ check_of_given count bundle (Stops Wide line) right = absurd right
 check_of_given count bundle (Stops Spent line) right = CheckSpends bundle.answer refl right
 check_of_given count bundle (Stops Rule line) right = absurd right
 
--- and about a given pool, for which the run of `lottery` finds the bundle's answer. Its certificate holds, so `check` doesn't refuse it
+-- An answer of `check` is right about a given pool too, if the run of `lottery` finds the bundle's answer for it. The certificate holds then, so
+-- `check` doesn't refuse it.
 pub check_of_found : (count : Left) (pool : Pool) (bundle : Bundle) (answer : Saying) → bundle.pool ≡ pool → FindsGreatest lottery_limits pool bundle.answer → IsRight (CheckStops bundle) answer →
     IsRight (ProveMeans count (either.Pool pool)) answer
 check_of_found count pool bundle (Prints printed.Done text) same finds right = absurd right

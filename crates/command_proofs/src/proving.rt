@@ -88,7 +88,7 @@ fn proved<R: Threads + Sync, W: Watch + Sync>(
 }
 
 /// Returns what `prove` answers by a run under `budget`, if the nodes of `trees` are left for trees. Afterwards both are what is left of
-/// them: so the line that no trees are found comes only if the nodes of `trees` were visited, one by one.
+/// them: so the line that no trees are found comes only if the nodes of `trees` were taken, one by one.
 ///
 /// # Errors
 ///

@@ -99,8 +99,8 @@ fn beyond_answer(alloc: Global, stage: usize) -> Result<Answer, AllocError>
     verdict_answer(alloc, &verdict)
 }
 
-/// Returns the proof of a bundle whose certificate holds, or that all nodes of `trees` were visited. The search goes on until then, by splits
-/// alone; each attempt takes a node.
+/// Returns the proof of a bundle whose certificate holds, or that no node of `trees` is left. The search goes on until then, by splits alone;
+/// each attempt takes a node.
 fn proved_or_spent(alloc: Global, trees: &mut Budget, bundle: &Bundle) -> Result<Answer, AllocError>
     requires valid { check_answer bundle.now.pool bundle.now.answer check_visits ≡ Ok Valid }
     requires within { first_stage_beyond bundle.now.answer.stages ≡ None }

@@ -14,10 +14,10 @@ use Rattle.command_proofs.specs.Proved.{IsValidOf}
 use Rattle.command_shell.specs.Answers.{Saying, saying}
 use Rattle.command_stores.specs.StoreTold.{Keeper}
 use Rattle.command_shell.specs.declared.answer.Answer.{Answer}
-use Rattle.command_stores.specs.ProvedRounds.{AsSolve, IsIfAny, IsOpenWith, Keeps, ProvesRound, TellsOpen, is_open}
+use Rattle.command_meanings.specs.ProvedRounds.{AsSolve, IsOpenWith, Keeps, ProvesRound}
+use Rattle.command_stores.specs.OpenRounds.{IsIfAny, TellsOpen, is_open}
 use Rattle.command_meanings.specs.Steps.{StepMeans}
 use Rattle.command_stores.specs.StoreOutcomes.{SettlesLoaded}
-use Rattle.command_stores.specs.declared.proving.ProveRound.{ProveRound}
 
 -- ---- which rounds are open
 
@@ -43,9 +43,9 @@ module _ (tables : Tables) (round : ℕ) where
 
 -- ---- answers that are right for a round that is to be proved
 
-module _ (it : ProveRound) (tables : Tables) where
+module _ (round : ℕ) (tables : Tables) where
   abbrev Means : Saying → Option Change → Type 0
-  Means = ProvesRound it tables
+  Means = ProvesRound round tables
 
   -- If a call settles by the meaning `Own`, and `Means` follows from `Own`, the call settles by `Means`.
   weaker : (Own : Saying → Option Change → Type 0) (kept : Keeper) (settled : Result Answer KeeperStop) → ((answer : Saying) (change : Option Change) → Own answer change → Means answer change) →
@@ -59,11 +59,11 @@ module _ (it : ProveRound) (tables : Tables) where
   its_pool pool (OfNoPanel own lines) is = is
 
   -- If a call settles by keeping a valid proof of the pool of an open round, it settles by `Means`.
-  pub keeps_proof : (pool : Pool) (proof : Proof) (kept : Keeper) (settled : Result Answer KeeperStop) → IsOpenWith tables it.round pool → IsValidOf pool proof →
-      SettlesLoaded (StepMeans (Keep it.round proof) tables) kept settled → SettlesLoaded Means kept settled
+  pub keeps_proof : (pool : Pool) (proof : Proof) (kept : Keeper) (settled : Result Answer KeeperStop) → IsOpenWith tables round pool → IsValidOf pool proof →
+      SettlesLoaded (StepMeans (Keep round proof) tables) kept settled → SettlesLoaded Means kept settled
   keeps_proof pool proof kept settled is valid =
-      weaker (StepMeans (Keep it.round proof) tables) kept settled (λ answer change means. Keeps pool proof is (its_pool pool proof valid.of_pool) valid.valid means)
+      weaker (StepMeans (Keep round proof) tables) kept settled (λ answer change means. Keeps pool proof is (its_pool pool proof valid.of_pool) valid.valid means)
 
   -- Else the answer of a solve is right.
-  pub as_solve : (kept : Keeper) (settled : Result Answer KeeperStop) → SettlesLoaded (StepMeans (Solve it.round lottery_limits) tables) kept settled → SettlesLoaded Means kept settled
-  as_solve kept settled = weaker (StepMeans (Solve it.round lottery_limits) tables) kept settled (λ answer change means. AsSolve means)
+  pub as_solve : (kept : Keeper) (settled : Result Answer KeeperStop) → SettlesLoaded (StepMeans (Solve round lottery_limits) tables) kept settled → SettlesLoaded Means kept settled
+  as_solve kept settled = weaker (StepMeans (Solve round lottery_limits) tables) kept settled (λ answer change means. AsSolve means)

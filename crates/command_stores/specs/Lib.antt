@@ -2,4 +2,4 @@ pub mod NoTexts
 pub mod StoreTold
 pub mod StoreOutcomes
 pub mod ReadFiles
-pub mod ProvedRounds
+pub mod OpenRounds

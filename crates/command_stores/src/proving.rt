@@ -8,13 +8,8 @@ ghost use Rattle.define_offices.specs.Commands.{Refusal};
 ghost use Rattle.define_offices.specs.Tables.{named_round};
 ghost use Rattle.define_pools.specs.Pool.{Pool as SeenPool};
 ghost use Rattle.office_pools.specs.Told.{TellsPool};
-ghost use Rattle.command_stores.specs.ProvedRounds.{
-  IsIfAny,
-  IsOpenWith,
-  ProvesRound,
-  TellsOpen,
-  is_open as is_open_now,
-};
+ghost use Rattle.command_meanings.specs.ProvedRounds.{IsOpenWith, ProvesRound};
+ghost use Rattle.command_stores.specs.OpenRounds.{IsIfAny, TellsOpen, is_open as is_open_now};
 ghost use Rattle.command_stores.specs.StoreOutcomes.{Settles, SettlesLoaded, SilentStoreOutcome};
 ghost use Rattle.command_stores.specs.StoreTold.{keeper_told, store_told};
 
@@ -50,7 +45,7 @@ pub fn call_prove_round<R: Threads + Sync, W: Watch + Sync, K: Keeper, O: Sink, 
     out: &mut O,
     errs: &mut E,
 ) -> Status
-    ensures { (source : Bytes) → IsUntouched source → SilentStoreOutcome path.now (ProvesRound proving) (store_told
+    ensures { (source : Bytes) → IsUntouched source → SilentStoreOutcome path.now (ProvesRound proving.round) (store_told
         (told (status_number result) source
         (object (O.written out.old) (O.written out.new) (O.faults out.old) (O.faults out.new))
         (object (E.written errs.old) (E.written errs.new) (E.faults errs.old) (E.faults errs.new)))
@@ -67,7 +62,7 @@ fn settle_proof<R: Threads + Sync, W: Watch + Sync, K: Keeper>(
     path: &str,
     keeper: &mut K,
 ) -> Result<Answer, KeeperStop>
-    ensures { Settles path.now (ProvesRound proving)
+    ensures { Settles path.now (ProvesRound proving.round)
         (keeper_told (object (K.tables keeper.old) (K.tables keeper.new) (K.faults keeper.old) (K.faults keeper.new)) (K.course keeper.old) (K.course keeper.new)) result }
 {
     let tables = load_at(resources.alloc, path, keeper)?;
@@ -82,7 +77,7 @@ fn prove_over<R: Threads + Sync, W: Watch + Sync, K: Keeper>(
     keeper: &mut K,
 ) -> Result<Answer, KeeperStop>
     requires loaded { IfSome (K.tables keeper.old) (λ kept. tables.now ≡ kept) }
-    ensures settles { SettlesLoaded (ProvesRound proving tables.now)
+    ensures settles { SettlesLoaded (ProvesRound proving.round tables.now)
         (keeper_told (object (K.tables keeper.old) (K.tables keeper.new) (K.faults keeper.old) (K.faults keeper.new)) (K.course keeper.old) (K.course keeper.new)) result }
     ensures place { (K.course keeper.new).place ≡ (K.course keeper.old).place }
 {
@@ -103,7 +98,7 @@ fn prove_open<R: Threads + Sync, W: Watch + Sync, K: Keeper>(
 ) -> Result<Answer, KeeperStop>
     requires loaded { IfSome (K.tables keeper.old) (λ kept. tables.now ≡ kept) }
     requires open_now { IsOpenWith tables.now proving.round pool.now }
-    ensures settles { SettlesLoaded (ProvesRound proving tables.now)
+    ensures settles { SettlesLoaded (ProvesRound proving.round tables.now)
         (keeper_told (object (K.tables keeper.old) (K.tables keeper.new) (K.faults keeper.old) (K.faults keeper.new)) (K.course keeper.old) (K.course keeper.new)) result }
     ensures place { (K.course keeper.new).place ≡ (K.course keeper.old).place }
 {
@@ -126,7 +121,7 @@ fn answer_as_solve<R: Threads + Sync, W: Watch + Sync, K: Keeper>(
     keeper: &mut K,
 ) -> Result<Answer, KeeperStop>
     requires loaded { IfSome (K.tables keeper.old) (λ kept. tables.now ≡ kept) }
-    ensures settles { SettlesLoaded (ProvesRound proving tables.now)
+    ensures settles { SettlesLoaded (ProvesRound proving.round tables.now)
         (keeper_told (object (K.tables keeper.old) (K.tables keeper.new) (K.faults keeper.old) (K.faults keeper.new)) (K.course keeper.old) (K.course keeper.new)) result }
     ensures place { (K.course keeper.new).place ≡ (K.course keeper.old).place }
 {

@@ -32,9 +32,8 @@ pub record SpendsVisits (all : Classes) (limits : RunLimits) (table : Table) : T
   pub due : choice table ≡ None
   pub more : limits.pricing < pricing_visits all (closed_rows table) (row_at table (open_row table))
 
--- The run whose workers share a bound may end so: as the unbounded run does; or because a pricing spends its budget, but only at a table that
--- the unbounded run reaches and at which the visits in waves are more than the budget. Which of the two it is may depend on when the
--- workers run
+-- How a run may end whose workers share a bound: as the unbounded run does, or because a pricing spends its budget. The second comes only at
+-- a table that the unbounded run reaches and where the visits in waves exceed the budget. The order in which threads run may decide which
 abbrev pub MayEnd : Classes → RunLimits → Ending → Type 0
 MayEnd all limits (NodesSpent (Some table)) = ReachesUnbounded all limits table × SpendsVisits all limits table
 MayEnd all limits other = EndsUnbounded all limits other

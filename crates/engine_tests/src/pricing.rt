@@ -61,6 +61,14 @@ fn workers_that_share_a_bound_find_the_same(rt: HostRuntime) -> Result<(), Fail>
         assert_eq!(rt; counts_of(&found), Some([1, 0, 1, 0].as_slice()));
         assert_eq!(rt; visits, 12);
     }
+    // 13 fronts lead to six pieces. The second one weighs 5, the most, and no worker that knows it enters the four after it.
+    let row = Row::new(0, Vec::from_slice(alloc, &[3, 1, 2, 1])?);
+    assert!(rt; is_small(&all, &row));
+    let (_, visits) = best_by(&rt, alloc, 1, &NoWatch, &all, &[], &row, 19)?;
+    assert_eq!(rt; visits, 19);
+    let (found, visits) = best_sharing(&rt, alloc, 1, &NoWatch, &all, &[], &row, 19)?;
+    assert_eq!(rt; counts_of(&found), Some([1, 0, 1, 0].as_slice()));
+    assert_eq!(rt; visits, 15);
     Ok(())
 }
 

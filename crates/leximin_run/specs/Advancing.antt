@@ -14,8 +14,8 @@ use Rattle.panel_search.specs.declared.searching.SearchStop.TheVariants.{Spent, 
 use Rattle.leximin_run.specs.declared.running.Refusal.{Refusal}
 use Rattle.leximin_run.specs.declared.running.Refusal.TheVariants.{Wide, NoPivot, NoVisit, NoMemory}
 
--- P holds of the limits with each budget of pricing from some number on. If the workers share nothing, this number is at most the budget, so
--- P holds of the limits themselves. If they share a bound, a pricing may be answered that makes more visits in waves than its budget
+-- P holds of the limits with each budget of pricing from `least` on. If the workers share nothing, `least` is at most the budget, so P holds of
+-- the limits too. If they share a bound, a pricing may be answered though its visits in waves exceed the budget, so `least` may be greater
 pub record HoldsFrom (share : Bool) (limits : RunLimits) (P : RunLimits → Type 0) : Type 0 where
   pub least : ℕ
   pub own : IsFalse share → least ≤ limits.pricing

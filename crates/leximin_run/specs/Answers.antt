@@ -86,7 +86,8 @@ stop_of table NoMemory = OutOfMemory
 abbrev pub sizes_in : Table → RunSizes
 sizes_in table = record { classes = length table.sizes; columns = length table.columns; pivots = table.pivots }
 
--- the run whose workers share a bound or nothing ends so, with the pricings that were answered. At a spent budget of pricing it says where
+-- the run ends so, with each budget of pricing from some number on. If a pricing spends its budget: the run reaches this table, and the visits
+-- in waves there exceed the budget
 abbrev pub EndsFrom : Bool → Classes → RunLimits → Ending → Type 0
 EndsFrom share all limits (Ending.NodesSpent (Some table)) = HoldsFrom share limits (λ free. IsReached all free table) × SpendsVisits all limits table
 EndsFrom share all limits other = HoldsFrom share limits (λ free. Ends all free other)

@@ -7,9 +7,9 @@ use Rattle.panel_search.specs.declared.searching.SearchStop.{SearchStop}
 use Rattle.panel_search.specs.declared.searching.SearchStop.TheVariants.{Spent, OutOfMemory}
 use Rattle.pricing_pool.specs.Outcomes.{Told, Wave}
 
--- the answer of a search for the composition `best`, which makes `due` visits if its pieces share nothing: it finds `best`, with at most
--- `due` visits, and at most `nodes`; or the budget is spent, which comes only if `due` exceeds `nodes`. Running out of memory is allowed at
--- any time
+-- What a search by workers that share a bound may answer. `best` is what is sought, and `due` the visits of a search that shares nothing. It
+-- finds `best`, and counts at most `due` and at most `nodes` visits; or its budget is spent, only if `due` exceeds `nodes`. Memory may run out
+-- at any time
 abbrev pub AnswersSharing : Option (List ℕ) → ℕ → ℕ → Result (Option (List ℕ) × ℕ) SearchStop → Type 0
 AnswersSharing best due nodes (Ok (found, visits)) = (found ≡ best) × (visits ≤ due) × (visits ≤ nodes)
 AnswersSharing best due nodes (Err Spent) = nodes < due

@@ -42,9 +42,12 @@ static PRINTED: [(&str, &str); 2] = rows! {
     ("report", "the report of a round. It is for people, and no command reads it. `pool` prints the round's pool, `show` its bundle.")
     ("seal,ticket,digits,chance,input,rule,spent,wide,refused,valid,no panel,solved,dropped,round,read fault,write fault,keeper fault,\
 want of memory",
-        "what another command printed, and no pool, bundle or proof. If it is the line of an error, mend that first: docs/CLERK.md says what \
-each line means.")
+        "what another command printed, and no pool, bundle or proof. If it is the line of an error, mend that first: docs/REFERENCE.md \
+says what each line means.")
 };
+
+/// How the line begins with which `prove` says that it found no trees.
+const TREES_SPENT: &[u8] = b"spent\ttrees\t";
 
 /// Says what the file is and what to do, or returns None if it isn't known here. Known are empty and blank files, files of other programs,
 /// the files and stores of an office, what other commands print, and texts of this program with blanks in place of TABs.
@@ -58,6 +61,7 @@ pub(crate) fn other_file(alloc: Global, content: &[u8]) -> Checked {
     let words = first_of_rows! { alloc; known: Words(known), utf16: Words(UTF16);
         content.is_empty() => "This file is empty. Often the command that should have written it failed: `>` leaves an empty file. Call that command again, and look at its status.\n";
         text.is_empty() => "This file has only blanks and empty lines.\n";
+        text.starts_with(TREES_SPENT) => "This file is the line of `prove` that it found no trees: the lottery is leximin greatest, but within so many nodes no proof of it was found. A bundle of it is checked by `check`, or by `cover` and `check-cover`. Or give `prove` more by --nodes.\n";
         !known.is_empty() => "This file is {known}\n";
         is_utf16 => "This file is {utf16}\n";
         has_zero => "This file is no text: it has bytes 0. Give the pool, the bundle or the proof itself.\n";

@@ -11,5 +11,5 @@ use Rattle.command_stores.proofs.proving.answer_as_solve.Goals as goal
 pub returns-clause-settles : goal.returns-clause-settles
 returns-clause-settles g c =
     let kept = keeper_told (object (g.K.Keeper.tables c.args.keeper.now) (g.K.Keeper.tables c.settle_over.new.keeper) (g.K.Keeper.faults c.args.keeper.now) (g.K.Keeper.faults c.settle_over.new.keeper)) (g.K.Keeper.course c.args.keeper.now) (g.K.Keeper.course c.settle_over.new.keeper) in
-    as_solve c.args.proving c.args.tables.now kept c.settle_over.result
+    as_solve c.args.proving.round c.args.tables.now kept c.settle_over.result
     (subst (λ (limits : Limits). SettlesLoaded (StepMeans (Solve c.args.proving.round limits) c.args.tables.now) kept c.settle_over.result) c.lottery_limits.ensures c.settle_over.ensures.settles)

@@ -2,7 +2,7 @@ use Rattle.std.proofs.Common.{◌≡◌, true}
 use Rattle.std.proofs.lemmas.Result.{IfOk-weaker}
 use Rattle.define_offices.specs.Pools.{pool_of}
 use Rattle.define_offices.specs.Tables.{named_round}
-use Rattle.command_stores.specs.ProvedRounds.{is_open}
+use Rattle.command_stores.specs.OpenRounds.{is_open}
 use Rattle.command_stores.proofs.RoundProofs.{opened}
 use Rattle.command_stores.proofs.proving.open_pool.Goals as goal
 
