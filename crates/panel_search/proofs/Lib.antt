@@ -1,6 +1,9 @@
 pub mod BestStepping
+pub mod Counted
 pub mod Division
 pub mod Kept
+pub mod UnitsBeside
+pub mod Weighed
 pub mod Ranges
 pub mod Stepping
 pub mod SharedSearches

@@ -1,5 +1,6 @@
 pub mod Answers
 pub mod Front
+pub mod Groups
 pub mod Pieces
 pub mod Pricers
 pub mod Pricing
@@ -7,4 +8,5 @@ pub mod Sharing
 pub mod Steps
 pub mod Tallies
 pub mod Terms
+pub mod Units
 pub mod Weights

@@ -37,13 +37,14 @@ pub record IsBounded (priced : Priced) (floor : ℤ) (seen : ℕ) : Type 0 where
 abbrev pub begun_at : ℤ → Pricing
 begun_at floor = record { visits = 0; floor = floor; kept = None }
 
--- the visits of a part of a search that shares nothing and comes to this part with the given floor
+-- how many visits a search that shares nothing makes in one part, if it begins the part with this floor. `due` says what the part does to
+-- such a search
 abbrev pub visits_from : (Pricing → Pricing) → ℤ → ℕ
 visits_from due floor = (due (begun_at floor)).visits
 
--- a part of a search that shares a word, beside the same part of a search that shares nothing, `due`. The search comes to the part as
--- `before`, with `seen` as the greatest word that it has loaded, and leaves it as `after`, with `last`. What it kept is let go once a word
--- shows that it is beaten
+-- one part of a search that shares a word, compared with the same part of a search that shares nothing, which `due` describes. The sharing
+-- search is `before` at the beginning of the part and `after` at its end; the greatest word that it has loaded is `seen` at the beginning and
+-- `last` at the end. If it loads a word above its floor, it drops the composition that it kept, since a heavier one exists
 pub record Shares (priced : Priced) (due : Pricing → Pricing) (before : Pricing) (seen : ℕ) (after : Pricing) (last : ℕ) : Type 0 where
   pub no_less : seen ≤ last
   pub stands : MayStand priced last
@@ -57,7 +58,8 @@ pub record Shares (priced : Priced) (due : Pricing → Pricing) (before : Pricin
   -- there are at most the visits of a search alone that comes to the part with no higher floor
   pub few : (u : ℤ) → u ≤ℤ before.floor → after.visits ≤ before.visits + visits_from due u
 
--- each search alone that comes to the part with no higher floor makes the visits beyond `nodes`
+-- the visits of `before`, and those of a search that shares nothing in the part that `due` describes, are together more than `nodes`. This
+-- holds for each floor with which that search may begin the part, up to the floor of `before`
 abbrev pub Exceeds : (Pricing → Pricing) → Pricing → ℕ → Type 0
 Exceeds due before nodes = (u : ℤ) → u ≤ℤ before.floor → nodes < before.visits + visits_from due u
 

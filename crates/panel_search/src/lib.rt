@@ -5,13 +5,16 @@
 //!
 //! Promises: `first`, `best`, `pieces` and `best_from`, and the calls of `Pricer` and `PricedRow`, which keep the tables that each search
 //! needs of the closed rows and of the priced row. `PricedRow::shared_from` searches below a front and shares a word with other searches, whose
-//! rule is `Beaten`. The modules `tally`, `weighing` and `greatest` and what they use are helpers.
+//! rule is `Beaten`. `is_live` tests one front and takes no memory. The modules `tally`, `weighing` and `greatest`, `counting` and `units`, and
+//! what they use are helpers.
 #![tactic(auto)]
 
+mod counting;
 mod dividing;
 mod fronts;
 mod greatest;
 mod homes;
+mod live;
 mod priced;
 mod pricer;
 mod pricing;
@@ -19,11 +22,13 @@ mod searching;
 mod sharing;
 mod tallies;
 mod tally;
+mod units;
 mod weighing;
 mod word;
 
 pub use define_rows::Row;
 pub use fronts::Front;
+pub use live::is_live;
 pub use priced::PricedRow;
 pub use pricer::{Pricer, best, best_from, pieces, pricer_of};
 pub use searching::{SearchStop, first};

@@ -146,7 +146,7 @@ pub(crate) fn all_weights(
 }
 
 // Returns a weight plus `count` times an entry.
-fn with_count(weight: i128, count: usize, entry: i128) -> i128
+pub(crate) fn with_count(weight: i128, count: usize, entry: i128) -> i128
     requires { unsigned_abs weight + count * unsigned_abs entry < 2 ^ 127 }
     ensures { result ≡ weight +ℤ pos count *ℤ entry }
 {
