@@ -30,7 +30,7 @@ const CHECK_VISITS: u64 = 50_000_000;
 const BEYOND: u8 = 13;
 
 /// How a bundle is settled.
-#[derive(Debug, Drop)]
+#[derive(Drop)]
 pub(crate) enum Settled {
     /// By this answer, whether the bundle was given or found.
     Told(Answer),

@@ -6,7 +6,7 @@ ghost use Rattle.define_waves.specs.Below.{IsFront};
 
 use crate::small_classes::{APART, classes_of, counts_of, is_small};
 use alike::Classes;
-use panel_search::{Front, Row, SearchStop, best, best_from, pieces};
+use panel_search::{Front, Row, SearchStop, best, best_from, is_live, pieces};
 use std::test::Fail;
 
 /// A front, a floor, and what the search below it finds.
@@ -102,6 +102,9 @@ fn searches_begin_at_fronts(rt: HostRuntime) -> Result<(), Fail> {
         let (found, visits) = best_from(alloc, &all, &[], &row, &front, below.floor, below.visits)?;
         assert_eq!(rt; counts_of(&found), below.found, "{:?}", below.front);
         assert_eq!(rt; visits, below.visits, "{:?}", below.front);
+        // a search makes no visit below a front that isn't live
+        let lives = is_live(&all, &[], &row, &front, below.floor);
+        assert_eq!(rt; lives, below.visits > 0, "{:?}", below.front);
         let less = below.visits.saturating_sub(1);
         let short = best_from(alloc, &all, &[], &row, &front, below.floor, less);
         assert_eq!(rt;

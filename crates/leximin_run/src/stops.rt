@@ -43,7 +43,7 @@ pub enum SolvedTraced {
 }
 
 /// The result of a run, with the sizes of its last table and its legs.
-#[derive(Debug, Drop)]
+#[derive(Drop)]
 pub(crate) enum Outcome {
     /// A lottery, with its certificate.
     Found(Answer, RunSizes, Vec<Leg>),

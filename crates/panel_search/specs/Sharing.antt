@@ -23,7 +23,8 @@ pub record IsBeaten (priced : Priced) (n : ℕ) : Type 0 where
   pub qualifies : Qualifies priced.classes priced.closed priced.row counts
   pub heavier : pos n <ℤ weight_in priced.row.a counts
 
--- the rule of the shared word: it is 0, or some composition that attains the closed rows and weighs more than the right side weighs more
+-- the rule of the shared word: it is 0, or below the weight of some composition that attains the closed rows and weighs more than the right
+-- side
 abbrev pub MayStand : Priced → ℕ → Type 0
 MayStand priced n = (n ≡ 0) ⊎ IsBeaten priced n
 
@@ -87,7 +88,7 @@ priced_of terms = record { classes = terms.classes.now; closed = terms.closed.no
 abbrev pub alone_from : Priced → List ℕ → ℤ → Pricing
 alone_from priced front floor = search_from priced.classes priced.closed priced.row front floor
 
--- what the search below a front answers that shares a word, where `last` is the greatest word that its worker has loaded by the end
+-- the answer of a search below `front` that shares a word. `last` is the greatest word that its worker has loaded when it ends
 pub record IsShared (priced : Priced) (front : List ℕ) (floor : ℤ) (found : Option (List ℕ × ℤ)) (visits last : ℕ) : Type 0 where
   -- it finds what the search alone finds, if that weighs more than the word
   pub best : pos last <ℤ (alone_from priced front floor).floor → IsKept (alone_from priced front floor) found

@@ -10,7 +10,7 @@ ghost use Rattle.panel_search.specs.Groups.{HasCategory, is_in_group};
 use alike::{Class, Classes};
 
 /// Whom a count is of.
-#[derive(Clone, Copy, Debug)]
+#[derive(Clone, Copy)]
 pub(crate) enum Group {
     /// All members.
     Everybody,

@@ -27,7 +27,7 @@ use std::alloc::{AllocError, Global};
 
 /// What a search for the best composition reads: the classes, the rows to attain and the one to price, each with its greatest sums. The
 /// search changes none of it, so searches may read it side by side.
-#[derive(Debug, Drop)]
+#[derive(Drop)]
 pub(crate) struct Terms<'a> {
     pub(crate) classes: &'a Classes,
     pub(crate) closed: &'a [Row],
@@ -105,7 +105,7 @@ fn places_after(alloc: Global, front: &[usize], places: usize) -> Result<Vec<usi
 
 // Where a search for the best composition is: the counts of the front's classes, with a place for each class; what the front takes and
 // weighs; the floor, and the composition that was kept last, if there is one; the visits, and the budget of visits.
-#[derive(Debug, Drop)]
+#[derive(Drop)]
 pub(crate) struct BestSearch {
     pub(crate) counts: Vec<usize>,
     pub(crate) tally: Tally,

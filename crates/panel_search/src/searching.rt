@@ -68,7 +68,7 @@ impl From<BudgetSpent> for SearchStop {
 pub(crate) struct BudgetSpent;
 
 // Where a search is: the counts of the front's classes, with a place for each class; what the front takes; and how many visits are left.
-#[derive(Debug, Drop)]
+#[derive(Drop)]
 struct Search {
     counts: Vec<usize>,
     tally: Tally,

@@ -64,7 +64,7 @@ fn tell<S: Scope>(word: &AtomicIn<Beaten<S>>, weight: i128, seen: u64)
 }
 
 // A search, and the greatest word that its worker has loaded. The floor is at least this word.
-#[derive(Debug, Drop)]
+#[derive(Drop)]
 struct SharingSearch {
     search: BestSearch,
     seen: u64,

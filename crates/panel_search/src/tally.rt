@@ -15,7 +15,7 @@ use std::alloc::{AllocError, Global};
 
 /// How many members a front takes and the most that later classes can give, in all and of each value; and how many members the front takes
 /// of each household.
-#[derive(Debug, Drop)]
+#[derive(Drop)]
 pub(crate) struct Tally {
     taken: usize,
     held: Vec<usize>,

@@ -64,7 +64,7 @@ fn greatest_sum(classes: &Classes, entries: &[i128], place: usize, count: usize)
 }
 
 /// The units beside a weight.
-#[derive(Debug, Drop)]
+#[derive(Drop)]
 struct Beside {
     /// How many weigh more.
     heavier: usize,

@@ -14,7 +14,7 @@ use define_rows::Row;
 use std::alloc::{AllocError, Global};
 
 /// The weights in a row of a front and of its prefixes: the entry at k is the weight of the first k counts.
-#[derive(Debug, Drop)]
+#[derive(Drop)]
 pub(crate) struct Weights {
     by_length: Vec<i128>,
 }

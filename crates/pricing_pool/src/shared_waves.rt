@@ -23,7 +23,7 @@ use std::thread::Threads;
 
 /// The outcome of the waves so far, and the greatest word that a worker has loaded. The floor is at least this word; what was kept is let
 /// go once the word shows that it is beaten.
-#[derive(Debug, Drop)]
+#[derive(Drop)]
 pub(crate) struct SharedSoFar {
     pub(crate) so_far: SoFar,
     pub(crate) word: u64,

@@ -12,7 +12,7 @@ use std::marker::Model;
 use std::sync::atomic::AtomicIn;
 
 /// A wave: the fronts of its pieces, with the number of the first; the floor; and how many visits each piece may make.
-#[derive(Debug, Drop)]
+#[derive(Drop)]
 pub(crate) struct Wave<'a> {
     priced: &'a PricedRow<'a>,
     fronts: &'a [Front],

@@ -18,7 +18,7 @@ use std::thread::Threads;
 
 /// The outcome of the waves so far: the visits; the floor; and the composition that was kept last, if there is one, whose weight is the
 /// floor.
-#[derive(Debug, Drop)]
+#[derive(Drop)]
 pub(crate) struct SoFar {
     pub(crate) visits: u64,
     pub(crate) floor: i128,
