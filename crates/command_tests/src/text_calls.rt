@@ -62,6 +62,13 @@ const USAGE_ROWS: &[Row] = &[
         b"error: invalid value 'x' for '--nodes <nodes>': invalid digit found in string\n\nFor more information, try '--help'.\n",
     ),
     (
+        &["--version"],
+        FOUR,
+        2,
+        b"",
+        b"sortition 1.0.0 (rattle-kit-13f logic dac8208d650f15bf)\n",
+    ),
+    (
         &["panel", "--help"],
         FOUR,
         2,

@@ -51,9 +51,9 @@ command_with name options = record { top = record (new_shape name) { rules = map
 abbrev pub command_app : CommandEntry → App
 command_app command = command_with command.name command.options
 
--- the program without its commands: a subcommand is required, and the words don't include the program's name
+-- the program without its commands: a subcommand is required, the words don't include the program's name, and it has a version
 abbrev pub program_alone : App
-program_alone = on_top (λ top. record top { no_binary_name = true; subcommand_required = true }) (new_app (codes "sortition"))
+program_alone = on_top (λ top. record top { no_binary_name = true; subcommand_required = true; has_version = true }) (new_app (codes "sortition"))
 
 -- the program with each command as a subcommand
 abbrev pub program_app : List CommandEntry → App

@@ -218,11 +218,15 @@ pub record ImportsGive : Type 0 where
   pub rules : ImportGives name.ImportRules (codes "import-rules")
   pub register : ImportGives name.ImportRegister (codes "import-register")
 
--- what gives nothing: no words at all, a word that is no command, the word `help`, and an option that the command doesn't have
+-- what gives nothing: no words at all, a word that is no command, the word `help`, the option for the version, which no command has, and an option
+-- that the command doesn't have
 pub record OthersGive : Type 0 where
   pub none : GiveNothing []
   pub another : GiveNothing (codes "sort" ∷ [])
   pub help : GiveNothing (codes "help" ∷ [])
+  pub version : GiveNothing (codes "--version" ∷ [])
+  pub short_version : GiveNothing (codes "-V" ∷ [])
+  pub command_version : GiveNothing (codes "verify" ∷ codes "--version" ∷ [])
   pub option : GiveNothing (codes "verify" ∷ codes "--round" ∷ codes "1" ∷ [])
 
 -- `serve` requires the store and a port. Ports are from 1 to 65535; connections are from 1 to 10 ^ 6, and 10 ^ 6 if they are not given

@@ -51,4 +51,5 @@ To make a lottery without a store:
   make             Makes a pool from a number, and tells of its lottery
 
 `sortition help COMMAND` prints the options of a command, and an example.
+`sortition --version` prints the version, and the toolchain that built it.
 ";

@@ -14,6 +14,7 @@ mod program;
 mod reading;
 mod table;
 mod values;
+mod version;
 mod words;
 mod worked;
 

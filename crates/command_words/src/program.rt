@@ -14,6 +14,7 @@ ghost use Rattle.command_words.specs.Program.{
 };
 
 use crate::help::HELP;
+use crate::version::VERSION;
 use crate::words::{Form, Missing, TableCommand, TableOption};
 use clap::builder::ValueParser;
 use clap::{Arg, ArgAction, Command};
@@ -37,6 +38,7 @@ fn program_alone<'a>(alloc: Global) -> Result<Command<'a>, AllocError>
     ensures { IfOk result (λ program. app_of program ≡ words_of_program_alone) }
 {
     Command::new(alloc, "sortition")
+        .version(VERSION)
         .override_help(HELP)
         .no_binary_name(true)
         .subcommand_required(true)

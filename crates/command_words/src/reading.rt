@@ -20,7 +20,7 @@ const OUT_OF_FORM: &str = "error: a value is out of its range\n";
 /// Why the words give nothing.
 #[derive(Debug, Drop, Error)]
 pub enum WordsStop {
-    /// The words have none of the program's forms, or ask for help. The text is what `clap` prints then.
+    /// The words have none of the program's forms, or ask for help or for the version. The text is what `clap` prints then.
     #[error("{0}")]
     Usage(String),
     /// No memory was left.

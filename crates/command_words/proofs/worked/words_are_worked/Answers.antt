@@ -70,7 +70,7 @@ returns-clause-make c = record { defaults = refl; most = refl; no_seed = refl; n
 
 pub returns-clause-others : goal.returns-clause-others
 unfolding given_in command_table proof_commands draw_commands office_commands run_commands clap_on_literals
-returns-clause-others c = record { none = refl; another = refl; help = refl; option = refl }
+returns-clause-others c = record { none = refl; another = refl; help = refl; version = refl; short_version = refl; command_version = refl; option = refl }
 
 pub returns-clause-page : goal.returns-clause-page
 unfolding given_in command_table proof_commands draw_commands office_commands run_commands clap_on_literals
