@@ -12,9 +12,18 @@ use office_core::{Change, Keeper, KeeperStop, Tables};
 use pool_model::Name;
 use sqlite::{Connection, Error, ErrorCode, File, FileStore};
 use std::alloc::Global;
+use std::thread;
+use std::time::Duration;
 
-/// A store in a file. `attach` opens the file of a path, and makes it if it is missing; before that, each other call fails. While the
-/// keeper has the file open, nobody else can open it. Contracts speak of where the keeper is attached, and not of its tables.
+/// How many times an open is tried while somebody else has the file, with a pause after each: five seconds in all.
+const TRIES: u32 = 250;
+
+/// How many milliseconds a pause takes.
+const PAUSE: u64 = 20;
+
+/// A store in a file. `attach` opens the file of a path, and makes it if it is missing; before that, each other call fails. If somebody else
+/// has the file open, it waits for up to five seconds. It reads and tests all rows, so it fails if the file holds no tables that keep the
+/// facts. While the keeper has the file open, nobody else can open it. Contracts speak of where the keeper is attached, and not of its tables.
 #[derive(Drop)]
 pub struct SqliteKeeper {
     rt: HostRuntime,
@@ -22,15 +31,41 @@ pub struct SqliteKeeper {
     faults: u64,
 }
 
-/// The path of the open file, and the keeper over this file, which is attached.
+/// The path of the open file, the keeper over this file, which is attached, and the tables that were read as it was opened. They are there
+/// until they are loaded for the first time, or until a change is stored.
 struct Attached {
     path: Name,
     over: SqliteOver<FileStore<File>>,
+    read: Option<Tables>,
+}
+
+impl Attached {
+    /// Returns the tables: those that were read as the file was opened, if they are still there.
+    fn load(&mut self, alloc: Global) -> Result<Tables, KeeperStop>
+        ensures { self.new.path ≡ self.old.path }
+    {
+        match self.read.take() {
+            Some(tables) => Ok(tables),
+            None => self.over.load(alloc),
+        }
+    }
+
+    /// Stores a change.
+    fn store(&mut self, alloc: Global, change: &Change) -> Result<(), KeeperStop>
+        ensures { self.new.path ≡ self.old.path }
+    {
+        self.read = None;
+        self.over.store(alloc, change)
+    }
 }
 
 impl Drop for Attached {
     fn drop(self) {
-        let Attached { path: _, over } = self;
+        let Attached {
+            path: _,
+            over,
+            read: _,
+        } = self;
         close(over);
     }
 }
@@ -80,7 +115,7 @@ fn go(
     }
 }
 
-/// Opens the file of a path, and makes what it lacks.
+/// Opens the file of a path, makes what it lacks, and reads its tables.
 fn open(rt: &HostRuntime, alloc: Global, path: &str) -> Result<Attached, KeeperStop>
     ensures { IfOk result (λ attached. attached.path ≡ path.now) }
 {
@@ -89,16 +124,29 @@ fn open(rt: &HostRuntime, alloc: Global, path: &str) -> Result<Attached, KeeperS
     };
     let mut over = SqliteOver::new(connect(rt, path)?);
     over.attach(alloc, path)?;
-    Ok(Attached { path: name, over })
+    let read = Some(over.load(alloc)?);
+    Ok(Attached {
+        path: name,
+        over,
+        read,
+    })
 }
 
-/// Opens the file of a path.
+/// Opens the file of a path. If somebody else has it, waits for up to five seconds.
 fn connect(rt: &HostRuntime, path: &str) -> Result<Connection<FileStore<File>>, KeeperStop> {
-    match Connection::open(rt, path) {
-        Ok(connection) => Ok(connection),
-        Err(Error::SqliteFailure(ErrorCode::OutOfMemory)) => Err(KeeperStop::OutOfMemory),
-        Err(_) => Err(KeeperStop::Failed),
+    for _ in 0..TRIES {
+        match Connection::open(rt, path) {
+            Ok(connection) => return Ok(connection),
+            Err(Error::SqliteFailure(ErrorCode::DatabaseBusy)) => {
+                thread::sleep(rt, Duration::from_millis(PAUSE));
+            }
+            Err(Error::SqliteFailure(ErrorCode::OutOfMemory)) => {
+                return Err(KeeperStop::OutOfMemory);
+            }
+            Err(_) => return Err(KeeperStop::Failed),
+        }
     }
+    Err(KeeperStop::Failed)
 }
 
 /// Counts a fault, if the call ended with one.
@@ -135,7 +183,7 @@ impl Keeper for SqliteKeeper {
         ensures before { (⟦<SqliteKeeper as Keeper>⟧.course self.old).place ≡ Nowhere → result ≡ Err Failed }
     {
         let answer = match &mut self.attached {
-            Some(attached) => attached.over.load(alloc),
+            Some(attached) => attached.load(alloc),
             None => Err(KeeperStop::Failed),
         };
         count(&mut self.faults, &answer);
@@ -149,7 +197,7 @@ impl Keeper for SqliteKeeper {
         ensures before { (⟦<SqliteKeeper as Keeper>⟧.course self.old).place ≡ Nowhere → result ≡ Err Failed }
     {
         let answer = match &mut self.attached {
-            Some(attached) => attached.over.store(alloc, change),
+            Some(attached) => attached.store(alloc, change),
             None => Err(KeeperStop::Failed),
         };
         count(&mut self.faults, &answer);
