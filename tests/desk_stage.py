@@ -17,6 +17,7 @@ SHOTS = os.environ.get('SHOTS')
 KEYS = {'heron-4182': 'p05', 'otter-7730': 'p06'}
 HERON, OTTER = KEYS
 PHRASES = {200: 'OK', 401: 'Unauthorized', 404: 'Not Found', 405: 'Method Not Allowed', 409: 'Conflict', 413: 'Payload Too Large', 503: 'Service Unavailable', 507: 'Insufficient Storage'}
+PHONE = 360, 740      # the width and height of the window, but where a test says another
 failures = []
 
 
@@ -44,7 +45,7 @@ class Office:
 
     def __init__(self, phase='Open', panels=(), chance=None, drawn=None, withdrawn=(), seats=None):
         self.phase, self.panels, self.chance, self.drawn, self.seats = phase, list(panels), chance, drawn, seats
-        self.round, self.withdrawn = len(self.panels) + 1, set(withdrawn)
+        self.round, self.withdrawn, self.padding = len(self.panels) + 1, set(withdrawn), 0
 
     def sealed(self):
         """The panels of the rounds with a bundle; the last is None if it isn't drawn."""
@@ -52,7 +53,7 @@ class Office:
         return self.panels + last
 
     def bundle(self, number):
-        return f'bundle of round {number}\n'.encode()
+        return f'bundle of round {number}\n'.encode() + b'.' * self.padding
 
     def reply(self, method, path, key):
         known = KEYS.get(key)
@@ -82,10 +83,11 @@ class Office:
 
 class Desk:
     """A desk over an office. `fails` says for a path what comes in place of its reply: a status, `cut`: nothing, with what was asked done;
-    `silent`: nothing for longer than the proxy waits; `nonsense`. `waits` has an event for a key, which the reply to it waits for."""
+    `silent`: nothing for longer than the proxy waits; `nonsense`. `waits` has an event for a key, which the reply to it waits for. `held` has for
+    how many seconds each connection had the desk."""
 
     def __init__(self):
-        self.office, self.fails, self.waits, self.asked, self.heads = Office(), {}, {}, [], []
+        self.office, self.fails, self.waits, self.asked, self.heads, self.held = Office(), {}, {}, [], [], []
         self.door = None
         with socket.socket() as it:
             it.bind(('127.0.0.1', 0))
@@ -108,6 +110,11 @@ class Desk:
             threading.Thread(target=self.serve, args=(link,), daemon=True).start()
 
     def serve(self, link):
+        begun = time.monotonic()
+        self.attended(link)
+        self.held.append(time.monotonic() - begun)
+
+    def attended(self, link):
         with link:
             data = b''
             while b'\r\n\r\n' not in data:
@@ -224,7 +231,7 @@ class Chromium:
         self.session = self.call('Target.attachToTarget', targetId=target, flatten=True)['sessionId']
         for domain in ('Page', 'Log', 'Runtime', 'Network'):
             self.call(f'{domain}.enable')
-        self.width(1000, 900)
+        self.width(*PHONE)
 
     def listen(self, end):
         held = b''

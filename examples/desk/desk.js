@@ -310,7 +310,7 @@ const NOTHING_STORED = [400, 401, 404, 405, 413, 429, 503, 507];
 
 function withdrawalTold(status) {
   if (NOTHING_STORED.includes(status)) return `Your withdrawal was not stored. ${status === 401 ? UNKNOWN : trouble(status)}`;
-  return "Your withdrawal may be stored, or not: no answer to it came. Ask again to see whether you have withdrawn.";
+  return "Your withdrawal may be stored, or not: no clear answer came. Ask again to see whether you have withdrawn.";
 }
 
 async function withdraw(record) {
