@@ -4,13 +4,18 @@
 #     examples/assembly.sh FOLDER [PEOPLE]
 #
 # All files go into FOLDER, which is new; after a failure remove it. PEOPLE is the table of the people, with the columns of ours. The variable
-# PROGRAM names the program; without it, it is ./sortition of this repository. Stops at the first command that refuses. docs/CLERK.md explains
-# each step.
+# PROGRAM names the program; without it, it is ./sortition of this repository, or the installed one where no repository is around. Stops at the
+# first command that refuses. docs/CLERK.md explains each step.
 set -eu
 here=$(dirname "$0")
 folder=${1:?"usage: examples/assembly.sh FOLDER [PEOPLE]"}
 people=${2:-$here/assembly-people.csv}
 program=${PROGRAM:-$here/../sortition}
+prepare=$here/../tools/prepare.py
+if [ ! -e "$prepare" ]; then
+  program=${PROGRAM:-sortition}
+  prepare=sortition-prepare
+fi
 store=$folder/assembly.store
 
 # The digits of ten-sided dice, in the order of the throws. Digits behind the group that decides are ignored, so these are more than enough.
@@ -41,7 +46,7 @@ draw() {
 
 mkdir "$folder"
 say "From the two files of the city to the three of the office. office/letters.csv says who has which id."
-"$here/../tools/prepare.py" "$people" "$here/assembly-quotas.csv" --household street,number,flat,postcode \
+"$prepare" "$people" "$here/assembly-quotas.csv" --household street,number,flat,postcode \
   --title "City assembly" --size 25 --out "$folder/office"
 say "The store is filled."
 "$program" import-charter --store "$store" < "$folder/office/charter.toml"

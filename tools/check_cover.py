@@ -16,6 +16,7 @@ follows that page, uses nothing of `sortition`, and isn't proved. It stands on `
 """
 import sys
 
+sys.dont_write_bytecode = True      # (no compiled files beside the tools)
 from check_proof import Lines, Refusal, check_panels, check_settled, main, number_of, numbers_of, read_lottery, read_pool
 
 MOST_COUNT = 400
