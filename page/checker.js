@@ -27,13 +27,13 @@ function told(exports, name, places, size) {
   return new Uint8Array(exports.memory.buffer, Number(room[0]), count).slice();
 }
 
-// Returns a function that makes a call: of the name of an export and the bytes that it is given, it returns the bytes of the text that is
-// told. Each call has a memory of its own, so nothing is kept from one to the next.
+// Returns a function that makes a call: of the name of an export, the numbers and the bytes that it is given, it returns the bytes of the text
+// that is told. Numbers are BigInts. Each call has a memory of its own, so nothing is kept from one to the next.
 async function loadedChecker(bytes) {
   const module = await WebAssembly.compile(bytes);
   return (name, ...parts) => {
     const exports = new WebAssembly.Instance(module, {}).exports;
-    const places = parts.flatMap(part => lent(exports, part));
+    const places = parts.flatMap(part => typeof part === 'bigint' ? [part] : lent(exports, part));
     const first = told(exports, name, places, FIRST_ROOM);
     return typeof first === 'number' ? told(exports, name, places, first) : first;
   };

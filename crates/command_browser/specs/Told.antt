@@ -1,6 +1,6 @@
 -- What an exported call gives a page in a browser: the text that the command answers for the same bytes and words, and where the text is
 -- put. Builds on the shell's answers, lines and subjects. The contract of every exported call cites it.
-use Rattle.std.specs.Prelude.{◌≡◌, ◌≤◌, ◌<◌, ℕ, List, length, drop, ◌++◌, codes}
+use Rattle.std.specs.Prelude.{◌≡◌, ◌≤◌, ◌<◌, ◌&&◌, ℕ, Bool, true, false, nat_le, List, length, drop, ◌++◌, codes}
 use Rattle.command_shell.specs.Answers.{IsTheAnswer, RightAnswers, Saying, bytes_of}
 use Rattle.command_shell.specs.Lines.{input_limit, too_long_line}
 use Rattle.command_shell.specs.Subjects.{About, Format}
@@ -26,6 +26,18 @@ pub data WithWords (AreUtf8 : Type 0) (Right : List ℕ → Type 0) (text : List
   Read : AreUtf8 → Right text → WithWords AreUtf8 Right text
   NotUtf8 : (AreUtf8 → ⊥) → text ≡ words_not_utf8_line → WithWords AreUtf8 Right text
 
+-- the line for a number of tickets that isn't from 1 to 10^9
+abbrev pub tickets_line : List ℕ
+tickets_line = codes "error: the number of tickets is from 1 to 1000000000\n"
+
+abbrev pub is_ticket_count : ℕ → Bool
+is_ticket_count tickets = nat_le 1 tickets && nat_le tickets 1000000000
+
+-- the number of tickets is one and the text is right, or it is none and the text is the line that says so
+pub data WithTickets (tickets : ℕ) (Right : List ℕ → Type 0) (text : List ℕ) : Type 0 where
+  Counted : is_ticket_count tickets ≡ true → Right text → WithTickets tickets Right text
+  NotCounted : is_ticket_count tickets ≡ false → text ≡ tickets_line → WithTickets tickets Right text
+
 -- ---- where the text is put
 
 -- `count` is the length of the text, which is never 0. If the text fits into the room, it is at the room's beginning, and the rest of the
@@ -35,6 +47,11 @@ pub record IsPut (text before after : List ℕ) (count : ℕ) : Type 0 where
   pub some : 1 ≤ count
   pub fits : count ≤ length before → after ≡ text ++ drop count before
   pub short : length before < count → after ≡ before
+
+-- the text is put, or it is empty: then nothing is
+pub data IsPutIfAny (text before after : List ℕ) (count : ℕ) : Type 0 where
+  Puts : IsPut text before after count → IsPutIfAny text before after count
+  PutsNothing : count ≡ 0 → after ≡ before → IsPutIfAny text before after count
 
 -- how a call ends. `Right` says which texts are right
 pub data Told (Right : List ℕ → Type 0) (before after : List ℕ) (count : ℕ) : Type 0 where

@@ -6,4 +6,4 @@ use Rattle.command_browser.proofs.texts.text_of_drawn_page.Goals as goal
 pub returns-in-Ok : goal.returns-in-Ok
 returns-in-Ok c =
     let digits = c.in-Ok.ensures.cases in
-    IfOk-weaker c.text_of.result _ _ (λ text right. Read digits.1 (pages_so _ _ _ _ digits.0 right)) c.text_of.ensures
+    IfOk-weaker c.text_of.result _ _ (λ text right. Read digits.1 (pages_so _ _ _ _ _ digits.0 right)) c.text_of.ensures

@@ -1,0 +1,102 @@
+'use strict';
+
+// The page as a whole: the assembly that it holds, and which steps are open.
+
+const MOST_MEMBERS = 200;                    // of a panel
+
+// The bytes of the module, and the call of checker.js in this page. Long calls go to a worker.
+const moduleBytes = Promise.resolve().then(() => Uint8Array.from(atob(part('module').textContent), it => it.charCodeAt(0)));
+const checker = moduleBytes.then(loadedChecker);
+
+let assembly = newAssembly();
+
+// True if the assembly has changed since it was saved.
+let isChanged = false;
+
+const lastRound = () => assembly.rounds[assembly.rounds.length - 1];
+
+function setChanged() {
+  isChanged = true;
+  part('keep-state').textContent = 'Not saved yet.';
+}
+
+// Takes another assembly, and shows the step that it is at.
+async function setAssembly(other) {
+  stopLongCall();
+  assembly = other;
+  drawing = null;
+  setChanged();
+  showMade();
+  hideSections('lottery', 'none', 'draw', 'next');
+  part('picture').hidden = true;
+  part('find').disabled = false;
+  for (const id of ['lottery-state', 'lottery-found', 'none-state', 'panel', 'draw-state', 'next-state']) part(id).replaceChildren();
+  if (!assembly.rounds.length) return;
+  const round = lastRound();
+  const seated = [...poolIn(round.pool).standings.values()].filter(it => it === 'seated').length;
+  const free = assembly.size - seated;
+  const seats = free === 1 ? 'one seat is' : `${free} seats are`;
+  part('round').textContent = assembly.rounds.length === 1 ? 'Round 1.' : `Round ${assembly.rounds.length}: ${seated} members keep their seats, and ${seats} free.`;
+  openSection('lottery');
+  if (round.proof) await showLottery();
+  if (round.isDrawn) {
+    openSection('next');
+    showNext();
+  }
+}
+
+async function openFile(file) {
+  if (isChanged && assembly.rounds.length) {
+    say(part('keep-state'), 'Save this assembly first', ['It isn’t saved yet. Save it as a file, and then open the other one.']);
+    return;
+  }
+  try {
+    const opened = openedAssembly(await checker, await file.text());
+    await setAssembly(opened);
+    isChanged = false;
+    say(part('keep-state'), 'Opened', [`${file.name} fits itself: each proof was checked, each seal computed and each draw drawn again.`], true);
+  } catch (error) {
+    say(part('keep-state'), 'The file is refused', [`${file.name}: ${error.message}.`]);
+  }
+}
+
+function saveFile() {
+  save(`${assembly.title || 'assembly'}.assembly`, textOfAssembly(assembly));
+  isChanged = false;
+  part('keep-state').textContent = 'Saved. It has names and addresses: keep it where you keep the letters.';
+}
+
+// Takes files that are dropped anywhere.
+async function takeDropped(files) {
+  for (const file of files) {
+    if (file.name.endsWith('.assembly')) await openFile(file);
+    else await takeFile(file, null);
+  }
+}
+
+function beginOffice() {
+  beginPeople();
+  beginLottery();
+  beginDraw();
+  part('save').addEventListener('click', saveFile);
+  part('open').addEventListener('change', () => part('open').files.length && openFile(part('open').files[0]));
+  for (const name of ['dragenter', 'dragover', 'dragleave', 'drop']) {
+    addEventListener(name, event => {
+      event.preventDefault();
+      part('drop').classList.toggle('over', name === 'dragenter' || name === 'dragover');
+      if (name === 'drop') takeDropped([...event.dataTransfer.files]);
+    });
+  }
+  addEventListener('beforeunload', event => {
+    if (isChanged && assembly.rounds.length) event.preventDefault();
+  });
+  const frame = part('frame');
+  const fit = () => {
+    const body = frame.contentDocument?.body;
+    if (body) frame.height = body.offsetHeight + frame.offsetHeight - frame.clientHeight;
+  };
+  frame.addEventListener('load', fit);
+  addEventListener('resize', fit);
+}
+
+beginOffice();

@@ -1,0 +1,154 @@
+'use strict';
+
+// The draw with dice, digit by digit; the panel with names; and the next round after dropouts.
+
+// What belongs to the draw that is on the page: the bundle with its seal, and how many dice are thrown at once.
+let drawing = null;
+
+async function openDraw() {
+  const round = lastRound();
+  const call = await checker;
+  drawing = { ...sealedBy(call, round), dice: 0 };
+  openSection('draw');
+  setDice(call, round);
+  for (const input of document.querySelectorAll('input[name=tickets]')) input.checked = Number(input.value) === round.tickets;
+  await showDigits();
+}
+
+// Asks how many dice are thrown at once.
+function setDice(call, round) {
+  const text = round.tickets ? textTold(call, 'tell_short_dice', round.tickets, drawing.bundle) : textTold(call, 'tell_dice', drawing.bundle);
+  const [digits, tickets] = linesOf(text);
+  drawing.dice = Number(digits[1]);
+  part('how-many').textContent = `There are ${tickets[1]} tickets. Throw ${drawing.dice} ${drawing.dice === 1 ? 'die' : 'dice'} with ten sides, and type their digits in the order that was announced.`;
+}
+
+async function chooseTickets(tickets) {
+  const round = lastRound();
+  if (round.digits !== '') return;
+  round.tickets = tickets;
+  setDice(await checker, round);
+  setChanged();
+}
+
+// Adds a digit, as long as no ticket is drawn.
+async function addDigit(digit) {
+  const round = lastRound();
+  if (!drawing || round.isDrawn) return;
+  if (drawnBy(await checker, drawing, round).panel) return;
+  round.digits += digit;
+  setChanged();
+  await showDigits();
+}
+
+async function takeBackDigit() {
+  const round = lastRound();
+  if (!drawing || round.isDrawn) return;
+  round.digits = round.digits.slice(0, -1);
+  setChanged();
+  await showDigits();
+}
+
+// Shows the digits in groups of a throw, and what they draw.
+async function showDigits() {
+  const round = lastRound();
+  const call = await checker;
+  const { fields, panel, text } = drawnBy(call, drawing, round);
+  const groups = round.digits.match(new RegExp(`.{1,${drawing.dice}}`, 'g')) ?? [];
+  part('digits').textContent = groups.join(' ') || '–';
+  for (const input of document.querySelectorAll('input[name=tickets]')) input.disabled = round.digits !== '';
+  part('back').disabled = round.digits === '' || round.isDrawn;
+  part('count').hidden = !panel || round.isDrawn;
+  for (const button of document.querySelectorAll('#keys button')) button.disabled = Boolean(panel);
+  const rest = round.digits.length % drawing.dice;
+  if (panel) say(part('draw-state'), `Ticket ${fields[1]}`, [round.isDrawn ? 'This panel is drawn.' : 'Read the digits aloud once more. Then let them count.'], true);
+  else if (fields[1] !== 'MoreDigits') say(part('draw-state'), 'No draw', [text]);
+  else if (round.digits && rest === 0) say(part('draw-state'), 'Throw all dice again', ['This throw names no ticket, so that each ticket has the same chance.']);
+  else part('draw-state').replaceChildren(element('p', rest ? `${drawing.dice - rest} more of this throw.` : ''));
+  if (panel && round.isDrawn) showPanel(call, round, panel);
+  else part('panel').replaceChildren();
+}
+
+// The drawn panel counts from now on.
+async function countDraw() {
+  const round = lastRound();
+  round.isDrawn = true;
+  setChanged();
+  await showDigits();
+  openSection('next');
+  showNext();
+}
+
+function peopleWith(ids) {
+  return assembly.people.filter(person => ids.includes(person.id));
+}
+
+// The page with the lottery and the drawn panel.
+function pageOfDraw(call, { tickets, digits }) {
+  const { bundle } = drawing;
+  return tickets ? textTold(call, 'tell_short_drawn_page', tickets, bundle, digits) : textTold(call, 'tell_drawn_page', bundle, digits);
+}
+
+// Shows the drawn panel with all columns, and the lists to save.
+function showPanel(call, round, panel) {
+  const before = poolIn(round.pool).standings;
+  const rows = peopleWith(panel).map(person => [person.id, before.get(person.id) === 'seated' ? 'seated before' : 'drawn', ...person.cells]);
+  const page = `round-${assembly.rounds.length}-drawn.html`;
+  const lists = {
+    'selected.csv': () => listOf(assembly, panel),
+    'remaining.csv': () => listOf(assembly, remainingOf(round, panel)),
+    [page]: () => pageOfDraw(call, round),
+  };
+  part('panel').replaceChildren(
+    element('h3', 'The panel'),
+    element('div', [tableOf(['id', '', ...assembly.table.heading], rows)], { className: 'wide' }),
+    saveButtons(Object.keys(lists), name => lists[name]()),
+    element('p', `The two lists have names and addresses. ${page} has ids alone, and may be published.`),
+  );
+  part('frame').srcdoc = pageOfDraw(call, round);
+}
+
+// ---- the next round
+
+function showNext() {
+  const round = lastRound();
+  checker.then(call => {
+    const { panel } = drawnBy(call, sealedBy(call, round), round);
+    const box = person => element('input', '', { type: 'checkbox', value: person.id, checked: round.dropped.includes(person.id), ariaLabel: `${person.id} can’t come` });
+    part('members').replaceChildren(element('div', [tableOf(['can’t come', 'id', ...assembly.table.heading], peopleWith(panel).map(person => [box(person), person.id, ...person.cells]))], { className: 'wide' }));
+  });
+}
+
+async function beginNextRound() {
+  const round = lastRound();
+  const dropped = [...part('members').querySelectorAll('input:checked')].map(box => box.value);
+  if (!dropped.length) {
+    say(part('next-state'), 'Nobody is ticked', ['If all members come, the panel is complete, and no round is needed.']);
+    return;
+  }
+  const call = await checker;
+  round.dropped = dropped;
+  const { panel } = drawnBy(call, sealedBy(call, round), round);
+  assembly.rounds.push(newRound(nextPool(call, round.pool, panel, dropped)));
+  await setAssembly(assembly);
+}
+
+function beginDraw() {
+  part('keys').replaceChildren(...'1234567890'.split('').map(digit => {
+    const button = element('button', digit, { type: 'button' });
+    button.addEventListener('click', () => addDigit(digit));
+    return button;
+  }));
+  part('back').addEventListener('click', takeBackDigit);
+  part('count').addEventListener('click', countDraw);
+  part('hall').addEventListener('click', () => part('draw').classList.toggle('hall'));
+  for (const input of document.querySelectorAll('input[name=tickets]')) input.addEventListener('change', () => chooseTickets(Number(input.value)));
+  part('begin-next').addEventListener('click', beginNextRound);
+  part('draw').addEventListener('keydown', event => {
+    if (event.target.tagName === 'INPUT' || event.ctrlKey || event.altKey || event.metaKey) return;
+    if (/^[0-9]$/.test(event.key)) addDigit(event.key);
+    else if (event.key === 'Backspace') takeBackDigit();
+    else return;
+    event.preventDefault();
+  });
+}

@@ -1,0 +1,171 @@
+'use strict';
+
+// The lottery of a round, with its proof; what to publish; and what to do if there is no panel.
+
+// The limits of the commands `prove`, `why` and `loosen-by-proof` without words.
+const PIVOTS = 1000000, NODES = 200000;
+
+const ALL_PUBLISHED = ['The bundle: the lottery with every panel', 'The proof: anybody can add it up', 'The seal: it says that the bundle stays as it is'];
+
+// Finds the lottery of the round, with a proof. One that is published stays.
+async function findLottery() {
+  const round = lastRound();
+  if (round.isPublished) return;
+  round.proof = '';
+  hideSections('none', 'draw', 'next');
+  part('lottery-found').replaceChildren();
+  try {
+    const { text, seconds } = await longCall(await moduleBytes, 'tell_prove', [PIVOTS, NODES, round.pool], showRunning(part('lottery-state'), 'Looking for the lottery'));
+    if (round !== lastRound()) return;
+    await takeProof(round, text, seconds);
+  } catch (error) {
+    tellFailed(part('lottery-state'), error);
+  }
+}
+
+function tellFailed(place, error) {
+  if (error instanceof Stopped) say(place, 'Stopped', ['Nothing was lost. You can begin again.']);
+  else say(place, 'It failed', [error.message]);
+}
+
+// Takes what `prove` answered.
+async function takeProof(round, text, seconds) {
+  const call = await checker;
+  const verdict = textTold(call, 'tell_verify', text).trimEnd();
+  const took = `It took ${seconds.toFixed(1)} seconds, and the proof was checked.`;
+  if (verdict === 'valid') {
+    round.proof = text;
+    say(part('lottery-state'), 'The lottery is found', [
+      `${took} It makes the smallest chance of anybody as large as it can be, then the second smallest, and so on. No lottery over panels that meet the quotas is fairer in this sense.`,
+    ], true);
+    setChanged();
+    await showLottery();
+  } else if (verdict === 'valid\tnone') {
+    say(part('lottery-state'), 'No panel meets all quotas', [took]);
+    await showWhy(round);
+  } else if (text.startsWith('spent')) {
+    say(part('lottery-state'), 'No lottery was found', ['The search is used up. The program at a desk can look longer: sortition prove, with --pivots and --nodes.']);
+  } else {
+    say(part('lottery-state'), 'The pool can’t be read', [text]);
+  }
+}
+
+// Shows the lottery of the last round: its picture, and what to publish.
+async function showLottery() {
+  const round = lastRound();
+  const call = await checker;
+  const { bundle, seal } = sealedBy(call, round);
+  part('find').disabled = round.isPublished;
+  part('frame').srcdoc = textTold(call, 'tell_page', bundle);
+  const name = `round-${assembly.rounds.length}`;
+  const ticks = ALL_PUBLISHED.map(words => {
+    const box = element('input', '', { type: 'checkbox', checked: round.isPublished, disabled: round.isPublished });
+    return element('label', [box, ` ${words}`], { className: 'tick' });
+  });
+  const publish = element('button', 'All of this is published', { type: 'button', disabled: round.isPublished });
+  publish.addEventListener('click', () => {
+    if (ticks.every(tick => tick.firstChild.checked)) {
+      round.isPublished = true;
+      setChanged();
+      showLottery();
+    } else {
+      say(part('published'), 'Not yet', ['Tick what is published. Everything has to be, before the first dice are thrown.']);
+    }
+  });
+  part('lottery-found').replaceChildren(
+    element('h3', 'What to publish, before the dice are thrown'),
+    element('p', 'The seal:'),
+    element('p', [element('code', seal, { id: 'seal' })]),
+    element('p', [saveButton(`${name}.bundle`, () => bundle), saveButton(`${name}.proof`, () => round.proof), saveButton(`${name}.html`, () => textTold(call, 'tell_page', bundle))],
+      { className: 'buttons' }),
+    element('div', ticks),
+    publish,
+    element('div', '', { id: 'published', role: 'status' }),
+  );
+  part('picture').hidden = false;
+  if (round.isPublished) await openDraw();
+}
+
+// ---- no panel
+
+// The bounds of the form, by category and value.
+function boundsGiven() {
+  const bounds = new Map();
+  for (const row of part('bounds').querySelectorAll('tr[data-value]')) {
+    const [category, value] = [row.dataset.category, row.dataset.value];
+    if (!bounds.has(category)) bounds.set(category, new Map());
+    bounds.get(category).set(value, [...row.querySelectorAll('input')].map(input => Number(input.value)));
+  }
+  return bounds;
+}
+
+// Shows the bounds of a pool to be changed; those that are proposed are filled in and marked.
+function showBounds(pool, proposed) {
+  const rows = pool.categories.flatMap(({ name, values }) => values.map(value => {
+    const other = proposed.get(`${name}\t${value.name}`);
+    const [least, most] = other ?? [value.least, value.most];
+    const input = (number, what) => element('input', '', { type: 'number', min: 0, max: MOST_BOUND, value: number, ariaLabel: `${what} of ${name} ${value.name}` });
+    const cells = [element('th', `${name}: ${value.name}`, { scope: 'row' }), element('td', `${value.least} to ${value.most}`),
+      element('td', [input(least, 'least')]), element('td', [input(most, 'most')])];
+    const row = element('tr', cells, { className: other ? 'proposed' : '' });
+    row.dataset.category = name;
+    row.dataset.value = value.name;
+    return row;
+  }));
+  const head = element('tr', ['Quota', 'now', 'at least', 'at most'].map(name => element('th', name, { scope: 'col' })));
+  part('bounds').replaceChildren(element('table', [element('thead', [head]), element('tbody', rows)]));
+}
+
+// Shows why there is no panel, and looks for the bounds to move least.
+async function showWhy(round) {
+  openSection('none');
+  try {
+    const why = await longCall(await moduleBytes, 'tell_why', [PIVOTS, NODES, round.pool], showRunning(part('none-state'), 'Looking for the reason'));
+    part('why').textContent = why.text;
+    const loosened = await longCall(await moduleBytes, 'tell_loosen_by_proof', [PIVOTS, NODES, round.pool], showRunning(part('none-state'), 'Looking for bounds to move'));
+    showLoosened(round, loosened.text);
+  } catch (error) {
+    tellFailed(part('none-state'), error);
+    showBounds(poolIn(round.pool), new Map());
+  }
+}
+
+function showLoosened(round, text) {
+  const lines = linesOf(text);
+  const bounds = lines.filter(([word]) => word === 'bound');
+  showBounds(poolIn(round.pool), new Map(bounds.map(([, category, value, least, most]) => [`${category}\t${value}`, [Number(least), Number(most)]])));
+  if (lines[0]?.[0] === 'loosen') {
+    say(part('none-state'), 'With these bounds there is a panel', [`The bounds that are marked move by ${lines[0][1]} in all, and no smaller move is enough. Accept them, or change them yourself.`], true);
+  } else {
+    say(part('none-state'), 'No bounds help', ['Whatever the bounds are, the size and the households alone can’t be met.']);
+  }
+}
+
+// Takes the bounds of the form.
+function takeBounds() {
+  const round = lastRound();
+  const bounds = boundsGiven();
+  const areBounds = ([least, most]) => Number.isInteger(least) && Number.isInteger(most) && 0 <= least && least <= most && most <= MOST_BOUND;
+  const wrong = [...bounds].flatMap(([category, values]) => [...values].filter(([, its]) => !areBounds(its)).map(([value]) => `${category}: ${value}`));
+  if (wrong.length) {
+    say(part('none-state'), 'These bounds can’t be', wrong);
+    return;
+  }
+  round.pool = poolWithBounds(round.pool, bounds);
+  if (assembly.rounds.length === 1) {
+    const rules = poolIn(round.pool).categories.flatMap(({ name, values }) => values.map(value => [name, value.name, value.least, value.most]));
+    assembly.texts['rules.csv'] = csvText([['category', 'name', 'min', 'max'], ...rules]);
+  }
+  setChanged();
+  hideSections('none');
+  part('lottery-state').replaceChildren(element('p', 'The bounds are changed. Look for the lottery again.'));
+  part('find').focus();
+}
+
+function beginLottery() {
+  part('find').addEventListener('click', findLottery);
+  part('bounds-form').addEventListener('submit', event => {
+    event.preventDefault();
+    takeBounds();
+  });
+}

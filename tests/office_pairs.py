@@ -1,0 +1,171 @@
+#!/usr/bin/env python3
+"""Makes pairs of files, people and quotas, and prints what tools/prepare.py makes of each, for tests/office-page.
+
+usage: tests/office_pairs.py [SEED COUNT]
+
+The pairs are those of tests/prepare: files of which nothing can be made, odd files, files with odd rows in each layout and encoding, cells that a
+spreadsheet might run, and the examples. Then come COUNT pairs that are made of these by changed, lost and doubled bytes and letters. Each pair
+has a number, and the random bytes that prepare.py takes are those of the number: SHA-256 digests of "NUMBER 0", "NUMBER 1" and so on.
+
+Prints a line of JSON for each pair: what it is, its files in base64, what is asked, whether the files are made, the lines that are said, the
+lines that are told of the files, and the files in base64.
+"""
+import base64
+import contextlib
+import hashlib
+import importlib.util
+import io
+import json
+import os
+import random
+import sys
+import tempfile
+import unicodedata
+from importlib.machinery import SourceFileLoader
+
+sys.dont_write_bytecode = True
+TOP = os.path.dirname(os.path.dirname(os.path.realpath(__file__)))
+sys.path.insert(0, os.path.join(TOP, 'tools'))
+import prepare
+
+
+def loaded(name, path):
+    """The module of a script whose name has no ending."""
+    spec = importlib.util.spec_from_loader(name, SourceFileLoader(name, path))
+    module = importlib.util.module_from_spec(spec)
+    spec.loader.exec_module(module)
+    return module
+
+
+tests = loaded('prepare_tests', os.path.join(TOP, 'tests', 'prepare'))
+
+
+def random_bytes(number):
+    """A function that returns as many random bytes as it is asked for: those of this number."""
+    held, turn = b'', 0
+
+    def give(count):
+        nonlocal held, turn
+        while len(held) < count:
+            held += hashlib.sha256(f'{number} {turn}'.encode()).digest()
+            turn += 1
+        given, held = held[:count], held[count:]
+        return given
+    return give
+
+
+def made_of(number, people, quotas, words):
+    """What prepare.py says and makes of a pair with these random bytes."""
+    with tempfile.TemporaryDirectory() as room:
+        paths = [os.path.join(room, name) for name in ('people.csv', 'quotas.csv')]
+        for path, content in zip(paths, (people, quotas)):
+            with open(path, 'wb') as target:
+                target.write(content)
+        folder = os.path.join(room, 'office')
+        out, errors = io.StringIO(), io.StringIO()
+        kept, random._urandom = random._urandom, random_bytes(number)
+        try:
+            with contextlib.redirect_stdout(out), contextlib.redirect_stderr(errors):
+                status = prepare.main([*paths, '--out', folder, *words])
+        finally:
+            random._urandom = kept
+        texts = {name: tests.content(os.path.join(folder, name)) for name in sorted(os.listdir(folder))} if os.path.isdir(folder) else {}
+        lines = [line[len(folder) + 1:] for line in out.getvalue().split('\n')[:-1]]
+        return {'isMade': status == 0, 'said': errors.getvalue().split('\n')[:-1], 'lines': lines, 'texts': texts}
+
+
+# ---- the pairs
+
+
+def whole_pairs(seed):
+    """The pairs that tests/prepare makes by chance, in each layout: what it is, the people, the quotas, and the words."""
+    for family, heading in tests.HEADINGS.items():
+        for number in range(10):
+            chosen = random.Random(json.dumps([seed, family, number]))
+            count, size = (60, 12) if number == 9 else (chosen.randint(5, 9), chosen.randint(2, 4))
+            rows = tests.made_rows(chosen, count)
+            quotas = tests.quotas_for(chosen, tests.panel_of(chosen, [row for row in rows if row and not row.is_out], size))
+            names = [*tests.COLUMNS, *tests.VALUES]
+            order = chosen.sample(range(len(names)), len(names))
+            table = [[names[place] for place in order]] + [
+                [row.cells[place] for place in order] + row.cells[len(names):] if row else [''] * len(names) for row in rows]
+            layouts = [tests.LAYOUTS[place % len(tests.LAYOUTS)] for place in (number, number + 3)]
+            yield (f'{family} {number}', tests.file_of(table, layouts[0]), tests.file_of(tests.quota_rows(chosen, heading, quotas), layouts[1]),
+                   ['--household', 'Street, Postcode', '--title', 'Rat "Süd"', '--size', str(size)])
+
+
+def cells_pair():
+    """Cells that a spreadsheet might run as a formula."""
+    people = [['=name', 'name', '-size'], *([cell, f'n{number}', '-1' if number % 2 else '=2'] for number, (cell, _) in enumerate(tests.CELLS))]
+    return 'cells', tests.file_of(people, (';', 'utf-8', '\n', True)), 'category,name,min,max\n-size,-1,0,9\n-size,=2,0,9\n', []
+
+
+def known_pairs(seed):
+    """All pairs of tests/prepare."""
+    for kind, cases in (('nothing is made', tests.HOPELESS), ('odd', tests.ODD), ('quiet', tests.QUIET)):
+        for people, quotas, words, sentence in cases:
+            if '--letters' not in words:
+                yield f'{kind}: {sentence}', people, quotas, words
+    yield from whole_pairs(seed)
+    yield cells_pair()
+    example = [tests.content(os.path.join(TOP, 'examples', name)) for name in ('people.csv', 'quotas.csv')]
+    yield ('the examples', *example, ['--household', 'Street,Postcode', '--title', 'Town assembly', '--size', '4'])
+
+
+LETTERS = ['\u0430', '\u200b', '\xa0', '\u00df', '\u1e9e', 'I', '\u0131', '\u0130', '\u2019', '\ufb01', 'e\u0301', '\u00e9', '\uff4d', '\u3000', '\x1c', '\x85', '\u2028',
+           '\ufeff', '"', '""', '\n', '\r', '\r\n', ',', ';', '\t', ' ', '=', '+420 221 714 444', '\'', '\\', '\U0001f600', '\u03c2', '\x7f', '\x01', '0']
+
+
+def spoiled(chosen, content):
+    """A file with one to three changes: of bytes, of letters, of lines, or of the encoding."""
+    for _ in range(chosen.randint(1, 3)):
+        place, way = chosen.randrange(len(content) + 1), chosen.randrange(8)
+        if way == 0:
+            content = content[:place] + bytes([chosen.randrange(256)]) + content[place + 1:]
+        elif way == 1:
+            content = content[:place] + content[place + 1:]
+        elif way in (2, 3, 4):
+            content = content[:place] + chosen.choice(LETTERS).encode() + content[place:]
+        elif way == 5:
+            lines = content.split(b'\n')
+            content = b'\n'.join(lines + [chosen.choice(lines)])
+        elif way == 6:
+            content = content.swapcase() if chosen.randrange(4) == 0 else content.replace(b',', chosen.choice([b';', b'\t', b', ', b' ,']))
+        else:
+            text = content.decode('utf-8', 'replace')
+            content = text.encode(chosen.choice(['utf-16', 'utf-8-sig', 'utf-8']))[:chosen.choice([None, None, -1])]
+    return content
+
+
+def spoiled_pairs(seed, known, count):
+    """Pairs that are made of known ones by chance."""
+    chosen = random.Random(f'{seed} spoiled')
+    small = [pair for pair in known if len(pair[1]) < 4000]
+    for number in range(count):
+        what, people, quotas, words = chosen.choice(small)
+        if chosen.randrange(3):
+            people = spoiled(chosen, people)
+        else:
+            quotas = spoiled(chosen, quotas)
+        yield f'spoiled {number}, of {what}', people, quotas, words
+
+
+def plain_texts(texts):
+    return {name: base64.b64encode(content).decode() for name, content in texts.items()}
+
+
+def main(words):
+    seed, count = (int(words[0]), int(words[1])) if words else (1, 400)
+    known = [(what, *(its.encode() if isinstance(its, str) else its for its in files), words) for what, *files, words in known_pairs(seed)]
+    for number, (what, people, quotas, its_words) in enumerate([*known, *spoiled_pairs(seed, known, count)]):
+        asked = prepare.words_of(['people.csv', 'quotas.csv', *its_words])
+        made = made_of(number, people, quotas, its_words)
+        print(json.dumps({'number': number, 'what': what, 'isKnown': number < len(known), **plain_texts({'people': people, 'quotas': quotas}),
+                          'asked': {key: getattr(asked, key) for key in ('household', 'name', 'email', 'title', 'size')},
+                          **made, 'texts': plain_texts(made['texts'])}))
+    # The names of letters, to be compared with those of the page.
+    print(json.dumps({'names': {number: unicodedata.name(chr(number)).capitalize() for number in range(0x10000) if unicodedata.name(chr(number), '')}}))
+
+
+if __name__ == '__main__':
+    main(sys.argv[1:])
