@@ -10,12 +10,12 @@ pub record IsPanelMix (mix : PanelMix) : Type 0 where
   pub rows : length mix.rows.items ≡ mix.table.rows
   pub moving : mix.table.rows ≡ length mix.moving.items + 1
 
--- the remainder and the best remainder have a part for each volunteer
+-- the remainder and the best remainder have a part for each column
 pub record IsPeelingRun (run : PeelingRun) : Type 0 where
-  pub remainder : length run.remainder.parts.items ≡ length run.program.now.firsts
-  pub best : IfSome run.best (λ best. length best.parts.items ≡ length run.program.now.firsts)
+  pub remainder : length run.remainder.parts.items ≡ run.columns
+  pub best : IfSome run.best (λ best. length best.parts.items ≡ run.columns)
 
--- the table has a column for each volunteer, and a row for each of the run's rows
+-- the table has the run's columns, and a row for each of the run's rows
 pub record HasTable (run : PeelingRun) : Type 0 where
-  pub columns : run.table.columns ≡ length run.program.now.firsts
+  pub columns : run.table.columns ≡ run.columns
   pub rows : run.table.rows ≡ length run.rows.now.rows.items

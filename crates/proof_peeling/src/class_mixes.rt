@@ -10,7 +10,7 @@ use crate::free_classes::FreeClasses;
 use crate::lotteries::WeightedPanel;
 use crate::pricing::{ClassRow, are_met, class_rows, search_of};
 use crate::rows::PanelRow;
-use crate::spreads::{ClassLeft, Weighted, spread};
+use crate::spreads::Weighted;
 use proof_branching::Found;
 use proof_limits::{Budget, Narrow, ProveStop, wide_mul};
 use proof_mixes::{Columns, Master, Solved, Whole, whole_weights};
@@ -62,7 +62,6 @@ enum Place {
 #[derive(Drop)]
 struct ClassMix<'a> {
     alloc: Global,
-    classes: &'a Program,
     free: FreeClasses<'a>,
     search: CompositionSearch,
     columns: Columns,
@@ -87,7 +86,6 @@ pub(crate) fn class_mix(
     let point = free.point()?;
     let mut mix = ClassMix {
         alloc,
-        classes,
         free,
         search,
         columns,
@@ -222,12 +220,7 @@ impl ClassMix<'_> {
                 parts.push(Weighted { weight, counts })?;
             }
         }
-        let mut classes = self.shares_left(whole, &parts)?;
-        let mut panels = Vec::new(self.alloc);
-        for (weight, members) in spread(self.alloc, &mut classes, &parts)? {
-            panels.push(WeightedPanel { weight, members })?;
-        }
-        Ok(panels)
+        self.free.panels(whole.total, &parts)
     }
 
     /// Returns how many members each class has in a composition, given by its counts of the free classes.
@@ -237,30 +230,5 @@ impl ClassMix<'_> {
             sizes.push(usize::try_from(*count).unwrap_or(0))?;
         }
         Ok(sizes)
-    }
-
-    /// Returns the classes with the shares of their members.
-    fn shares_left(&self, whole: &Whole, parts: &[Weighted]) -> Result<Vec<ClassLeft>, ProveStop> {
-        let unit = whole
-            .total
-            .checked_div(self.free.total.wide())
-            .ok_or(ProveStop::Lost)?;
-        let mut members = Vec::new(self.alloc);
-        for _ in 0..self.classes.columns() {
-            members.push(Vec::new(self.alloc))?;
-        }
-        for volunteer in 0..self.classes.volunteers() {
-            let class = self.classes.column_of(volunteer);
-            if let Some(own) = members.get_mut(class) {
-                own.push(volunteer)?;
-            }
-        }
-        let mut left = Vec::new(self.alloc);
-        for class in 0..members.len().min(self.free.parts.len()) {
-            let share = wide_mul(self.free.parts[class].wide(), unit)?;
-            let own = ClassLeft::new(self.alloc, &members[class], share, class, parts)?;
-            left.push(own)?;
-        }
-        Ok(left)
     }
 }

@@ -1,8 +1,10 @@
 //! The classes of a point with their chances, and which of them are free: those with a chance between 0 and 1. A composition is a count for
-//! each class; only the counts of free classes differ between the compositions of a mix. Stands on `rows`; `class_mixes` and `pricing` use
-//! this, and `lotteries` calls `counts_of`.
+//! each class; only the counts of free classes differ between the compositions of a mix. Stands on `rows` and `spreads`; `class_mixes`,
+//! `class_peels` and `pricing` use this, and `lotteries` calls `counts_of`.
 
+use crate::lotteries::WeightedPanel;
 use crate::rows::{PanelRow, value_at};
+use crate::spreads::{ClassLeft, Weighted, spread};
 use proof_branching::ceiling;
 use proof_limits::{Narrow, ProveStop, Span, times, wide_add, wide_mul};
 use proof_mixes::{fraction, rounded};
@@ -141,6 +143,42 @@ impl<'a> FreeClasses<'a> {
             }
         }
         Ok(all)
+    }
+
+    /// Spreads compositions over panels, which weigh `whole` together. Each composition has a count for each class.
+    pub(crate) fn panels(
+        &self,
+        whole: i128,
+        parts: &[Weighted],
+    ) -> Result<Vec<WeightedPanel>, ProveStop> {
+        let mut classes = self.shares_left(whole, parts)?;
+        let mut panels = Vec::new(self.alloc);
+        for (weight, members) in spread(self.alloc, &mut classes, parts)? {
+            panels.push(WeightedPanel { weight, members })?;
+        }
+        Ok(panels)
+    }
+
+    /// Returns the classes with the shares of their members.
+    fn shares_left(&self, whole: i128, parts: &[Weighted]) -> Result<Vec<ClassLeft>, ProveStop> {
+        let unit = whole.checked_div(self.total.wide()).ok_or(ProveStop::Lost)?;
+        let mut members = Vec::new(self.alloc);
+        for _ in 0..self.classes.columns() {
+            members.push(Vec::new(self.alloc))?;
+        }
+        for volunteer in 0..self.classes.volunteers() {
+            let class = self.classes.column_of(volunteer);
+            if let Some(own) = members.get_mut(class) {
+                own.push(volunteer)?;
+            }
+        }
+        let mut left = Vec::new(self.alloc);
+        for class in 0..members.len().min(self.parts.len()) {
+            let share = wide_mul(self.parts[class].wide(), unit)?;
+            let own = ClassLeft::new(self.alloc, &members[class], share, class, parts)?;
+            left.push(own)?;
+        }
+        Ok(left)
     }
 
     /// Returns a weight for each class: minus the dual of its row, scaled so that the greatest absolute value becomes `most`, and rounded;

@@ -1,12 +1,13 @@
-//! Makes a lottery over panels that gives each volunteer the chance of a point. Panels are peeled off the point one after the other. If a
-//! remainder is left, an exact table looks for weights of the panels seen that make it up. Or the point is mixed from compositions, which
-//! are then spread over panels. Stands on `proof_stages`, `proof_mixes`, `proof_program`, `proof_branching`, `proof_table` and
-//! `proof_limits`. Used by `proof_run`; `engine_tests` tests it.
+//! Makes a lottery over panels that gives each volunteer the chance of a point. Panels are peeled off the point one after the other, or in a
+//! large pool sets of classes. If a remainder is left, an exact table looks for weights of the panels seen that make it up. Or the point is
+//! mixed from compositions. Compositions are spread over panels. Stands on `proof_stages`, `proof_mixes`, `proof_program`,
+//! `proof_branching`, `proof_table` and `proof_limits`. Used by `proof_run`; `engine_tests` tests it.
 //! Promises: each call is safe and ends, and gives nothing of the budget back. That the lottery has the point's chances is no promise:
 //! `proof_verify` tests each proof.
 #![tactic(auto)]
 
 mod class_mixes;
+mod class_peels;
 mod faces;
 mod free_classes;
 mod lotteries;

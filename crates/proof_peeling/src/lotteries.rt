@@ -1,5 +1,5 @@
 //! The lottery of a point: turns of peeling, and if these get stuck, tails and a mix of compositions. Stands on `peels`, `tails`,
-//! `class_mixes`, `free_classes`, `remainders`, `rows` and `seen`. `proof_run` calls `lottery_of_point` and `mix_of`. Promise:
+//! `class_mixes`, `class_peels`, `free_classes`, `remainders`, `rows` and `seen`. `proof_run` calls `lottery_of_point` and `mix_of`. Promise:
 //! nothing of the budget is given back.
 
 ghost use Rattle.std.specs.Prelude.{◌≡◌, length, IfOk, IfNone, OnOk};
@@ -7,6 +7,7 @@ ghost use Rattle.proof_peeling.specs.Shapes.{HasTable, IsPeelingRun};
 ghost use Rattle.proof_limits.specs.Budgets.{SpendsOn};
 
 use crate::class_mixes::{Mixed, class_mix};
+use crate::class_peels::panels_by_classes;
 use crate::free_classes::counts_of;
 use crate::peels::{MOST_NODES, Turn, peel};
 use crate::remainders::Remainder;
@@ -49,6 +50,17 @@ const SHORT_TAILS: u32 = 5;
 /// How many of the other tails are tried at most in a round.
 const TAILS: u32 = 63;
 
+/// With more volunteers than this, sets of classes are peeled before panels of volunteers.
+const MANY: usize = 400;
+
+/// Before which turn the first round ends when sets of classes are peeled, and before which turn the second one.
+const SHORT_ROUND: u64 = 12;
+
+const SHORT_ROUNDS: u64 = 16;
+
+/// How many of the other tails are tried at most when sets of classes are peeled.
+const CLASS_TAILS: u32 = 6;
+
 /// A panel with its weight.
 #[derive(Debug, Drop)]
 pub struct WeightedPanel {
@@ -73,7 +85,8 @@ pub enum Peeled {
 #[derive(Drop)]
 struct PeelingRun<'a> {
     alloc: Global,
-    program: &'a Program,
+    // how many columns the table has: one for each volunteer, or one for each class
+    columns: usize,
     rows: &'a PanelRows,
     classes: &'a Program,
     chances: &'a Chances,
@@ -84,10 +97,31 @@ struct PeelingRun<'a> {
 }
 
 /// Makes a lottery over panels of `size` members that satisfy the rows, in which each volunteer has the chance of their column. If it finds
-/// none, adds the compositions of the panels seen to `known`, each with a count for each class. The contract says nothing of the lottery,
-/// since each proof is verified before it is printed. Stops if `program` has not as many columns as `classes` has volunteers, or if a class
-/// has no chance.
+/// none, adds the compositions of the panels seen to `known`, each with a count for each class. With more than `MANY` volunteers, sets of
+/// classes are peeled first, as `class_peels` says. The contract says nothing of the lottery, since each proof is verified before it is
+/// printed. Stops if `program` has not as many columns as `classes` has volunteers, or if a class has no chance.
 pub fn lottery_of_point(
+    alloc: Global,
+    program: &Program,
+    rows: &PanelRows,
+    classes: &Program,
+    chances: &Chances,
+    size: usize,
+    known: &mut Vec<Vec<i64>>,
+    budget: &mut Budget,
+) -> Result<Peeled, ProveStop>
+    ensures { SpendsOn budget.old budget.new }
+{
+    if classes.volunteers() > MANY {
+        if let Some(panels) = panels_by_classes(alloc, rows, classes, chances, budget)? {
+            return Ok(Peeled::Found(panels));
+        }
+    }
+    lottery_by_volunteers(alloc, program, rows, classes, chances, size, known, budget)
+}
+
+/// Makes the lottery of a point as `lottery_of_point` says, by peeling panels of volunteers.
+fn lottery_by_volunteers(
     alloc: Global,
     program: &Program,
     rows: &PanelRows,
@@ -105,11 +139,11 @@ pub fn lottery_of_point(
     }
     let mut run = PeelingRun {
         alloc,
-        program,
+        columns: program.columns(),
         rows,
         classes,
         chances,
-        table: loaded(alloc, program, rows)?,
+        table: loaded(alloc, program.columns(), rows)?,
         seen: SeenPanels::new(alloc, size),
         remainder,
         best: None,
@@ -119,6 +153,34 @@ pub fn lottery_of_point(
         note(alloc, classes, &run.seen, known)?;
     }
     Ok(found)
+}
+
+/// Peels sets of classes off a remainder, which has a part for each class. Each set has `size` classes. Tries fewer turns and tails than
+/// for volunteers, and no mix of compositions. Stops if there is not one part for each of `columns` columns.
+pub(crate) fn class_sets(
+    alloc: Global,
+    rows: &PanelRows,
+    classes: &Program,
+    chances: &Chances,
+    remainder: Remainder,
+    size: usize,
+    budget: &mut Budget,
+) -> Result<Peeled, ProveStop>
+    ensures { SpendsOn budget.old budget.new }
+{
+    let columns = remainder.parts.len();
+    let mut run = PeelingRun {
+        alloc,
+        columns,
+        rows,
+        classes,
+        chances,
+        table: loaded(alloc, columns, rows)?,
+        seen: SeenPanels::new(alloc, size),
+        remainder,
+        best: None,
+    };
+    run.short_lottery(budget)
 }
 
 /// Makes the lottery of a point as a mix of compositions, without peeling. Some compositions are known: each has a count for each class.
@@ -185,15 +247,15 @@ fn width_of(number: i64) -> Narrow {
     }
 }
 
-/// Returns a table with a column for each volunteer and the rows `rows`.
-fn loaded(alloc: Global, program: &Program, rows: &PanelRows) -> Result<Table, ProveStop>
-    ensures columns { IfOk result (λ table. table.columns ≡ length program.now.firsts) }
+/// Returns a table with this many columns and the rows `rows`.
+fn loaded(alloc: Global, columns: usize, rows: &PanelRows) -> Result<Table, ProveStop>
+    ensures columns { IfOk result (λ table. table.columns ≡ columns) }
     ensures rows { IfOk result (λ table. table.rows ≡ length rows.now.rows.items) }
 {
-    let mut table = Table::new(alloc, program.columns())?;
+    let mut table = Table::new(alloc, columns)?;
     for row in 0..rows.rows.len() {
         let coefficients = &rows.rows[row].coefficients;
-        if coefficients.len() != program.columns() {
+        if coefficients.len() != columns {
             return Err(ProveStop::Lost);
         }
         table.add_row(coefficients)?;
@@ -265,6 +327,27 @@ impl PeelingRun<'_> {
             self.begin_anew()?;
         }
         Ok(Peeled::Doubt)
+    }
+
+    /// Makes the lottery by one turn without pseudo-random shifts and two rounds of turns, with short tails after the first and a few other
+    /// tails after the second.
+    fn short_lottery(&mut self, budget: &mut Budget) -> Result<Peeled, ProveStop>
+        requires run { IsPeelingRun self.old }
+        requires table { HasTable self.old }
+        ensures { SpendsOn budget.old budget.new }
+    {
+        if self.peel(0, 0, budget)? || self.turns(1, SHORT_ROUND, budget)? {
+            return self.found(&[], Narrow::ONE);
+        }
+        self.go_to_best()?;
+        if let Some(found) = self.short_tails(budget)? {
+            return Ok(found);
+        }
+        if self.turns(SHORT_ROUND, SHORT_ROUNDS, budget)? {
+            return self.found(&[], Narrow::ONE);
+        }
+        self.go_to_best()?;
+        self.tails(tail_limits(false), CLASS_TAILS, budget)
     }
 
     /// Peels in turns `first..end`. True if nothing is left after one of them.
@@ -398,7 +481,7 @@ impl PeelingRun<'_> {
         ensures run { IsPeelingRun self.new }
         ensures table { OnOk result (HasTable self.new) }
     {
-        self.table = loaded(self.alloc, self.program, self.rows)?;
+        self.table = loaded(self.alloc, self.columns, self.rows)?;
         self.return_to_best()
     }
 

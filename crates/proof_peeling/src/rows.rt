@@ -1,5 +1,6 @@
 //! The rows that each panel of a lottery satisfies: those of the quotas, and one for each stage. Stands on `proof_program` and
-//! `proof_stages`; `faces`, `peels`, `tails`, `free_classes`, `pricing`, `class_mixes` and `lotteries` use them. `proof_run` makes
+//! `proof_stages`; `faces`, `peels`, `tails`, `free_classes`, `pricing`, `class_mixes`,
+//! `class_peels` and `lotteries` use them. `proof_run` makes
 //! `PanelRows`, and uses `weights_of`. The contracts promise how many rows and weights there are.
 
 ghost use Rattle.std.specs.Prelude.{◌≡◌, ◌+◌, length, IfOk};
@@ -64,7 +65,11 @@ pub fn weights_of(
 }
 
 /// Returns a row with the coefficients `coefficients` and the span `span`.
-fn panel_row(alloc: Global, coefficients: Vec<Narrow>, span: Span) -> Result<PanelRow, ProveStop> {
+pub(crate) fn panel_row(
+    alloc: Global,
+    coefficients: Vec<Narrow>,
+    span: Span,
+) -> Result<PanelRow, ProveStop> {
     let mut places = Vec::new(alloc);
     for (i, coefficient) in coefficients.iter().enumerate() {
         if !coefficient.is_zero() {
