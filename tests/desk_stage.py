@@ -41,10 +41,10 @@ def until(what, holds, seconds=10):
 
 
 class Office:
-    """What the desk tells: rounds before the last are `panels`, each a list of ids."""
+    """What the desk tells: rounds before the last are `panels`, each a list of ids. `seat` has the dropouts and the seat of whoever asks."""
 
-    def __init__(self, phase='Open', panels=(), chance=None, drawn=None, withdrawn=(), seats=None):
-        self.phase, self.panels, self.chance, self.drawn, self.seats = phase, list(panels), chance, drawn, seats
+    def __init__(self, phase='Open', panels=(), chance=None, drawn=None, withdrawn=(), seat=((), False)):
+        self.phase, self.panels, self.chance, self.drawn, self.seat = phase, list(panels), chance, drawn, seat
         self.round, self.withdrawn, self.padding = len(self.panels) + 1, set(withdrawn), 0
 
     def sealed(self):
@@ -61,8 +61,10 @@ class Office:
             if method != 'GET':
                 return 405, None
             return (200, dict(chance=self.chance, drawn=self.drawn, id=known, phase=self.phase, round=self.round, withdrawn=known in self.withdrawn)) if known else (401, None)
-        if path == '/me/seat' and self.seats is not None:
-            return (200, dict(dropped=self.seats[0], id=known, seated=self.seats[1])) if known else (401, None)
+        if path == '/me/seat':
+            if method != 'GET':
+                return 405, None
+            return (200, dict(dropped=self.seat[0], id=known, seated=self.seat[1])) if known else (401, None)
         if path == '/me/withdraw':
             if method != 'POST':
                 return 405, None

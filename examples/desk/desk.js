@@ -1,5 +1,4 @@
-// The page for volunteers, over the desk's routes: /me, /me/withdraw, /public/bundle/N and /public/draw/N, and /me/seat, which a desk need not
-// have. A key stays in a variable of this page and is sent in the field `office-key` alone. Nothing is stored, and nothing of a volunteer
+// The page for volunteers, over the desk's routes: /me, /me/seat, /me/withdraw, /public/bundle/N and /public/draw/N. A key stays in a variable of this page and is sent in the field `office-key` alone. Nothing is stored, and nothing of a volunteer
 // outlasts a visit of the page.
 "use strict";
 
@@ -159,35 +158,12 @@ async function look() {
 
 // ---- where a volunteer stands
 
-// By the draws: `member` is the last round before this one that drew the volunteer, or 0. A member of the round before has the chance 1 from
-// then on, and the chance 0 if the seat was given up. No chance is told before the seal.
-function standingByDraws(own, member) {
-  if (member === 0) return { name: "pool", round: 0 };
-  if (member < own.round - 1 || (own.chance !== null && /^0+\//.test(own.chance))) return { name: "left", round: member };
-  return { name: own.chance === null ? "member" : "seat", round: member };
-}
-
-function standingBySeat(seat) {
+// Where the volunteer stands in the last round: `pool`: can be drawn, or was drawn in it; `seat`: has been a member since an earlier round;
+// `left`: gave up the seat of `round`; `withdrawn`.
+function standingOf(own, seat) {
+  if (own.withdrawn) return { name: "withdrawn", round: 0 };
   if (seat.dropped.length > 0) return { name: "left", round: Math.max(...seat.dropped) };
   return { name: seat.seated ? "seat" : "pool", round: 0 };
-}
-
-// Where the volunteer stands in the last round: `pool`: can be drawn; `seat`: has been a member since an earlier round; `left`: was drawn in
-// `round` and has the seat no more; `member`: was drawn in `round`, and may have lost the seat since; `withdrawn`.
-function standingOf(own, seat, member) {
-  if (own.withdrawn) return { name: "withdrawn", round: 0 };
-  return seat === null ? standingByDraws(own, member) : standingBySeat(seat);
-}
-
-// The last round before `until` that drew the volunteer, or 0. The status isn't 200 if a draw didn't come.
-async function lastDrawn(id, until) {
-  let member = 0;
-  for (let round = 1; round < until; round += 1) {
-    const { status, draw } = await drawOf(round);
-    if (draw === null) return { status, member: 0 };
-    if (draw.panel.includes(id)) member = round;
-  }
-  return { status: 200, member };
 }
 
 // A chance `a/b` in words. Numbers may be long, so they are whole numbers of any size.
@@ -209,21 +185,13 @@ function inWords(chance) {
   return ten < 10n ? `about ${ten} in 10` : "above 9 in 10";
 }
 
-function whoWasDrawn(standing, knowsSeats) {
-  const before = standing.name === "seat" || standing.name === "member";
-  if (before) return `You were drawn in an earlier round, and kept your seat in this one${knowsSeats ? "." : ". It is yours unless you gave it up since."}`;
-  return `You were drawn in this round. The office will write to you${knowsSeats ? "." : ", unless you gave up your seat since."}`;
-}
-
 // What is said of where the volunteer stands.
-function whereabouts(own, standing, knowsSeats) {
+function whereabouts(own, standing) {
   if (standing.name === "withdrawn") return ["You have withdrawn. You won't be drawn any more."];
   if (standing.name === "left") return [`You were drawn in round ${standing.round}, and no longer have the seat. You won't be drawn again.`];
-  if (own.drawn === true) return [whoWasDrawn(standing, knowsSeats)];
+  if (own.drawn === true && standing.name === "seat") return ["You were drawn in an earlier round, and kept your seat in this one."];
+  if (own.drawn === true) return ["You were drawn in this round. The office will write to you."];
   if (standing.name === "seat") return ["You have a seat, and keep it in this round. To give it up, please write to the office."];
-  if (standing.name === "member") {
-    return [`You were drawn in round ${standing.round}. If you still have your seat, you keep it in this round; to give it up, please write to the office. If you gave it up, you won't be drawn again.`];
-  }
   if (own.drawn === false) return ["You were not drawn in this round. If there is another one, you are in its pool."];
   return own.phase === "Open" ? ["You are in the pool."] : ["You are in the pool. It is too late to withdraw here: please write to the office."];
 }
@@ -234,9 +202,9 @@ function chanceOf(own, standing) {
 }
 
 // The record of a volunteer, which nothing changes: the key that it came by, what is shown, and whether a withdrawal is offered.
-function recordOf(key, own, seat, member) {
-  const standing = standingOf(own, seat, member);
-  const facts = [`The office is at round ${own.round}. ${PHASES[own.phase]}`, ...whereabouts(own, standing, seat !== null), ...chanceOf(own, standing)];
+function recordOf(key, own, seat) {
+  const standing = standingOf(own, seat);
+  const facts = [`The office is at round ${own.round}. ${PHASES[own.phase]}`, ...whereabouts(own, standing), ...chanceOf(own, standing)];
   return Object.freeze({ key, id: own.id, facts: Object.freeze(facts), mayWithdraw: standing.name === "pool" && own.phase === "Open" });
 }
 
@@ -248,15 +216,10 @@ async function found(key) {
   if (asked.status === 401) return { record: null, told: UNKNOWN };
   const own = asked.status === 200 ? valueOf(asked.body, isOwn) : null;
   if (own === null) return { record: null, told: trouble(asked.status) };
-  if (own.withdrawn || (own.round === 1 && own.drawn !== true)) return { record: recordOf(key, own, null, 0), told: "" };
   const seats = await reply("/me/seat", "GET", key);
-  if (seats.status === 404) {
-    const { status, member } = await lastDrawn(own.id, own.round);
-    return status === 200 ? { record: recordOf(key, own, null, member), told: "" } : { record: null, told: trouble(status) };
-  }
   const seat = seats.status === 200 ? valueOf(seats.body, isSeat) : null;
   if (seat === null || seat.id !== own.id) return { record: null, told: trouble(seats.status) };
-  return { record: recordOf(key, own, seat, 0), told: "" };
+  return { record: recordOf(key, own, seat), told: "" };
 }
 
 // ---- what is shown of a volunteer

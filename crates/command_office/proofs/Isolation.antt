@@ -5,10 +5,10 @@ use Rattle.std.specs.Io.KnownBytes.{Appends}
 use Rattle.std.proofs.lemmas.Bool.{false≢true}
 use Rattle.httparse.specs.Grammar.{ReadsRequest}
 use Rattle.httparse.proofs.GrammarLemmas.{request_unique}
-use Rattle.define_desk.specs.Desk.{BundlePage, DrawPage, IsIsolated, OwnPage, Page, Served, Serves, WithdrawalPage, bundle_reply, draw_reply, if_by, leaving, own_reply, page_of, round_named, served, served_by, served_page, withdrawal, withdrawal_by}
+use Rattle.define_desk.specs.Desk.{BundlePage, DrawPage, IsIsolated, OwnPage, Page, SeatPage, Served, Serves, WithdrawalPage, bundle_reply, draw_reply, if_by, leaving, own_body, own_reply, page_of, round_named, seat_body, served, served_by, served_page, withdrawal, withdrawal_by}
 use Rattle.define_desk.specs.Replies.{Reply, not_allowed, reply_text}
 use Rattle.define_desk.specs.Requests.{AreAsking, Asking, Asks, Headed, Headless, IsHead, Misheaded, Request, asking_by}
-use Rattle.define_desk.specs.Views.{published, published_of, view}
+use Rattle.define_desk.specs.Views.{Own, View, published, published_of, view}
 use Rattle.define_draws.specs.Seal.{seal_of}
 use Rattle.define_offices.specs.Commands.{Lines, Refuses, Replies, TooLate, Withdrawn}
 use Rattle.define_offices.specs.Deciding.{is_last_open, is_seated_in, place_of_hash, with_hash, withdraw_at}
@@ -86,10 +86,10 @@ go_alike isolated one other is was well too request come first second told also 
 -- ---- requests that no key answers
 
 module _ (one other : Tables) (same : map published one.rounds ≡ map published other.rounds) (request : Request) where
-  anonymous_keys : (keys : List (List ℕ)) → length keys ≢ 1 → own_reply one keys ≡ own_reply other keys
-  anonymous_keys [] apart = refl
-  anonymous_keys (key ∷ []) apart = absurd (apart refl)
-  anonymous_keys (key ∷ next ∷ keys) apart = refl
+  anonymous_keys : (body : View → Own → List ℕ) (keys : List (List ℕ)) → length keys ≢ 1 → own_reply body one keys ≡ own_reply body other keys
+  anonymous_keys body [] apart = refl
+  anonymous_keys body (key ∷ []) apart = absurd (apart refl)
+  anonymous_keys body (key ∷ next ∷ keys) apart = refl
 
   anonymous_withdrawal : (keys : List (List ℕ)) → length keys ≢ 1 → (withdrawal one keys).reply ≡ (withdrawal other keys).reply
   anonymous_withdrawal [] apart = refl
@@ -100,8 +100,10 @@ module _ (one other : Tables) (same : map published one.rounds ≡ map published
   alike_on None may = refl
   alike_on (Some (BundlePage round)) may = ap (λ all. bundle_reply request (published_of all (round_named round))) same
   alike_on (Some (DrawPage round)) may = ap (λ all. draw_reply request (published_of all (round_named round))) same
-  alike_on (Some OwnPage) (inl apart) = ap (if_by (codes "GET") request) (anonymous_keys request.keys apart)
+  alike_on (Some OwnPage) (inl apart) = ap (if_by (codes "GET") request) (anonymous_keys own_body request.keys apart)
   alike_on (Some OwnPage) (inr free) = absurd (false≢true (sym free))
+  alike_on (Some SeatPage) (inl apart) = ap (if_by (codes "GET") request) (anonymous_keys seat_body request.keys apart)
+  alike_on (Some SeatPage) (inr free) = absurd (false≢true (sym free))
   alike_on (Some WithdrawalPage) (inl apart) = by (bytes_eq request.method (codes "POST"))
     where
       by : (b : Bool) → (cond b (withdrawal one request.keys) (leaving one (not_allowed (codes "POST")))).reply ≡ (cond b (withdrawal other request.keys) (leaving other (not_allowed (codes "POST")))).reply
@@ -121,6 +123,7 @@ nothing_changes tables request None may = refl
 nothing_changes tables request (Some (BundlePage round)) may = refl
 nothing_changes tables request (Some (DrawPage round)) may = refl
 nothing_changes tables request (Some OwnPage) may = refl
+nothing_changes tables request (Some SeatPage) may = refl
 nothing_changes tables request (Some WithdrawalPage) (inl apart) = by (bytes_eq request.method (codes "POST"))
   where
     by : (b : Bool) → (cond b (withdrawal tables request.keys) (leaving tables (not_allowed (codes "POST")))).tables ≡ tables
@@ -171,6 +174,7 @@ own_row tables request key keys None = stays (seal_of key) tables
 own_row tables request key keys (Some (BundlePage round)) = stays (seal_of key) tables
 own_row tables request key keys (Some (DrawPage round)) = stays (seal_of key) tables
 own_row tables request key keys (Some OwnPage) = stays (seal_of key) tables
+own_row tables request key keys (Some SeatPage) = stays (seal_of key) tables
 own_row tables request key keys (Some WithdrawalPage) = by (bytes_eq request.method (codes "POST"))
   where
     by : (b : Bool) → ChangesOwnRow (seal_of key) tables (cond b (withdrawal tables request.keys) (leaving tables (not_allowed (codes "POST")))).tables

@@ -2,7 +2,7 @@
 use Rattle.std.proofs.Common.{◌≡◌, ◌∙◌, ℕ, Bool, true, false, cond, List, [], ◌∷◌, ◌++◌, Option, Some, None, Result, Ok, Err, refl, ap, sym, subst, inl, inr}
 use Rattle.std.specs.Prelude.{IfSome, bytes_eq, codes, option_map}
 use Rattle.std.specs.List.{AllByRecursion}
-use Rattle.define_desk.specs.Desk.{BundlePage, DrawPage, OwnPage, Page, WithdrawalPage, leaving, page_of, served_by, served_page, withdrawal, withdrawal_by}
+use Rattle.define_desk.specs.Desk.{BundlePage, DrawPage, OwnPage, Page, SeatPage, WithdrawalPage, leaving, page_of, served_by, served_page, withdrawal, withdrawal_by}
 use Rattle.define_desk.specs.Replies.{Reply, not_allowed}
 use Rattle.define_desk.specs.Requests.{Asking, Asks, NoRequest, Request, TooLarge}
 use Rattle.define_draws.specs.Seal.{seal_of}
@@ -112,6 +112,7 @@ page_leads tables request None = lead_none tables tables refl
 page_leads tables request (Some (BundlePage round)) = lead_none tables tables refl
 page_leads tables request (Some (DrawPage round)) = lead_none tables tables refl
 page_leads tables request (Some OwnPage) = lead_none tables tables refl
+page_leads tables request (Some SeatPage) = lead_none tables tables refl
 page_leads tables request (Some WithdrawalPage) = by (bytes_eq request.method (codes "POST"))
   where
     by : (test : Bool) → Leading tables (cond test (key_commands tables request.keys) []) (cond test (withdrawal tables request.keys) (leaving tables (not_allowed (codes "POST")))).tables

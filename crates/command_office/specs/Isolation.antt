@@ -4,7 +4,7 @@
 -- volunteer dropped out). Who asks for anything else learns what is published.
 use Rattle.std.specs.Prelude.{◌≡◌, ◌≢◌, ◌⊎◌, ℕ, Bool, true, false, IsTrue, IsFalse, List, [], ◌∷◌, length, map, bytes_eq, Option, Some, Ok, ⊤}
 use Rattle.std.specs.Io.KnownBytes.{Appends}
-use Rattle.define_desk.specs.Desk.{IsIsolated, OwnPage, Page, WithdrawalPage, page_of, served}
+use Rattle.define_desk.specs.Desk.{IsIsolated, OwnPage, Page, SeatPage, WithdrawalPage, page_of, served}
 use Rattle.define_desk.specs.Replies.{Reply, reply_text}
 use Rattle.define_desk.specs.Requests.{AreAsking, Asks, Request}
 use Rattle.define_desk.specs.Views.{published, view}
@@ -34,9 +34,10 @@ pub record GoAlike (one other : Visit) : Type 0 where
 
 -- ---- requests that no key answers
 
--- the page of a volunteer, or of a volunteer's withdrawal
+-- the page of a volunteer, of a volunteer's seat, or of a volunteer's withdrawal
 abbrev pub is_own_page : Option Page → Bool
 is_own_page (Some OwnPage) = true
+is_own_page (Some SeatPage) = true
 is_own_page (Some WithdrawalPage) = true
 is_own_page other = false
 

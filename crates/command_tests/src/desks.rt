@@ -23,6 +23,10 @@ const OWN: &str =
 
 const WITHDRAWN: &str = "{\"id\":\"a\",\"withdrawn\":true}";
 
+const NO_SEAT: &str = "{\"dropped\":[],\"id\":\"a\",\"seated\":false}";
+
+const DROPPED_OUT: &str = "{\"dropped\":[1],\"id\":\"a\",\"seated\":false}";
+
 const NOT_FOUND: &str = "404 Not Found";
 
 /// Requests and replies while the first round is open.
@@ -42,12 +46,27 @@ const OPEN: &[Row] = &[
         "WWW-Authenticate: office-key\r\n",
         "{\"status\":401}",
     ),
+    ("GET /me/seat", "office-key: abc", STATUS_OK, "", NO_SEAT),
     (
-        "POST /me/withdraw",
-        "Office-Key: abc",
-        STATUS_OK,
-        "",
-        WITHDRAWN,
+        "GET /me/seat",
+        "office-key: abd",
+        "401 Unauthorized",
+        "WWW-Authenticate: office-key\r\n",
+        "{\"status\":401}",
+    ),
+    (
+        "GET /me/seat",
+        "Host: h",
+        "401 Unauthorized",
+        "WWW-Authenticate: office-key\r\n",
+        "{\"status\":401}",
+    ),
+    (
+        "POST /me/seat",
+        "Host: h",
+        "405 Method Not Allowed",
+        "Allow: GET\r\n",
+        "{\"status\":405}",
     ),
     (
         "POST /me/withdraw",
@@ -56,6 +75,14 @@ const OPEN: &[Row] = &[
         "",
         WITHDRAWN,
     ),
+    (
+        "POST /me/withdraw",
+        "Office-Key: abc",
+        STATUS_OK,
+        "",
+        WITHDRAWN,
+    ),
+    ("GET /me/seat", "office-key: abc", STATUS_OK, "", NO_SEAT),
     (
         "POST /me",
         "office-key: abc",
@@ -99,6 +126,43 @@ const SEALED: &[Row] = &[
         "",
         "{\"status\":404}",
     ),
+];
+
+/// Requests and replies after the draw of the first round, of a and c.
+const DRAWN: &[Row] = &[("GET /me/seat", "office-key: abc", STATUS_OK, "", NO_SEAT)];
+
+/// Requests and replies after a dropped out.
+const DROPPED: &[Row] = &[("GET /me/seat", "office-key: abc", STATUS_OK, "", DROPPED_OUT)];
+
+/// Requests and replies while the second round is open.
+const SECOND: &[Row] = &[
+    ("GET /me/seat", "office-key: abc", STATUS_OK, "", DROPPED_OUT),
+    (
+        "GET /me/seat",
+        "office-key: k3",
+        STATUS_OK,
+        "",
+        "{\"dropped\":[],\"id\":\"c\",\"seated\":true}",
+    ),
+    (
+        "GET /me/seat",
+        "office-key: k2",
+        STATUS_OK,
+        "",
+        "{\"dropped\":[],\"id\":\"b\",\"seated\":false}",
+    ),
+];
+
+/// Calls over the store of an open round, each with the requests and replies after it.
+const CALLS: &[(&str, &[Row])] = &[
+    ("solve --store s", SOLVED),
+    ("seal --store s", SEALED),
+    (
+        "draw --store s --seal 41f145deb96e63082dd54ce2bcf3dea5bf3bb3cf4f2936371c318b2d1a4355e7 --digits 0",
+        DRAWN,
+    ),
+    ("drop --store s --id a", DROPPED),
+    ("next-round --store s", SECOND),
 ];
 
 const SERVE: &str = "serve --store s --port 80";
@@ -169,7 +233,7 @@ fn filled<R: Threads + Sync>(
     Ok(keeper)
 }
 
-/// Requests and replies, before the first lottery and after it.
+/// Requests and replies, from before the first lottery to the second round.
 #[test]
 fn a_desk_over_a_store(rt: HostRuntime) -> Result<(), AllocError> {
     let alloc = rt.alloc();
@@ -180,15 +244,12 @@ fn a_desk_over_a_store(rt: HostRuntime) -> Result<(), AllocError> {
         assert!(rt; right, "{}", row.0);
     }
     let mut keeper = filled(&rt, alloc, &[])?;
-    let _solved = told(&rt, alloc, &mut keeper, "solve --store s")?;
-    for row in SOLVED {
-        let right = replies(&rt, alloc, &mut keeper, row, json)?;
-        assert!(rt; right, "{}", row.0);
-    }
-    let _sealed = told(&rt, alloc, &mut keeper, "seal --store s")?;
-    for row in SEALED {
-        let right = replies(&rt, alloc, &mut keeper, row, json)?;
-        assert!(rt; right, "{}", row.0);
+    for (call, rows) in CALLS {
+        let _told = told(&rt, alloc, &mut keeper, call)?;
+        for row in *rows {
+            let right = replies(&rt, alloc, &mut keeper, row, json)?;
+            assert!(rt; right, "{call}: {} {}", row.0, row.1);
+        }
     }
     let bundle = BUNDLE.strip_prefix("0 ").unwrap_or("");
     assert_eq!(rt; bundle.len(), 218);

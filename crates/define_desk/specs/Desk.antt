@@ -1,13 +1,13 @@
 -- The desk: what it replies to the bytes of a connection over the tables of an office, and the tables afterwards. If several refusals
 -- apply, it replies the first one of 413, 400, 404, 405, 401, 409.
-use Rattle.std.specs.Prelude.{◌≡◌, ℕ, ◌+◌, ◌++◌, nat_lt, nat_le, if◌then◌else◌, Bool, ◌&&◌, List, [], ◌∷◌, length, map, take, drop, bytes_eq, codes, Option, Some, None, option_map}
+use Rattle.std.specs.Prelude.{◌≡◌, ℕ, ◌+◌, ◌-◌, ◌++◌, nat_lt, nat_le, if◌then◌else◌, Bool, false, not, ◌&&◌, List, [], ◌∷◌, length, map, take, drop, bytes_eq, codes, Option, Some, None, option_map, unwrap_or}
 use Rattle.std.specs.Char.{is_ascii_digit}
 use Rattle.std.specs.Fmt.{decimal}
 use Rattle.std.specs.List.{list_all}
 use Rattle.std.specs.Str.Parse.{digits_value}
 use Rattle.json.specs.Print.{quoted}
 use Rattle.frac128.specs.Fractions.{fraction_text, lowest_of}
-use Rattle.define_pools.specs.Lists.{includes_list}
+use Rattle.define_pools.specs.Lists.{includes, includes_list}
 use Rattle.define_pools.specs.Lottery.{Lottery, count}
 use Rattle.define_pools.specs.Pool.{Volunteer}
 use Rattle.define_bundles.specs.BundleText.{Bundle, bundle_spelling}
@@ -19,16 +19,17 @@ use Rattle.define_offices.specs.Pools.{drawn_of}
 use Rattle.define_offices.specs.Steps.{tables_after}
 use Rattle.define_draws.specs.Seal.{seal_of}
 use Rattle.define_desk.specs.Requests.{Request, Asking, TooLarge, NoRequest, Asks, AreAsking}
-use Rattle.define_desk.specs.Replies.{Reply, bad_request, not_allowed, not_found, text_or_null, texts, told, told_text, too_large, too_late, truth, truth_or_null, unknown_key}
+use Rattle.define_desk.specs.Replies.{Reply, bad_request, not_allowed, not_found, numbers, text_or_null, texts, told, told_text, too_large, too_late, truth, truth_or_null, unknown_key}
 use Rattle.define_desk.specs.Views.{Own, Published, Nothing, TheBundle, TheDraw, View, last_published, published, published_of, view}
 
 -- ---- pages and their paths
 
--- what a path names: the bundle of a round, its draw, what a volunteer sees, and a volunteer's withdrawal
+-- what a path names: the bundle of a round, its draw, what a volunteer sees, whether a volunteer has a seat, and a volunteer's withdrawal
 pub data Page : Type 0 where
   BundlePage : (round : List ℕ) → Page
   DrawPage : (round : List ℕ) → Page
   OwnPage : Page
+  SeatPage : Page
   WithdrawalPage : Page
 
 -- the rest of the path after `front`, if the path begins with `front`
@@ -45,6 +46,7 @@ round_page None None = None
 abbrev pub page_of : List ℕ → Option Page
 page_of path =
     if bytes_eq path (codes "/me") then Some OwnPage
+    else if bytes_eq path (codes "/me/seat") then Some SeatPage
     else if bytes_eq path (codes "/me/withdraw") then Some WithdrawalPage
     else round_page (after_front (codes "/public/bundle/") path) (after_front (codes "/public/draw/") path)
 
@@ -101,25 +103,38 @@ is_drawn Nothing id = None
 is_drawn (TheBundle bundle) id = None
 is_drawn (TheDraw bundle digits) id = Some (includes_list (drawn_ids bundle digits) id)
 
-abbrev pub own_body : View → Entry → List ℕ
-own_body shown entry =
-    codes "{\"chance\":" ++ text_or_null (chance_of (last_published shown.rounds) entry.id)
-    ++ codes ",\"drawn\":" ++ truth_or_null (is_drawn (last_published shown.rounds) entry.id)
-    ++ codes ",\"id\":" ++ quoted entry.id
+-- what a volunteer sees
+abbrev pub own_body : View → Own → List ℕ
+own_body shown own =
+    codes "{\"chance\":" ++ text_or_null (chance_of (last_published shown.rounds) own.entry.id)
+    ++ codes ",\"drawn\":" ++ truth_or_null (is_drawn (last_published shown.rounds) own.entry.id)
+    ++ codes ",\"id\":" ++ quoted own.entry.id
     ++ codes ",\"phase\":" ++ quoted (phase_name shown.phase)
     ++ codes ",\"round\":" ++ decimal (length shown.rounds)
-    ++ codes ",\"withdrawn\":" ++ truth entry.withdrawn
+    ++ codes ",\"withdrawn\":" ++ truth own.entry.withdrawn
     ++ codes "}"
 
-abbrev pub own_reply_by : View → Option Own → Reply
-own_reply_by shown None = unknown_key
-own_reply_by shown (Some own) = told (own_body shown own.entry)
+-- whether the round `number` drew the volunteer, who didn't drop out of it. There is no round 0
+abbrev pub keeps_seat : List Published → Own → ℕ → Bool
+keeps_seat rounds own number = unwrap_or (is_drawn (published_of rounds number) own.entry.id) false && not (includes own.dropped number)
 
--- the reply to a request for what a volunteer sees, by the keys in the request: there must be exactly one
-abbrev pub own_reply : Tables → List (List ℕ) → Reply
-own_reply tables [] = unknown_key
-own_reply tables (key ∷ []) = own_reply_by (view tables key) (view tables key).own
-own_reply tables (key ∷ other ∷ keys) = unknown_key
+-- the rounds of which the volunteer dropped out, and whether this volunteer is seated in the last round, as a member of the one before it
+abbrev pub seat_body : View → Own → List ℕ
+seat_body shown own =
+    codes "{\"dropped\":" ++ numbers own.dropped
+    ++ codes ",\"id\":" ++ quoted own.entry.id
+    ++ codes ",\"seated\":" ++ truth (keeps_seat shown.rounds own (length shown.rounds - 1))
+    ++ codes "}"
+
+abbrev pub own_reply_by : (View → Own → List ℕ) → View → Option Own → Reply
+own_reply_by body shown None = unknown_key
+own_reply_by body shown (Some own) = told (body shown own)
+
+-- the reply to a request for a page about a volunteer, by the keys in the request: there must be exactly one. `body` makes the reply's body
+abbrev pub own_reply : (View → Own → List ℕ) → Tables → List (List ℕ) → Reply
+own_reply body tables [] = unknown_key
+own_reply body tables (key ∷ []) = own_reply_by body (view tables key) (view tables key).own
+own_reply body tables (key ∷ other ∷ keys) = unknown_key
 
 -- ---- withdrawals
 
@@ -158,7 +173,8 @@ abbrev pub served_page : Tables → Request → Option Page → Served
 served_page tables request None = leaving tables not_found
 served_page tables request (Some (BundlePage round)) = leaving tables (bundle_reply request (published_of (map published tables.rounds) (round_named round)))
 served_page tables request (Some (DrawPage round)) = leaving tables (draw_reply request (published_of (map published tables.rounds) (round_named round)))
-served_page tables request (Some OwnPage) = leaving tables (if_by (codes "GET") request (own_reply tables request.keys))
+served_page tables request (Some OwnPage) = leaving tables (if_by (codes "GET") request (own_reply own_body tables request.keys))
+served_page tables request (Some SeatPage) = leaving tables (if_by (codes "GET") request (own_reply seat_body tables request.keys))
 served_page tables request (Some WithdrawalPage) =
     if bytes_eq request.method (codes "POST") then withdrawal tables request.keys else leaving tables (not_allowed (codes "POST"))
 

@@ -1,5 +1,5 @@
 -- The replies of the desk, byte for byte.
-use Rattle.std.specs.Prelude.{ℕ, ◌++◌, Bool, true, false, List, [], ◌∷◌, length, codes, unwrap_or, Option, Some, None}
+use Rattle.std.specs.Prelude.{ℕ, ◌++◌, Bool, true, false, List, [], ◌∷◌, length, map, codes, unwrap_or, Option, Some, None}
 use Rattle.std.specs.Fmt.{decimal}
 use Rattle.std.specs.List.{flat_map}
 use Rattle.http.specs.StatusCode.{reason_phrase}
@@ -53,14 +53,17 @@ abbrev pub truth_or_null : Option Bool → List ℕ
 truth_or_null None = codes "null"
 truth_or_null (Some value) = truth value
 
--- texts in JSON with commas between them
+-- values in JSON with commas between them
 abbrev pub listed : List (List ℕ) → List ℕ
 listed [] = []
-listed (text ∷ []) = quoted text
-listed (text ∷ next ∷ texts) = quoted text ++ codes "," ++ listed (next ∷ texts)
+listed (value ∷ []) = value
+listed (value ∷ next ∷ values) = value ++ codes "," ++ listed (next ∷ values)
 
 abbrev pub texts : List (List ℕ) → List ℕ
-texts all = codes "[" ++ listed all ++ codes "]"
+texts all = codes "[" ++ listed (map quoted all) ++ codes "]"
+
+abbrev pub numbers : List ℕ → List ℕ
+numbers all = codes "[" ++ listed (map decimal all) ++ codes "]"
 
 -- ---- the replies
 

@@ -2,8 +2,8 @@
 use Rattle.std.specs.Prelude.{ℕ, true, List, [], ◌∷◌, codes}
 use Rattle.httparse.specs.Grammar.{Field, RequestHead, crlf}
 use Rattle.define_offices.specs.Deciding.{entry_of}
-use Rattle.define_offices.specs.Tables.{Open, Solved, Sealed, Tables}
-use Rattle.define_offices.specs.WorkedOffice.{a, b, c, d, drawn, first_bundle, given, in_rounds, with_rows}
+use Rattle.define_offices.specs.Tables.{Round, Open, Solved, Sealed, Drawn, Tables}
+use Rattle.define_offices.specs.WorkedOffice.{a, b, c, d, drawn, first_bundle, given, in_rounds, second_bundle, with_rows}
 use Rattle.define_desk.specs.Requests.{Request}
 
 abbrev pub asked_with : List ℕ → List ℕ → List (List ℕ) → Request
@@ -14,6 +14,9 @@ get path = asked_with (codes "GET") path []
 
 abbrev pub get_own : List ℕ → Request
 get_own key = asked_with (codes "GET") (codes "/me") (key ∷ [])
+
+abbrev pub get_seat : List ℕ → Request
+get_seat key = asked_with (codes "GET") (codes "/me/seat") (key ∷ [])
 
 abbrev pub post_withdrawal : List ℕ → Request
 post_withdrawal key = asked_with (codes "POST") (codes "/me/withdraw") (key ∷ [])
@@ -42,6 +45,17 @@ drawn_round = in_rounds (drawn (codes "a" ∷ []) ∷ [])
 -- a second round is open, in which c is seated
 abbrev pub second_round : Tables
 second_round = in_rounds (drawn (codes "a" ∷ []) ∷ Open ∷ [])
+
+-- the second round drew b and c, and c dropped out
+abbrev pub second_drawn : Round
+second_drawn = Drawn second_bundle (codes "0") (codes "c" ∷ [])
+
+abbrev pub drawn_again : Tables
+drawn_again = in_rounds (drawn (codes "a" ∷ []) ∷ second_drawn ∷ [])
+
+-- a third round is open, in which b is seated
+abbrev pub third_round : Tables
+third_round = in_rounds (drawn (codes "a" ∷ []) ∷ second_drawn ∷ Open ∷ [])
 
 -- ---- the bytes of the examples
 

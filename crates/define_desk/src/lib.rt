@@ -13,7 +13,7 @@ ghost use Rattle.define_offices.specs.WorkedOffice.{first_bundle, with_rows};
 ghost use Rattle.define_desk.specs.Requests.{AreAsking, Asks, NoRequest, TooLarge, asking_by};
 ghost use Rattle.define_desk.specs.Replies.{bad_request, not_allowed, not_found, out_of_memory, reply_text, told, told_text, too_large, too_late, unavailable, unknown_key};
 ghost use Rattle.define_desk.specs.Desk.{leaving, served, served_by};
-ghost use Rattle.define_desk.specs.WorkedDesk.{a_withdrew, asked_with, drawn_round, field, get, get_own, others_differ, own_bytes, own_head, own_told, post_with, post_withdrawal, sealed_round, second_round, solved_round};
+ghost use Rattle.define_desk.specs.WorkedDesk.{a_withdrew, asked_with, drawn_again, drawn_round, field, get, get_own, get_seat, others_differ, own_bytes, own_head, own_told, post_with, post_withdrawal, sealed_round, second_round, solved_round, third_round};
 
 /// A volunteer asks with a key. The reply is the same if all other rows differ.
 pub fn worked_volunteers()
@@ -25,6 +25,23 @@ pub fn worked_volunteers()
         ≡ told (codes "{\"chance\":\"1/2\",\"drawn\":true,\"id\":\"a\",\"phase\":\"Drawn\",\"round\":1,\"withdrawn\":false}") }
     ensures second { (served second_round (get_own (codes "k2"))).reply
         ≡ told (codes "{\"chance\":null,\"drawn\":null,\"id\":\"b\",\"phase\":\"Open\",\"round\":2,\"withdrawn\":false}") }
+{}
+
+/// A volunteer asks for the seat: in round 1 nobody has one, and later the members of the round before who didn't drop out. The reply is the
+/// same after a withdrawal, and if all other rows differ.
+pub fn worked_seats()
+    ensures open { (served with_rows (get_seat (codes "abc"))).reply ≡ told (codes "{\"dropped\":[],\"id\":\"a\",\"seated\":false}") }
+    ensures others { served others_differ (get_seat (codes "abc")) ≡ leaving others_differ (served with_rows (get_seat (codes "abc"))).reply }
+    ensures withdrawn { served a_withdrew (get_seat (codes "abc")) ≡ leaving a_withdrew (served with_rows (get_seat (codes "abc"))).reply }
+    ensures drawn { (served drawn_round (get_seat (codes "k3"))).reply ≡ told (codes "{\"dropped\":[],\"id\":\"c\",\"seated\":false}") }
+    ensures dropped { (served drawn_round (get_seat (codes "abc"))).reply ≡ told (codes "{\"dropped\":[1],\"id\":\"a\",\"seated\":false}") }
+    ensures gone { (served second_round (get_seat (codes "abc"))).reply ≡ told (codes "{\"dropped\":[1],\"id\":\"a\",\"seated\":false}") }
+    ensures seated { (served second_round (get_seat (codes "k3"))).reply ≡ told (codes "{\"dropped\":[],\"id\":\"c\",\"seated\":true}") }
+    ensures undrawn { (served second_round (get_seat (codes "k2"))).reply ≡ told (codes "{\"dropped\":[],\"id\":\"b\",\"seated\":false}") }
+    ensures drawn_now { (served drawn_again (get_seat (codes "k2"))).reply ≡ told (codes "{\"dropped\":[],\"id\":\"b\",\"seated\":false}") }
+    ensures drops_now { (served drawn_again (get_seat (codes "k3"))).reply ≡ told (codes "{\"dropped\":[2],\"id\":\"c\",\"seated\":true}") }
+    ensures third { (served third_round (get_seat (codes "k2"))).reply ≡ told (codes "{\"dropped\":[],\"id\":\"b\",\"seated\":true}") }
+    ensures third_gone { (served third_round (get_seat (codes "k3"))).reply ≡ told (codes "{\"dropped\":[2],\"id\":\"c\",\"seated\":false}") }
 {}
 
 /// The first withdrawal changes the tables, and the second does not. A withdrawal from a sealed round comes too late, and so does that of
@@ -56,6 +73,10 @@ pub fn worked_refusals()
     ensures five_digits { served drawn_round (get (codes "/public/bundle/00001")) ≡ leaving drawn_round not_found }
     ensures method { served with_rows (asked_with (codes "POST") (codes "/me") []) ≡ leaving with_rows (not_allowed (codes "GET")) }
     ensures other_method { served with_rows (asked_with (codes "GET") (codes "/me/withdraw") []) ≡ leaving with_rows (not_allowed (codes "POST")) }
+    ensures seat_method { served with_rows (asked_with (codes "POST") (codes "/me/seat") []) ≡ leaving with_rows (not_allowed (codes "GET")) }
+    ensures seat_no_key { served with_rows (get (codes "/me/seat")) ≡ leaving with_rows unknown_key }
+    ensures seat_two_keys { served with_rows (asked_with (codes "GET") (codes "/me/seat") (codes "abc" ∷ codes "abc" ∷ [])) ≡ leaving with_rows unknown_key }
+    ensures seat_key { served second_round (get_seat (codes "abd")) ≡ leaving second_round unknown_key }
     ensures no_key { served with_rows (get (codes "/me")) ≡ leaving with_rows unknown_key }
     ensures two_keys { served with_rows (asked_with (codes "GET") (codes "/me") (codes "abc" ∷ codes "abc" ∷ [])) ≡ leaving with_rows unknown_key }
     ensures key { served sealed_round (post_withdrawal (codes "abd")) ≡ leaving sealed_round unknown_key }

@@ -6,8 +6,8 @@ use Rattle.json.specs.Print.{escape_byte, quoted}
 use Rattle.serde_json.specs.Data.{Data, array, string}
 use Rattle.serde_json.specs.View.{items_of}
 use Rattle.serde_json.specs.Written.{compact_text, has_float, items_have_float, items_text}
-use Rattle.define_desk.specs.Replies.{listed, text_or_null, texts, truth, truth_or_null}
-use Rattle.office_desk.specs.Bodies.{draw_data, draw_text, own_data, own_text, text_data, truth_data}
+use Rattle.define_desk.specs.Replies.{listed, numbers, text_or_null, texts, truth, truth_or_null}
+use Rattle.office_desk.specs.Bodies.{draw_data, draw_text, number_data, own_data, own_text, seat_data, seat_text, text_data, truth_data}
 
 -- ---- a text or a truth value, or null
 
@@ -74,18 +74,47 @@ draw_data-text digits panel seal ticket =
 pub draw_data-float : (digits : List ℕ) (panel : Data) (seal ticket : List ℕ) → has_float panel ≡ false → has_float (draw_data digits panel seal ticket) ≡ false
 draw_data-float digits panel seal ticket none = rw none refl
 
--- ---- panels
+-- ---- seats
+
+seat_grouped : (a d b i c s e : List ℕ) → (((((a ++ d) ++ b) ++ i) ++ c) ++ s) ++ e ≡ a ++ (d ++ (b ++ (i ++ (c ++ (s ++ e)))))
+seat_grouped a d b i c s e = simp append_assoc
+
+pub seat_data-text : (dropped : Data) (id : List ℕ) (seated : Bool) → compact_text (seat_data dropped id seated) ≡ seat_text (compact_text dropped) id seated
+unfolding escape_byte
+seat_data-text dropped id true = sym (seat_grouped (codes "{\"dropped\":") (compact_text dropped) (codes ",\"id\":") (quoted id) (codes ",\"seated\":") (codes "true") (codes "}"))
+seat_data-text dropped id false = sym (seat_grouped (codes "{\"dropped\":") (compact_text dropped) (codes ",\"id\":") (quoted id) (codes ",\"seated\":") (codes "false") (codes "}"))
+
+pub seat_data-float : (dropped : Data) (id : List ℕ) (seated : Bool) → has_float dropped ≡ false → has_float (seat_data dropped id seated) ≡ false
+seat_data-float dropped id seated none = rw none refl
+
+-- if the parts are equal, the texts are equal
+pub seat_text_same : (d d' i i' : List ℕ) (s s' : Bool) → d ≡ d' → i ≡ i' → s ≡ s' → seat_text d i s ≡ seat_text d' i' s'
+seat_text_same d d' i i' s s' ed ei es = ap (λ (x : List ℕ). seat_text x i s) ed ∙ (ap (λ (x : List ℕ). seat_text d' x s) ei ∙ ap (λ (x : Bool). seat_text d' i' x) es)
+
+-- ---- arrays
 
 pub ids_have_no_float : (ids : List (List ℕ)) → items_have_float (items_of (map string ids)) ≡ false
 ids_have_no_float [] = refl
 ids_have_no_float (id ∷ ids) = ids_have_no_float ids
 
-later_ids : (id : List ℕ) (ids : List (List ℕ)) → quoted id ++ items_text true (items_of (map string ids)) ≡ listed (id ∷ ids) ++ codes "]"
-later_ids id [] = refl
-later_ids id (next ∷ ids) =
-    ap (λ rest. quoted id ++ (44 ∷ rest)) (later_ids next ids) ∙ (sym (append_assoc (quoted id) (codes ",") (listed (next ∷ ids) ++ codes "]"))
-    ∙ sym (append_assoc (quoted id ++ codes ",") (listed (next ∷ ids)) (codes "]")))
+pub numbers_have_no_float : (numbers : List ℕ) → items_have_float (items_of (map number_data numbers)) ≡ false
+numbers_have_no_float [] = refl
+numbers_have_no_float (n ∷ numbers) = numbers_have_no_float numbers
+
+-- an array is printed as its values with commas between them
+module _ {X : Type 0} (data_of : X → Data) (text : X → List ℕ) (same : (x : X) → compact_text (data_of x) ≡ text x) where
+  later_values : (x : X) (xs : List X) → text x ++ items_text true (items_of (map data_of xs)) ≡ listed (map text (x ∷ xs)) ++ codes "]"
+  later_values x [] = refl
+  later_values x (next ∷ xs) =
+      ap (λ rest. text x ++ (44 ∷ rest)) (ap (λ (t : List ℕ). t ++ items_text true (items_of (map data_of xs))) (same next) ∙ later_values next xs)
+      ∙ (sym (append_assoc (text x) (codes ",") (listed (map text (next ∷ xs)) ++ codes "]")) ∙ sym (append_assoc (text x ++ codes ",") (listed (map text (next ∷ xs))) (codes "]")))
+
+  values_as_text : (xs : List X) → compact_text (array (items_of (map data_of xs))) ≡ codes "[" ++ listed (map text xs) ++ codes "]"
+  values_as_text [] = refl
+  values_as_text (x ∷ xs) = ap (λ rest. 91 ∷ rest) (ap (λ (t : List ℕ). t ++ items_text true (items_of (map data_of xs))) (same x) ∙ later_values x xs)
 
 pub ids_as_texts : (ids : List (List ℕ)) → compact_text (array (items_of (map string ids))) ≡ texts ids
-ids_as_texts [] = refl
-ids_as_texts (id ∷ ids) = ap (λ rest. 91 ∷ rest) (later_ids id ids)
+ids_as_texts ids = values_as_text string quoted (λ id. refl) ids
+
+pub numbers_as_text : (all : List ℕ) → compact_text (array (items_of (map number_data all))) ≡ numbers all
+numbers_as_text all = values_as_text number_data decimal (λ n. refl) all

@@ -10,7 +10,7 @@ use Rattle.define_offices.specs.Tables.{Entry, Tables}
 use Rattle.define_desk.specs.Requests.{Request}
 use Rattle.define_desk.specs.Replies.{Reply, not_found, told, unavailable, unknown_key}
 use Rattle.define_desk.specs.Views.{published, published_of}
-use Rattle.define_desk.specs.Desk.{BundlePage, DrawPage, OwnPage, Page as SeenPage, Served, WithdrawalPage, bundle_reply, draw_reply, if_by, leaving, own_reply, round_named, served, served_page, withdrawal, withdrawal_by, withdrawal_reply, withdrawn_body}
+use Rattle.define_desk.specs.Desk.{BundlePage, DrawPage, OwnPage as AtOwn, Page as SeenPage, SeatPage, Served, WithdrawalPage, bundle_reply, draw_reply, if_by, leaving, own_reply, round_named, served, served_page, withdrawal, withdrawal_by, withdrawal_reply, withdrawn_body}
 use Rattle.office_steps.specs.Replies.{seen_refusal, seen_reply}
 use Rattle.office_steps.specs.declared.replies.Reply.{Reply as OfficeReply}
 use Rattle.office_core.specs.Acting.{ActsOver, FailsAtStore, FailsInOrderOver, HasFault as ActFault, HasOutcomeOver, IsLoaded}
@@ -21,10 +21,12 @@ use Rattle.office_core.specs.declared.stops.ActStop.TheVariants as act
 use Rattle.office_desk.specs.Answers.{FailsInTurn, FailsToStore, HasFault, IsReplyTo, NoMemory, Replied, ToLoad, ToStore, Unavailable}
 use Rattle.office_desk.proofs.Causes.{because}
 use Rattle.office_desk.specs.Endings.{Done, EndsAs, Failed, IsSentFor, WantsMemory}
-use Rattle.office_desk.specs.Pages.{seen_page}
+use Rattle.office_desk.specs.Pages.{body_of, seen_page}
 use Rattle.office_desk.specs.Refusals.{refusal_reply}
 use Rattle.office_desk.specs.Sent.{Sent, sent_of}
 use Rattle.office_desk.specs.Withdrawals.{TellsWithdrawn, stop_refusal}
+use Rattle.office_desk.specs.declared.routes.OwnPage.{OwnPage}
+use Rattle.office_desk.specs.declared.routes.OwnPage.TheVariants.{Seat, Standing}
 use Rattle.office_desk.specs.declared.routes.Page.TheVariants.{Bundle, Draw, Own, Withdrawal}
 
 -- ---- withdrawals
@@ -114,28 +116,32 @@ module _ (tables : Tables) (request : Request) where
   at_bundle None round e = absurd (cc)
   at_bundle (Some (BundlePage text)) round e = let n : round_named text ≡ round = cc in ap (λ (k : ℕ). leaving tables (bundle_reply request (published_of (map published tables.rounds) k))) n
   at_bundle (Some (DrawPage text)) round e = absurd (cc)
-  at_bundle (Some OwnPage) round e = absurd (cc)
+  at_bundle (Some AtOwn) round e = absurd (cc)
+  at_bundle (Some SeatPage) round e = absurd (cc)
   at_bundle (Some WithdrawalPage) round e = absurd (cc)
 
   pub at_draw : (found : Option SeenPage) (round : ℕ) → option_map seen_page found ≡ Some (Draw round) → served_page tables request found ≡ leaving tables (draw_reply request (published_of (map published tables.rounds) round))
   at_draw None round e = absurd (cc)
   at_draw (Some (BundlePage text)) round e = absurd (cc)
   at_draw (Some (DrawPage text)) round e = let n : round_named text ≡ round = cc in ap (λ (k : ℕ). leaving tables (draw_reply request (published_of (map published tables.rounds) k))) n
-  at_draw (Some OwnPage) round e = absurd (cc)
+  at_draw (Some AtOwn) round e = absurd (cc)
+  at_draw (Some SeatPage) round e = absurd (cc)
   at_draw (Some WithdrawalPage) round e = absurd (cc)
 
-  pub at_own : (found : Option SeenPage) → option_map seen_page found ≡ Some Own → served_page tables request found ≡ leaving tables (if_by (codes "GET") request (own_reply tables request.keys))
-  at_own None e = absurd (cc)
-  at_own (Some (BundlePage text)) e = absurd (cc)
-  at_own (Some (DrawPage text)) e = absurd (cc)
-  at_own (Some OwnPage) e = refl
-  at_own (Some WithdrawalPage) e = absurd (cc)
+  pub at_own : (found : Option SeenPage) (page : OwnPage) → option_map seen_page found ≡ Some (Own page) → served_page tables request found ≡ leaving tables (if_by (codes "GET") request (own_reply (body_of page) tables request.keys))
+  at_own None page e = absurd (cc)
+  at_own (Some (BundlePage text)) page e = absurd (cc)
+  at_own (Some (DrawPage text)) page e = absurd (cc)
+  at_own (Some AtOwn) page e = let is : Standing ≡ page = cc in ap (λ (p : OwnPage). leaving tables (if_by (codes "GET") request (own_reply (body_of p) tables request.keys))) is
+  at_own (Some SeatPage) page e = let is : Seat ≡ page = cc in ap (λ (p : OwnPage). leaving tables (if_by (codes "GET") request (own_reply (body_of p) tables request.keys))) is
+  at_own (Some WithdrawalPage) page e = absurd (cc)
 
   pub at_withdrawal : (found : Option SeenPage) → option_map seen_page found ≡ Some Withdrawal → served_page tables request found ≡ served_page tables request (Some WithdrawalPage)
   at_withdrawal None e = absurd (cc)
   at_withdrawal (Some (BundlePage text)) e = absurd (cc)
   at_withdrawal (Some (DrawPage text)) e = absurd (cc)
-  at_withdrawal (Some OwnPage) e = absurd (cc)
+  at_withdrawal (Some AtOwn) e = absurd (cc)
+  at_withdrawal (Some SeatPage) e = absurd (cc)
   at_withdrawal (Some WithdrawalPage) e = refl
 
   pub at_nothing : (found : Option SeenPage) → option_map seen_page found ≡ None → served_page tables request found ≡ leaving tables not_found

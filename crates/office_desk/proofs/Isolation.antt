@@ -18,7 +18,8 @@ use Rattle.define_offices.specs.Tables.{Entry, Round, Open, Solved, Sealed, Draw
 use Rattle.define_desk.specs.Requests.{Request}
 use Rattle.define_desk.specs.Replies.{Reply, not_allowed, told, too_late, unknown_key}
 use Rattle.define_desk.specs.Views.{Nothing, Own, Published, TheBundle, TheDraw, View, dropped_from, dropped_of, own_of, published, published_at, published_of, view}
-use Rattle.define_desk.specs.Desk.{BundlePage, DrawPage, IsIsolated, IsPublic, OwnPage, Page, WithdrawalPage, bundle_reply, draw_reply, if_by, leaving, own_reply, own_reply_by, page_of, round_named, served_page, withdrawal, withdrawal_by, withdrawal_reply, withdrawn_body}
+use Rattle.define_desk.specs.Desk.{BundlePage, DrawPage, IsIsolated, IsPublic, OwnPage, Page, SeatPage, WithdrawalPage, bundle_reply, draw_reply, if_by, leaving, own_body, own_reply, own_reply_by, page_of, round_named, seat_body, served_page, withdrawal, withdrawal_by, withdrawal_reply, withdrawn_body}
+use Rattle.office_desk.proofs.Dropouts.{dropped_at, dropped_in}
 use Rattle.office_desk.proofs.PublishedRounds.{at_place, shown}
 use Rattle.office_desk.proofs.Seats.{IsRow, row_of, same_place, seat_by, seat_first, seat_later}
 
@@ -76,38 +77,6 @@ open_at (Open ∷ next ∷ later) (suc k) o e = open_at (next ∷ later) k o (om
 open_at (Solved bundle ∷ next ∷ later) (suc k) o e = open_at (next ∷ later) k o (omega arith)
 open_at (Sealed bundle ∷ next ∷ later) (suc k) o e = open_at (next ∷ later) k o (omega arith)
 open_at (Drawn bundle digits dropped ∷ next ∷ later) (suc k) o e = open_at (next ∷ later) k o (omega arith)
-
--- ---- dropouts
-
-abbrev dropped_in : List ℕ → Option Round → Bool
-dropped_in id None = false
-dropped_in id (Some round) = includes_list (dropped_of round) id
-
-skipped : (start n : ℕ) (rest : List ℕ) (b dropped : Bool) → eqb start n ≡ false → includes rest n ≡ dropped → includes (cond b (start ∷ rest) rest) n ≡ dropped
-skipped start n rest true dropped apart later = rw apart later
-skipped start n rest false dropped apart later = later
-
-none_before : (id : List ℕ) (rounds : List Round) (start n : ℕ) → n < start → includes (dropped_from id rounds start) n ≡ false
-none_before id [] start n h = refl
-none_before id (round ∷ rounds) start n h =
-    let apart : eqb start n ≡ false = ne_eqb start n (λ e. omega arith) in
-    skipped start n (dropped_from id rounds (start + 1)) (includes_list (dropped_of round) id) false apart (none_before id rounds (start + 1) n (omega arith))
-
-at_first : (start : ℕ) (rest : List ℕ) (b : Bool) → includes rest (start + 0) ≡ false → includes (cond b (start ∷ rest) rest) (start + 0) ≡ b
-at_first start rest true none = or_left (eqb start (start + 0)) (includes rest (start + 0)) (eq-eqb start (start + 0) (omega arith))
-at_first start rest false none = none
-
--- round `start + k` is among the rounds from which the volunteer dropped out exactly if the round at place `k` has this volunteer among its
--- dropouts
-dropped_at : (id : List ℕ) (rounds : List Round) (start k : ℕ) → includes (dropped_from id rounds start) (start + k) ≡ dropped_in id (round_at rounds k)
-dropped_at id [] start k = refl
-dropped_at id (round ∷ rounds) start zero =
-    at_first start (dropped_from id rounds (start + 1)) (includes_list (dropped_of round) id) (none_before id rounds (start + 1) (start + 0) (omega arith))
-dropped_at id (round ∷ rounds) start (suc k) =
-    let apart : eqb start (start + suc k) ≡ false = ne_eqb start (start + suc k) (λ e. omega arith) in
-    let moved : start + suc k ≡ start + 1 + k = omega arith in
-    skipped start (start + suc k) (dropped_from id rounds (start + 1)) (includes_list (dropped_of round) id) (dropped_in id (round_at rounds k)) apart
-    (ap (includes (dropped_from id rounds (start + 1))) moved ∙ dropped_at id rounds (start + 1) k)
 
 -- ---- a volunteer in two tables
 
@@ -251,13 +220,17 @@ module _ (one other : Tables) (keeps : IsTables one) (keeps' : IsTables other) (
 
   -- ---- replies to each request
 
+  own_same : (body : View → Own → List ℕ) (request : Request) → request.keys ≡ key ∷ [] → if_by (codes "GET") request (own_reply body one request.keys) ≡ if_by (codes "GET") request (own_reply body other request.keys)
+  own_same body request keys =
+      ap (λ given. if_by (codes "GET") request (own_reply body one given)) keys
+      ∙ (ap (λ (v : View). if_by (codes "GET") request (own_reply_by body v v.own)) same ∙ ap (λ given. if_by (codes "GET") request (own_reply body other given)) (sym keys))
+
   replies_same : (request : Request) → request.keys ≡ key ∷ [] → (page : Option Page) → (served_page one request page).reply ≡ (served_page other request page).reply
   replies_same request keys None = refl
   replies_same request keys (Some (BundlePage round)) = ap (λ (v : View). bundle_reply request (published_of v.rounds (round_named round))) same
   replies_same request keys (Some (DrawPage round)) = ap (λ (v : View). draw_reply request (published_of v.rounds (round_named round))) same
-  replies_same request keys (Some OwnPage) =
-      ap (λ given. if_by (codes "GET") request (own_reply one given)) keys
-      ∙ (ap (λ (v : View). if_by (codes "GET") request (own_reply_by v v.own)) same ∙ ap (λ given. if_by (codes "GET") request (own_reply other given)) (sym keys))
+  replies_same request keys (Some OwnPage) = own_same own_body request keys
+  replies_same request keys (Some SeatPage) = own_same seat_body request keys
   replies_same request keys (Some WithdrawalPage) = by (bytes_eq request.method (codes "POST"))
     where
       posted : (withdrawal one request.keys).reply ≡ (withdrawal other request.keys).reply

@@ -3,6 +3,7 @@ mod ByMethod
 pub mod Causes
 mod Digits
 mod DrawnBodies
+mod Dropouts
 mod Ends
 mod Isolation
 mod NamedDigits

@@ -25,17 +25,18 @@ if_status method request reply h = by (bytes_eq request.method method)
     by true = h
     by false = refl
 
-own_status_by : (shown : View) (own : Option Own) → ((own_reply_by shown own).status == 503) ≡ false
-own_status_by shown None = refl
-own_status_by shown (Some own) = refl
+module _ (body : View → Own → List ℕ) where
+  own_status_by : (shown : View) (own : Option Own) → ((own_reply_by body shown own).status == 503) ≡ false
+  own_status_by shown None = refl
+  own_status_by shown (Some own) = refl
 
-own_reply_status : (tables : Tables) (keys : List (List ℕ)) → ((own_reply tables keys).status == 503) ≡ false
-own_reply_status tables [] = refl
-own_reply_status tables (key ∷ []) = own_status_by (view tables key) (view tables key).own
-own_reply_status tables (key ∷ other ∷ keys) = refl
+  own_reply_status : (tables : Tables) (keys : List (List ℕ)) → ((own_reply body tables keys).status == 503) ≡ false
+  own_reply_status tables [] = refl
+  own_reply_status tables (key ∷ []) = own_status_by (view tables key) (view tables key).own
+  own_reply_status tables (key ∷ other ∷ keys) = refl
 
-pub own_status : (method : List ℕ) (request : Request) (tables : Tables) (keys : List (List ℕ)) → ((if_by method request (own_reply tables keys)).status == 503) ≡ false
-own_status method request tables keys = if_status method request (own_reply tables keys) (own_reply_status tables keys)
+  pub own_status : (method : List ℕ) (request : Request) (tables : Tables) (keys : List (List ℕ)) → ((if_by method request (own_reply body tables keys)).status == 503) ≡ false
+  own_status method request tables keys = if_status method request (own_reply body tables keys) (own_reply_status tables keys)
 
 pub bundle_status : (request : Request) (shown : Published) → ((bundle_reply request shown).status == 503) ≡ false
 bundle_status request Nothing = refl

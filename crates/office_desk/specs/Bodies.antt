@@ -1,5 +1,5 @@
 -- Bodies of JSON: their texts, made of the texts of their parts, and the values whose texts they are. Used by the modules `bodies` and
--- `own_page`.
+-- `seats`.
 use Rattle.std.specs.Prelude.{ℕ, ◌++◌, Bool, true, List, Option, Some, None, codes}
 use Rattle.std.specs.Fmt.{decimal}
 use Rattle.json.specs.Print.{quoted}
@@ -17,6 +17,10 @@ own_text chance drawn id phase round withdrawn =
     ++ codes ",\"round\":" ++ decimal round
     ++ codes ",\"withdrawn\":" ++ truth withdrawn
     ++ codes "}"
+
+-- the text of the body for a seat; `dropped` is the text of the part that tells the rounds
+abbrev pub seat_text : List ℕ → List ℕ → Bool → List ℕ
+seat_text dropped id seated = codes "{\"dropped\":" ++ dropped ++ codes ",\"id\":" ++ quoted id ++ codes ",\"seated\":" ++ truth seated ++ codes "}"
 
 -- the text of the body for a draw; `panel` is the text of the panel's part
 abbrev pub draw_text : List ℕ → List ℕ → List ℕ → List ℕ → List ℕ
@@ -37,6 +41,14 @@ abbrev pub own_data : Option (List ℕ) → Option Bool → List ℕ → List �
 own_data chance drawn id phase round withdrawn =
     object (member (codes "chance") (text_data chance) (member (codes "drawn") (truth_data drawn) (member (codes "id") (string id)
     (member (codes "phase") (string phase) (member (codes "round") (number (unsigned round)) (member (codes "withdrawn") (boolean withdrawn) no_members))))))
+
+abbrev pub seat_data : Data → List ℕ → Bool → Data
+seat_data dropped id seated =
+    object (member (codes "dropped") dropped (member (codes "id") (string id) (member (codes "seated") (boolean seated) no_members)))
+
+-- a round's number as a value
+abbrev pub number_data : ℕ → Data
+number_data n = number (unsigned n)
 
 abbrev pub draw_data : List ℕ → Data → List ℕ → List ℕ → Data
 draw_data digits panel seal ticket =

@@ -5,7 +5,7 @@ ghost use Rattle.serde_json.specs.Data.{array};
 ghost use Rattle.serde_json.specs.View.{items_view, view};
 ghost use Rattle.serde_json.specs.Written.{compact_text, has_float};
 ghost use Rattle.define_desk.specs.Desk.{withdrawn_body as body_of_withdrawn};
-ghost use Rattle.office_desk.specs.Bodies.{draw_data, draw_text, own_data, own_text, text_data, truth_data, withdrawn_data};
+ghost use Rattle.office_desk.specs.Bodies.{draw_data, draw_text, own_data, own_text, seat_data, seat_text, text_data, truth_data, withdrawn_data};
 
 use serde_json::{Value, json};
 use std::alloc::{AllocError, Global};
@@ -59,6 +59,28 @@ fn truth_or_null(truth: Option<bool>) -> Value
         Some(truth) => Value::Bool(truth),
         None => Value::Null,
     }
+}
+
+/// Returns the body for a volunteer's seat: the numbers of the rounds of which the volunteer dropped out, the id, and whether the volunteer is
+/// seated.
+pub(crate) fn seat_body(
+    alloc: Global,
+    dropped: Vec<Value>,
+    id: &str,
+    seated: bool,
+) -> Result<String, AllocError>
+    requires { has_float (array (items_view dropped.items)) ≡ false }
+    ensures { IfOk result (λ body. string_bytes body ≡ seat_text (compact_text (array (items_view dropped.items))) id.now seated) }
+{
+    let dropped = array_of(dropped);
+    let value = seat_value(alloc, dropped, id, seated)?;
+    value.to_string(alloc)
+}
+
+fn seat_value(alloc: Global, dropped: Value, id: &str, seated: bool) -> Result<Value, AllocError>
+    ensures { IfOk result (λ value. view value ≡ seat_data (view dropped) id.now seated) }
+{
+    json!(in alloc; {"dropped": dropped, "id": id, "seated": seated})
 }
 
 /// Returns the body for what is published of a draw: the digits of the dice, the ids of the panel's members, the seal and the ticket.

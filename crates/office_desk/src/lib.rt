@@ -16,6 +16,7 @@ mod published;
 mod refusals;
 mod replies;
 mod routes;
+mod seats;
 mod serving;
 mod withdrawing;
 

@@ -1,15 +1,14 @@
-//! The page `/me`: what a volunteer sees with their key.
+//! The pages `/me` and `/me/seat`: what a volunteer sees with their key.
 
-ghost use Rattle.std.specs.Prelude.{◌≡◌, [], ◌∷◌, codes, length, map, option_map, IfOk};
+ghost use Rattle.std.specs.Prelude.{◌≡◌, [], ◌∷◌, codes, option_map, string_bytes, IfOk};
 ghost use Rattle.define_offices.specs.Deciding.{with_hash};
 ghost use Rattle.define_offices.specs.Lines.{phase_name as name_of_phase};
-ghost use Rattle.define_offices.specs.Tables.{last_phase as phase_last};
 ghost use Rattle.define_draws.specs.Seal.{seal_of};
-ghost use Rattle.define_desk.specs.Desk.{chance_of as text_of_chance, if_by, is_drawn as drawn_so, own_reply};
+ghost use Rattle.define_desk.specs.Desk.{if_by, own_body as body_of_own, own_reply};
 ghost use Rattle.define_desk.specs.Replies.{told};
-ghost use Rattle.define_desk.specs.Views.{last_published as published_last, published as published_so};
-ghost use Rattle.office_desk.specs.Bodies.{own_text};
+ghost use Rattle.office_desk.specs.Pages.{body_of as body_on};
 ghost use Rattle.office_desk.specs.Sent.{sent_of};
+ghost use Rattle.office_desk.specs.Shown.{own_in, shown_to};
 
 use crate::answers::Answer;
 use crate::bodies::own_body;
@@ -17,41 +16,54 @@ use crate::chances::{chance_of, is_drawn};
 use crate::published::{last_phase, last_published};
 use crate::refusals::Refusal;
 use crate::replies::told_json;
+use crate::routes::OwnPage;
+use crate::seats::seat_of;
 use office_requests::{Key, Request};
 use office_tables::{Entry, Phase, Tables};
 use sealed_draw::seal;
 use std::alloc::{AllocError, Global};
 
-/// Returns the reply to a request for what a volunteer sees.
+/// Returns the reply to a request for a page about a volunteer.
 pub(crate) fn own_page_answer(
     alloc: Global,
     tables: &Tables,
+    page: OwnPage,
     request: &Request,
 ) -> Result<Answer, AllocError>
-    ensures { IfOk result (λ answer. answer ≡ sent_of (if_by (codes "GET") request.now (own_reply tables.now request.now.keys))) }
+    ensures { IfOk result (λ answer. answer ≡ sent_of (if_by (codes "GET") request.now (own_reply (body_on page) tables.now request.now.keys))) }
 {
     if request.method() == b"GET".as_slice() {
-        own_answer(alloc, tables, request.keys())
+        own_answer(alloc, tables, page, request.keys())
     } else {
         Ok(Answer::refused(Refusal::GetOnly))
     }
 }
 
 /// Returns the reply to the keys that were given: the refusal `UnknownKey` unless there is exactly one, and it is a volunteer's.
-fn own_answer(alloc: Global, tables: &Tables, keys: &[Key]) -> Result<Answer, AllocError>
-    ensures { IfOk result (λ answer. answer ≡ sent_of (own_reply tables.now keys.now)) }
+fn own_answer(
+    alloc: Global,
+    tables: &Tables,
+    page: OwnPage,
+    keys: &[Key],
+) -> Result<Answer, AllocError>
+    ensures { IfOk result (λ answer. answer ≡ sent_of (own_reply (body_on page) tables.now keys.now)) }
 {
     match keys {
-        [key] => answer_to_key(alloc, tables, key),
+        [key] => answer_to_key(alloc, tables, page, key),
         _ => Ok(Answer::refused(Refusal::UnknownKey)),
     }
 }
 
-fn answer_to_key(alloc: Global, tables: &Tables, key: &Key) -> Result<Answer, AllocError>
-    ensures { IfOk result (λ answer. answer ≡ sent_of (own_reply tables.now (key.now ∷ []))) }
+fn answer_to_key(
+    alloc: Global,
+    tables: &Tables,
+    page: OwnPage,
+    key: &Key,
+) -> Result<Answer, AllocError>
+    ensures { IfOk result (λ answer. answer ≡ sent_of (own_reply (body_on page) tables.now (key.now ∷ []))) }
 {
     match entry_of(alloc, tables.register(), key)? {
-        Some(entry) => told_own(alloc, tables, entry),
+        Some(entry) => told_own(alloc, tables, page, entry),
         None => Ok(Answer::refused(Refusal::UnknownKey)),
     }
 }
@@ -78,14 +90,27 @@ fn entry_with<'a>(register: &'a [Entry], hash: &[u8]) -> Option<&'a Entry>
 }
 
 /// Returns the reply to the volunteer with this row.
-fn told_own(alloc: Global, tables: &Tables, entry: &Entry) -> Result<Answer, AllocError>
-    ensures { IfOk result (λ answer. answer ≡ sent_of (told (own_text
-        (text_of_chance (published_last (map published_so tables.now.rounds)) entry.now.id)
-        (drawn_so (published_last (map published_so tables.now.rounds)) entry.now.id)
-        entry.now.id (name_of_phase (phase_last tables.now.rounds)) (length tables.now.rounds) entry.now.withdrawn))) }
+fn told_own(
+    alloc: Global,
+    tables: &Tables,
+    page: OwnPage,
+    entry: &Entry,
+) -> Result<Answer, AllocError>
+    ensures { IfOk result (λ answer. answer ≡ sent_of (told (body_on page (shown_to tables.now entry.now) (own_in tables.now entry.now)))) }
+{
+    let body = match page {
+        OwnPage::Standing => standing_of(alloc, tables, entry)?,
+        OwnPage::Seat => seat_of(alloc, tables, entry)?,
+    };
+    told_json(alloc, body.as_str())
+}
+
+/// Returns the body for what the volunteer with this row sees of the last round.
+fn standing_of(alloc: Global, tables: &Tables, entry: &Entry) -> Result<String, AllocError>
+    ensures { IfOk result (λ body. string_bytes body ≡ body_of_own (shown_to tables.now entry.now) (own_in tables.now entry.now)) }
 {
     let published = last_published(tables);
-    let body = own_body(
+    own_body(
         alloc,
         chance_of(alloc, &published, entry.id())?,
         is_drawn(alloc, &published, entry.id())?,
@@ -93,8 +118,7 @@ fn told_own(alloc: Global, tables: &Tables, entry: &Entry) -> Result<Answer, All
         phase_name(last_phase(tables)),
         tables.rounds().len(),
         entry.withdrawn(),
-    )?;
-    told_json(alloc, body.as_str())
+    )
 }
 
 fn phase_name(phase: Phase) -> &'static str

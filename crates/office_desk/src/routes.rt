@@ -14,10 +14,19 @@ pub(crate) enum Page {
     Bundle { round: usize },
     /// The draw of a round.
     Draw { round: usize },
-    /// What a volunteer sees.
-    Own,
+    /// A page about a volunteer.
+    Own(OwnPage),
     /// A volunteer's withdrawal.
     Withdrawal,
+}
+
+/// The pages about a volunteer, who asks with a key.
+#[derive(Clone, Copy, Debug, PartialEq, Eq)]
+pub(crate) enum OwnPage {
+    /// What the volunteer sees of the last round.
+    Standing,
+    /// The volunteer's seat and dropouts.
+    Seat,
 }
 
 /// Returns the page that a path names, if there is one.
@@ -25,7 +34,9 @@ pub(crate) fn page_of(path: &[u8]) -> Option<Page>
     ensures { result ≡ option_map seen_page (page_named path.now) }
 {
     if path == b"/me".as_slice() {
-        Some(Page::Own)
+        Some(Page::Own(OwnPage::Standing))
+    } else if path == b"/me/seat".as_slice() {
+        Some(Page::Own(OwnPage::Seat))
     } else if path == b"/me/withdraw".as_slice() {
         Some(Page::Withdrawal)
     } else {

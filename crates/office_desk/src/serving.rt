@@ -79,7 +79,7 @@ fn reply_over<R: Threads + Sync, K: Keeper, W: Watch + Sync>(
 {
     match page_of(request.path().as_bytes()) {
         Some(Page::Withdrawal) => withdrawal_answer(rt, alloc, keeper, tables, request, watch),
-        Some(Page::Own) => or_short(own_page_answer(alloc, tables, request)),
+        Some(Page::Own(page)) => or_short(own_page_answer(alloc, tables, page, request)),
         Some(Page::Bundle { round }) => or_short(bundle_answer(alloc, tables, round, request)),
         Some(Page::Draw { round }) => or_short(draw_answer(alloc, tables, round, request)),
         None => Answer::refused(Refusal::NotFound),

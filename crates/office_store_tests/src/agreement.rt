@@ -28,6 +28,7 @@ fn agrees(alloc: Global, over: &mut SqliteOver<Stored>, map: &MapKeeper) -> bool
 const QUESTIONS: &[&str] = &[
     "GET /me HTTP/1.1\r\noffice-key: abc\r\n\r\n",
     "GET /me HTTP/1.1\r\noffice-key: abd\r\n\r\n",
+    "GET /me/seat HTTP/1.1\r\noffice-key: abc\r\n\r\n",
     "GET /public/bundle/1 HTTP/1.1\r\n\r\n",
     "GET /public/draw/1 HTTP/1.1\r\n\r\n",
     "POST /me HTTP/1.1\r\noffice-key: abc\r\n\r\n",

@@ -27,6 +27,22 @@ pub returns-clause-other_method : goal.returns-clause-other_method
 unfolding sha256 hash_after compress rounds schedule first_words digest_bytes encode_with
 returns-clause-other_method c = refl
 
+pub returns-clause-seat_method : goal.returns-clause-seat_method
+unfolding sha256 hash_after compress rounds schedule first_words digest_bytes encode_with
+returns-clause-seat_method c = refl
+
+pub returns-clause-seat_no_key : goal.returns-clause-seat_no_key
+unfolding sha256 hash_after compress rounds schedule first_words digest_bytes encode_with
+returns-clause-seat_no_key c = refl
+
+pub returns-clause-seat_two_keys : goal.returns-clause-seat_two_keys
+unfolding sha256 hash_after compress rounds schedule first_words digest_bytes encode_with
+returns-clause-seat_two_keys c = refl
+
+pub returns-clause-seat_key : goal.returns-clause-seat_key
+unfolding sha256 hash_after compress rounds schedule first_words digest_bytes encode_with
+returns-clause-seat_key c = refl
+
 pub returns-clause-no_key : goal.returns-clause-no_key
 unfolding sha256 hash_after compress rounds schedule first_words digest_bytes encode_with
 returns-clause-no_key c = refl

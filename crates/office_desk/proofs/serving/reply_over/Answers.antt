@@ -3,7 +3,7 @@ use Rattle.std.specs.Prelude.{codes}
 use Rattle.define_desk.specs.Replies.{not_found}
 use Rattle.define_desk.specs.Views.{published, published_of}
 use Rattle.define_desk.specs.Desk.{WithdrawalPage, bundle_reply, draw_reply, if_by, own_reply, page_of, served_page}
-use Rattle.office_desk.specs.Pages.{seen_page}
+use Rattle.office_desk.specs.Pages.{body_of, seen_page}
 use Rattle.office_desk.proofs.Ends.{at_bundle, at_draw, at_nothing, at_own, at_withdrawal, ends_reply, shown_reply}
 use Rattle.office_desk.proofs.Statuses.{bundle_status, draw_status, no_fault, own_status}
 use Rattle.office_desk.proofs.serving.reply_over.Goals as goal
@@ -22,18 +22,18 @@ pub returns-in-Some-Own-clause-desk : goal.returns-in-Some-Own-clause-desk
 returns-in-Some-Own-clause-desk g c =
     let tables = c.args.tables.now in
     let request = c.args.request.now in
-    let reply = if_by (codes "GET") request (own_reply tables request.keys) in
+    let reply = if_by (codes "GET") request (own_reply (body_of c.in-Some-Own.page) tables request.keys) in
     let path = c.as_bytes.ensures.value ∙ c.path.ensures in
     let found = ap (λ (p : List ℕ). option_map seen_page (page_of p)) (sym path) ∙ (sym c.in-Some-Own.ensures ∙ ap Some c.in-Some-Own.field-0-is) in
-    shown_reply (g.K.Keeper.tables c.args.keeper.now) tables request c.requires reply c.or_short.result (at_own tables request (page_of request.path) found)
+    shown_reply (g.K.Keeper.tables c.args.keeper.now) tables request c.requires reply c.or_short.result (at_own tables request (page_of request.path) c.in-Some-Own.page found)
     (c.or_short.ensures reply c.own_page_answer.ensures)
 
 pub returns-in-Some-Own-clause-fault : goal.returns-in-Some-Own-clause-fault
 returns-in-Some-Own-clause-fault g c =
     let tables = c.args.tables.now in
     let request = c.args.request.now in
-    let reply = if_by (codes "GET") request (own_reply tables request.keys) in
-    no_fault _ (g.K.Keeper.faults c.args.keeper.now) reply c.or_short.result (own_status (codes "GET") request tables request.keys) (c.or_short.ensures reply c.own_page_answer.ensures)
+    let reply = if_by (codes "GET") request (own_reply (body_of c.in-Some-Own.page) tables request.keys) in
+    no_fault _ (g.K.Keeper.faults c.args.keeper.now) reply c.or_short.result (own_status (body_of c.in-Some-Own.page) (codes "GET") request tables request.keys) (c.or_short.ensures reply c.own_page_answer.ensures)
 
 pub returns-in-Some-Bundle-clause-desk : goal.returns-in-Some-Bundle-clause-desk
 returns-in-Some-Bundle-clause-desk g c =
