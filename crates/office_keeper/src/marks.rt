@@ -22,8 +22,16 @@ pub(crate) struct Mark {
 }
 
 /// Returns the mark of the store at `path`, or None if the store may be changing, if its log may hold a commit, or if it can't be looked at.
-pub(crate) fn mark_of(rt: &HostRuntime, path: &str) -> Option<Mark> {
-    looked_at(rt, path).unwrap_or(None)
+///
+/// # Errors
+///
+/// Want of memory.
+pub(crate) fn mark_of(rt: &HostRuntime, path: &str) -> Result<Option<Mark>, KeeperStop> {
+    match looked_at(rt, path) {
+        Ok(mark) => Ok(mark),
+        Err(error) if error.kind() == ErrorKind::OutOfMemory => Err(KeeperStop::OutOfMemory),
+        Err(_) => Ok(None),
+    }
 }
 
 fn looked_at(rt: &HostRuntime, path: &str) -> io::Result<Option<Mark>> {

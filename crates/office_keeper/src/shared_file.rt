@@ -65,12 +65,14 @@ impl SharedFile {
         alloc: Global,
         path: &str,
     ) -> Result<SharedFile, KeeperStop> {
-        let mark = mark_of(rt, path);
-        let mut over = SqliteOver::new(connect(rt, path)?);
-        over.attach(alloc, path)?;
-        let tables = over.load(alloc)?;
+        let mark = mark_of(rt, path)?;
+        let mut file = OpenFile {
+            over: SqliteOver::new(connect(rt, path)?),
+        };
+        file.over.attach(alloc, path)?;
+        let tables = file.over.load(alloc)?;
         Ok(SharedFile {
-            open: Some(OpenFile { over }),
+            open: Some(file),
             known: Some(Known { mark, tables }),
         })
     }
@@ -98,7 +100,7 @@ impl SharedFile {
         match &mut self.open {
             Some(file) => loaded(alloc, file, &self.known),
             None => {
-                let mark = mark_of(rt, path);
+                let mark = mark_of(rt, path)?;
                 match known_at(&self.known, &mark) {
                     Some(tables) => shared(tables),
                     None => self.reload(rt, alloc, path, mark),
@@ -116,9 +118,9 @@ impl SharedFile {
         mark: Option<Mark>,
     ) -> Result<Tables, KeeperStop> {
         self.known = None;
-        let mut over = reopened(rt, path)?;
-        let tables = over.load(alloc)?;
-        self.open = Some(OpenFile { over });
+        let mut file = reopened(rt, path)?;
+        let tables = file.over.load(alloc)?;
+        self.open = Some(file);
         self.known = Some(Known {
             mark,
             tables: shared(&tables)?,
@@ -178,30 +180,29 @@ fn shared(tables: &Tables) -> Result<Tables, KeeperStop> {
 
 /// Opens a file whose tables are known, and fails if it was changed since they were read.
 fn unchanged(rt: &HostRuntime, path: &str, known: &Option<Known>) -> Result<OpenFile, KeeperStop> {
-    let over = reopened(rt, path)?;
-    let file = OpenFile { over };
+    let file = reopened(rt, path)?;
     // Nobody can change the file any more.
-    match known_at(known, &mark_of(rt, path)) {
+    match known_at(known, &mark_of(rt, path)?) {
         Some(_) => Ok(file),
         None => Err(KeeperStop::Failed),
     }
 }
 
 /// Opens a store again. Opening alone would make one that is missing, and anything may have taken its place.
-fn reopened(rt: &HostRuntime, path: &str) -> Result<SqliteOver<FileStore<File>>, KeeperStop> {
+fn reopened(rt: &HostRuntime, path: &str) -> Result<OpenFile, KeeperStop> {
     match fs::metadata(rt, path) {
         Ok(found) if found.len() > 0 => current(connect(rt, path)?),
         _ => Err(KeeperStop::Failed),
     }
 }
 
-/// Returns a keeper over the connection, and fails if its store has another version.
-fn current(
-    connection: Connection<FileStore<File>>,
-) -> Result<SqliteOver<FileStore<File>>, KeeperStop> {
+/// Returns the file of the connection, and fails if its store has another version.
+fn current(connection: Connection<FileStore<File>>) -> Result<OpenFile, KeeperStop> {
     let mut connection = connection;
     match is_current(&mut connection) {
-        Ok(true) => Ok(SqliteOver::attached(connection)),
+        Ok(true) => Ok(OpenFile {
+            over: SqliteOver::attached(connection),
+        }),
         Err(Error::SqliteFailure(ErrorCode::OutOfMemory)) => Err(KeeperStop::OutOfMemory),
         _ => Err(KeeperStop::Failed),
     }
