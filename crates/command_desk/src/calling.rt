@@ -1,6 +1,6 @@
 //! One call of `serve`.
 
-ghost use Rattle.std.specs.Prelude.{◌≡◌, Err, IfOk, None, OnOk, Some};
+ghost use Rattle.std.specs.Prelude.{◌≡◌, Err, IfOk, None, OnOk, Some, false};
 ghost use Rattle.command_shell.specs.Told.{Bytes, IsUntouched, object, told};
 ghost use Rattle.command_shell.specs.Answers.{status_number};
 ghost use Rattle.command_stores.specs.StoreTold.{MayBeAttached, keeper_told, store_told};
@@ -14,6 +14,7 @@ ghost use Rattle.command_desk.specs.Rooms.{IsRoom};
 use crate::lines::{room_for_line, served_answer};
 use crate::serving::serve_door;
 use command_shell::{Resources, Status, door_fault, keeper_fault, tell, want_memory};
+use command_stores::attach;
 use office_core::{Keeper, KeeperStop};
 use outside::{Door, Sink, Watch};
 use std::alloc::Global;
@@ -28,7 +29,8 @@ pub struct Serve {
     pub connections: usize,
 }
 
-/// Makes one call of `serve` over the store at `path`. Once the door is open, only replies to links need memory.
+/// Makes one call of `serve` over the store at `path`. Once the door is open, only replies to links need memory. The keeper keeps others from
+/// the tables only while a link is attended, and no longer than until its reply is made.
 pub fn call_serve<R: Threads + Sync, W: Watch + Sync, K: Keeper, D: Door, O: Sink, E: Sink>(
     resources: &Resources<'_, R, W>,
     serve: Serve,
@@ -48,6 +50,7 @@ pub fn call_serve<R: Threads + Sync, W: Watch + Sync, K: Keeper, D: Door, O: Sin
         (D.links door.old) (D.links door.new) (D.faults door.old) (D.faults door.new))
         (ports (D.opened_at door.old) (D.opened_at door.new) (D.calls door.old) (D.calls door.new))) }
     ensures needed { LinksAreReadAsNeeded D.Link.left D.Link.reads (D.links door.old) (D.links door.new) }
+    ensures free { K.holds keeper.new ≡ false }
 {
     match open_store(resources.alloc, path, keeper) {
         Ok(room) => match serve_door(resources, serve, keeper, door) {
@@ -63,7 +66,7 @@ pub fn call_serve<R: Threads + Sync, W: Watch + Sync, K: Keeper, D: Door, O: Sin
     }
 }
 
-/// Attaches the keeper, and returns the room for the line that is told at the end.
+/// Attaches the keeper, which then lets others at the tables, and returns the room for the line that is told at the end.
 fn open_store<K: Keeper>(alloc: Global, path: &str, keeper: &mut K) -> Result<Vec<u8>, KeeperStop>
     ensures room { IfOk result IsRoom }
     ensures attached { OnOk result (K.course keeper.new ≡ with_call (K.course keeper.old) (Attach path.now None)) }
@@ -71,8 +74,9 @@ fn open_store<K: Keeper>(alloc: Global, path: &str, keeper: &mut K) -> Result<Ve
     ensures place { MayBeAttached path.now (keeper_told (object (K.tables keeper.old) (K.tables keeper.new) (K.faults keeper.old) (K.faults keeper.new)) (K.course keeper.old) (K.course keeper.new)) }
     ensures same { K.tables keeper.new ≡ K.tables keeper.old }
     ensures cause { HasCause (K.faults keeper.old) (K.faults keeper.new) result }
+    ensures free { K.holds keeper.new ≡ false }
 {
-    keeper.attach(alloc, path)?;
+    attach(alloc, path, keeper)?;
     match room_for_line(alloc) {
         Ok(room) => Ok(room),
         Err(_) => Err(KeeperStop::OutOfMemory),

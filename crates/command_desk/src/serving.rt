@@ -1,6 +1,6 @@
 //! Opens a door, attends the links that come through it, one after the other, and counts the visits.
 
-ghost use Rattle.std.specs.Prelude.{◌≡◌, ◌+◌, ◌-◌, ◌<◌, ◌^◌, if◌then◌else◌, is_err, is_ok};
+ghost use Rattle.std.specs.Prelude.{◌≡◌, ◌+◌, ◌-◌, ◌<◌, ◌^◌, if◌then◌else◌, false, is_err, is_ok};
 ghost use Rattle.office_http.specs.Visits.{kept, link_told};
 ghost use Rattle.command_desk.specs.DeskTold.{NoMoreBack, door_told, ports};
 ghost use Rattle.command_desk.specs.LinksRead.{LinksAreReadAsNeeded};
@@ -28,7 +28,8 @@ pub(crate) fn serve_door<R: Threads + Sync, W: Watch + Sync, K: Keeper, D: Door>
     keeper: &mut K,
     door: &mut D,
 ) -> Result<Counts, Failed>
-    requires { NoMoreBack (D.links door.old) }
+    requires links { NoMoreBack (D.links door.old) }
+    requires free { K.holds keeper.old ≡ false }
     ensures served { ServesAt serve.port serve.connections
         (door_told (λ link. link_told (D.Link.left link) (D.Link.written link) (D.Link.faults link))
         (D.links door.old) (D.links door.new) (D.faults door.old) (D.faults door.new))
@@ -36,6 +37,7 @@ pub(crate) fn serve_door<R: Threads + Sync, W: Watch + Sync, K: Keeper, D: Door>
         (kept (K.tables keeper.old) (K.faults keeper.old) (K.course keeper.old)) (kept (K.tables keeper.new) (K.faults keeper.new) (K.course keeper.new)) result }
     ensures needed { LinksAreReadAsNeeded D.Link.left D.Link.reads (D.links door.old) (D.links door.new) }
     ensures place { (K.course keeper.new).place ≡ (K.course keeper.old).place }
+    ensures free { K.holds keeper.new ≡ false }
 {
     match door.listen(serve.port) {
         Ok(()) => serve_links(resources, serve.connections, keeper, door),
@@ -50,7 +52,8 @@ fn serve_links<R: Threads + Sync, W: Watch + Sync, K: Keeper, D: Door>(
     keeper: &mut K,
     door: &mut D,
 ) -> Result<Counts, Failed>
-    requires { NoMoreBack (D.links door.old) }
+    requires links { NoMoreBack (D.links door.old) }
+    requires free { K.holds keeper.old ≡ false }
     ensures served { ServesDoor connections
         (door_told (λ link. link_told (D.Link.left link) (D.Link.written link) (D.Link.faults link))
         (D.links door.old) (D.links door.new) (D.faults door.old) (D.faults door.new)) (D.calls door.old) (D.calls door.new)
@@ -58,6 +61,7 @@ fn serve_links<R: Threads + Sync, W: Watch + Sync, K: Keeper, D: Door>(
     ensures needed { LinksAreReadAsNeeded D.Link.left D.Link.reads (D.links door.old) (D.links door.new) }
     ensures port { D.opened_at door.new ≡ D.opened_at door.old }
     ensures place { (K.course keeper.new).place ≡ (K.course keeper.old).place }
+    ensures free { K.holds keeper.new ≡ false }
 {
     let mut counts = Counts {
         served: 0,

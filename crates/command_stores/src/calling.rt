@@ -1,6 +1,6 @@
 //! What every call over a store does at its beginning and at its end: it loads the tables, and it tells the answer or why there is none.
 
-ghost use Rattle.std.specs.Prelude.{◌≡◌, IfOk, None, OnOk};
+ghost use Rattle.std.specs.Prelude.{◌≡◌, IfOk, None, OnOk, false};
 ghost use Rattle.command_shell.specs.Told.{Bytes, object, told};
 ghost use Rattle.command_shell.specs.Answers.{status_number};
 ghost use Rattle.command_stores.specs.StoreOutcomes.{FailsEarly, TellsSettled, settled_by};
@@ -12,6 +12,18 @@ use command_shell::{Answer, Status, keeper_fault, tell, want_memory};
 use office_core::{Keeper, KeeperStop, Tables};
 use outside::Sink;
 use std::alloc::{AllocError, Global};
+
+/// Attaches the keeper, and lets others at the tables until the next call.
+pub fn attach<K: Keeper>(alloc: Global, path: &str, keeper: &mut K) -> Result<(), KeeperStop>
+    ensures same { K.tables keeper.new ≡ K.tables keeper.old }
+    ensures course { K.course keeper.new ≡ with_call (K.course keeper.old) (Attach path.now (stop_of result)) }
+    ensures cause { HasCause (K.faults keeper.old) (K.faults keeper.new) result }
+    ensures free { K.holds keeper.new ≡ false }
+{
+    let attached = keeper.attach(alloc, path);
+    keeper.let_go();
+    attached
+}
 
 /// Attaches the keeper, and returns its tables.
 pub(crate) fn load_at<K: Keeper>(

@@ -10,7 +10,7 @@ ghost use Rattle.command_stores.specs.StoreOutcomes.{SettlesAttached, TextStoreO
 ghost use Rattle.command_stores.specs.StoreTold.{keeper_told, store_told};
 ghost use Rattle.office_core.specs.Commands.{HasWorkers};
 
-use crate::calling::{answer_or_want, load, tell_settled};
+use crate::calling::{answer_or_want, attach, load, tell_settled};
 use crate::refusals::refusal_answer;
 use crate::steps::settle_over;
 use command_meanings::Import;
@@ -36,7 +36,7 @@ pub(crate) enum FileStop {
 }
 
 /// Makes one call of an import over the store at `path`. The keeper is attached, the file is read from the source, the tables are loaded,
-/// and then the file is judged.
+/// and then the file is judged. While the file is read, others may use the store: a source may be slow.
 pub fn call_import<R: Threads + Sync, W: Watch + Sync, K: Keeper, S: Source, O: Sink, E: Sink>(
     resources: &Resources<'_, R, W>,
     import: Import,
@@ -54,7 +54,7 @@ pub fn call_import<R: Threads + Sync, W: Watch + Sync, K: Keeper, S: Source, O: 
         (keeper_told (object (K.tables keeper.old) (K.tables keeper.new) (K.faults keeper.old) (K.faults keeper.new)) (K.course keeper.old) (K.course keeper.new))) }
 {
     let alloc = resources.alloc;
-    if let Err(stop) = keeper.attach(alloc, path) {
+    if let Err(stop) = attach(alloc, path, keeper) {
         return tell_settled(&Err(stop), out, errs);
     }
     match read_input(alloc, source) {

@@ -17,6 +17,7 @@ mod refusals;
 mod steps;
 mod texts;
 
+pub use calling::attach;
 pub use imports::call_import;
 pub use laws::{imports_answer_once, steps_answer_once};
 pub use proving::{ProveRound, call_prove_round};

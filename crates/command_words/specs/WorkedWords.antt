@@ -229,14 +229,18 @@ pub record OthersGive : Type 0 where
   pub command_version : GiveNothing (codes "verify" ∷ codes "--version" ∷ [])
   pub option : GiveNothing (codes "verify" ∷ codes "--round" ∷ codes "1" ∷ [])
 
--- `serve` requires the store and a port. Ports are from 1 to 65535; connections are from 1 to 10 ^ 6, and 10 ^ 6 if they are not given
+-- `serve` requires the store and a port. Ports are from 1 to 65535; connections are from 1 to 10 ^ 6, and 10 ^ 6 if they are
+-- not given. The flag `log` has no value
 pub record ServeGives : Type 0 where
   pub defaults : Give (codes "serve" ∷ codes "--store" ∷ codes "s" ∷ codes "--port" ∷ codes "1" ∷ []) name.Serve
-      (text (codes "store") (codes "s") ∷ number (codes "port") 1 ∷ number (codes "connections") 1000000 ∷ [])
+      (text (codes "store") (codes "s") ∷ number (codes "port") 1 ∷ number (codes "connections") 1000000 ∷ flag (codes "log") false ∷ [])
   pub least : Give (codes "serve" ∷ codes "--store" ∷ codes "s" ∷ codes "--port" ∷ codes "65535" ∷ codes "--connections" ∷ codes "1" ∷ []) name.Serve
-      (text (codes "store") (codes "s") ∷ number (codes "port") 65535 ∷ number (codes "connections") 1 ∷ [])
+      (text (codes "store") (codes "s") ∷ number (codes "port") 65535 ∷ number (codes "connections") 1 ∷ flag (codes "log") false ∷ [])
   pub most : Give (codes "serve" ∷ codes "--store" ∷ codes "s" ∷ codes "--port" ∷ codes "1" ∷ codes "--connections" ∷ codes "1000000" ∷ []) name.Serve
-      (text (codes "store") (codes "s") ∷ number (codes "port") 1 ∷ number (codes "connections") 1000000 ∷ [])
+      (text (codes "store") (codes "s") ∷ number (codes "port") 1 ∷ number (codes "connections") 1000000 ∷ flag (codes "log") false ∷ [])
+  pub log : Give (codes "serve" ∷ codes "--log" ∷ codes "--store" ∷ codes "s" ∷ codes "--port" ∷ codes "1" ∷ []) name.Serve
+      (text (codes "store") (codes "s") ∷ number (codes "port") 1 ∷ number (codes "connections") 1000000 ∷ flag (codes "log") true ∷ [])
+  pub log_value : GiveNothing (codes "serve" ∷ codes "--store" ∷ codes "s" ∷ codes "--port" ∷ codes "1" ∷ codes "--log" ∷ codes "true" ∷ [])
   pub no_store : GiveNothing (codes "serve" ∷ codes "--port" ∷ codes "1" ∷ [])
   pub no_port : GiveNothing (codes "serve" ∷ codes "--store" ∷ codes "s" ∷ [])
   pub zero : GiveNothing (codes "serve" ∷ codes "--store" ∷ codes "s" ∷ codes "--port" ∷ codes "0" ∷ [])

@@ -310,6 +310,12 @@ const OFFICE_COMMANDS: &[TableCommand] = &[
                 },
                 missing: Missing::Default("1000000"),
             },
+            OptionWords {
+                name: "log",
+                help: "Tells each visit on standard error: the page and the status",
+                form: Form::Flag,
+                missing: Missing::Absent,
+            },
         ],
     },
 ];

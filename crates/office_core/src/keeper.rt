@@ -1,6 +1,6 @@
 //! The trait of keepers, which keep the tables of an office between calls.
 
-ghost use Rattle.std.specs.Prelude.{◌≡◌, ℕ, IfOk, IfSome, OnErr, OnOk, Option};
+ghost use Rattle.std.specs.Prelude.{◌≡◌, ℕ, Bool, false, IfOk, IfSome, OnErr, OnOk, Option};
 ghost use Rattle.define_offices.specs.Facts.{IsTables};
 ghost use Rattle.define_offices.specs.Steps.{apply};
 ghost use Rattle.define_offices.specs.Tables.{Tables as Seen};
@@ -23,7 +23,7 @@ pub enum KeeperStop {
 }
 
 /// A keeper keeps the tables of an office, and counts its own faults. The count never falls. A call that returns `Failed` counts a fault,
-/// and no other call does.
+/// and no other call does. From a call on until `let_go` a keeper may keep others from the tables.
 pub trait Keeper {
     /// The tables that are kept, if the keeper can tell.
     ghost tables: { Self → Option Seen };
@@ -33,6 +33,9 @@ pub trait Keeper {
 
     /// How many faults the keeper has counted.
     ghost faults: { Self → ℕ };
+
+    /// Whether the keeper keeps others from its tables.
+    ghost holds: { Self → Bool };
 
     /// Attaches the keeper to the tables at `path`. No tables change.
     fn attach(&mut self, alloc: Global, path: &str) -> Result<(), KeeperStop>
@@ -55,4 +58,11 @@ pub trait Keeper {
         ensures ok { OnOk result (tables self.new ≡ stored (tables self.old) (seen_change change.now)) }
         ensures err { OnErr result (tables self.new ≡ tables self.old) }
         ensures cause { HasCause (faults self.old) (faults self.new) result };
+
+    /// Lets others at the tables until the next call. Nothing that the keeper tells changes.
+    fn let_go(&mut self)
+        ensures same { tables self.new ≡ tables self.old }
+        ensures course { course self.new ≡ course self.old }
+        ensures none { faults self.new ≡ faults self.old }
+        ensures free { holds self.new ≡ false };
 }

@@ -8,8 +8,10 @@
 #![tactic(auto)]
 
 mod map_keeper;
+mod marks;
 mod reading;
 mod schema;
+mod shared_file;
 mod sqlite_keeper;
 mod sqlite_over;
 mod writing;

@@ -1,6 +1,6 @@
 //! `MapKeeper`, a keeper that keeps the tables in memory.
 
-ghost use Rattle.std.specs.Prelude.{◌≡◌, ◌≤◌, Some, None, IfOk, OnErr, OnOk};
+ghost use Rattle.std.specs.Prelude.{◌≡◌, ◌≤◌, Some, None, IfOk, OnErr, OnOk, false};
 ghost use Rattle.define_offices.specs.Facts.{IsTables};
 ghost use Rattle.define_offices.specs.Steps.{apply as applied};
 ghost use Rattle.define_offices.specs.Tables.{first_tables};
@@ -71,6 +71,8 @@ impl Keeper for MapKeeper {
 
     ghost faults = { λ k. k.calls.faults };
 
+    ghost holds = { λ _. false };
+
     fn attach(&mut self, alloc: Global, path: &str) -> Result<(), KeeperStop>
         ensures same { self.new.tables ≡ self.old.tables }
         ensures course { course_of self.new.path ≡ with_call (course_of self.old.path) (Attach path.now (stop_of result)) }
@@ -127,4 +129,8 @@ impl Keeper for MapKeeper {
             Err(_) => Err(KeeperStop::OutOfMemory),
         }
     }
+
+    fn let_go(&mut self)
+        ensures { self.new ≡ self.old }
+    {}
 }

@@ -53,6 +53,8 @@ CREATE TABLE IF NOT EXISTS dropped (
 
 const META: &str = "CREATE TABLE IF NOT EXISTS meta (version INTEGER NOT NULL) STRICT";
 
+const VERSIONS: &str = "SELECT version FROM meta ORDER BY version";
+
 /// Makes in one transaction what a store lacks: its tables, its version and, if the store is new, the first round. Refuses a store of an
 /// unknown version.
 pub(crate) fn complete<S: Alter>(connection: &mut Connection<S>) -> Result<(), Error> {
@@ -74,6 +76,12 @@ fn make<S: Alter>(transaction: &mut Transaction<'_, S>) -> Result<(), Error> {
         Some(_) => Err(UNSOUND),
         None => begin(transaction),
     }
+}
+
+/// True if the store has the version that this program makes.
+pub(crate) fn is_current<S: Alter>(connection: &mut Connection<S>) -> Result<bool, Error> {
+    let rows = connection.query_all(VERSIONS, &[])?;
+    Ok(version_of(&rows)? == Some(VERSION))
 }
 
 /// Returns the version that the row of `meta` has, or None if there is no row. Fails if there are several rows.
@@ -103,7 +111,7 @@ fn make_meta<S: Alter>(transaction: &mut Transaction<'_, S>) -> Result<(), Error
 }
 
 fn versions<S: Alter>(transaction: &mut Transaction<'_, S>) -> Result<Vec<Row>, Error> {
-    transaction.query_all("SELECT version FROM meta ORDER BY version", &[])
+    transaction.query_all(VERSIONS, &[])
 }
 
 fn make_tables<S: Alter>(transaction: &mut Transaction<'_, S>) -> Result<(), Error> {

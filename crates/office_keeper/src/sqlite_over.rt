@@ -35,6 +35,15 @@ impl<S: Alter> SqliteOver<S> {
         }
     }
 
+    /// Returns a keeper over the connection of a store that was attached before, which lacks nothing.
+    pub(crate) fn attached(connection: Connection<S>) -> SqliteOver<S> {
+        SqliteOver {
+            connection,
+            is_attached: true,
+            faults: 0,
+        }
+    }
+
     /// Returns how many calls have failed with a fault. Running out of memory is no fault.
     pub fn faults(&self) -> u64
         ensures { result ≡ self.now.faults }
@@ -69,6 +78,8 @@ impl<S: Alter> Keeper for SqliteOver<S> {
     ghost course = { λ _. record { place = Untold; calls = None } };
 
     ghost faults = { λ k. k.faults };
+
+    ghost holds = { λ _. false };
 
     fn attach(&mut self, _alloc: Global, _path: &str) -> Result<(), KeeperStop>
         ensures cause { HasCause self.old.faults self.new.faults result }
@@ -116,4 +127,8 @@ impl<S: Alter> Keeper for SqliteOver<S> {
             Err(error) => stopped(&mut self.faults, &error),
         }
     }
+
+    fn let_go(&mut self)
+        ensures { self.new ≡ self.old }
+    {}
 }

@@ -1,9 +1,10 @@
 //! Tests of a store in a file.
 
-use crate::assembly::{Asked, Ending, PLAIN, done};
+use crate::assembly::{Asked, ENROLLED, Ending, PLAIN, done};
 use crate::disks::{loaded, spelled};
-use office_core::Keeper;
+use office_core::{Change, Keeper};
 use office_keeper::{MapKeeper, SqliteKeeper};
+use std::alloc::Global;
 use std::fs;
 use std::test::Fail;
 
@@ -13,7 +14,7 @@ const PATH: &str = "office_store_test/a.store";
 
 const OTHER: &str = "office_store_test/b.store";
 
-/// Does the commands of an assembly over a keeper of a file and over one in memory. While the file is attached, no other keeper gets it.
+/// Does the commands of an assembly over a keeper of a file and over one in memory. Until the file is let go, no other keeper gets it.
 /// Afterwards another one finds in it what the keeper in memory holds, and nothing at another path.
 #[test]
 fn another_keeper_finds_the_file(rt: HostRuntime) -> Result<(), Fail> {
@@ -35,12 +36,56 @@ fn another_keeper_finds_the_file(rt: HostRuntime) -> Result<(), Fail> {
     assert!(rt; empty.is_some() && held.is_some() && held != empty);
     let mut second = SqliteKeeper::new(&rt);
     assert!(rt; second.attach(alloc, PATH).is_err());
-    drop(first);
+    first.let_go();
     assert!(rt; loaded(alloc, &mut second, PATH) == held);
-    let mut other = SqliteKeeper::new(&rt);
-    assert!(rt; loaded(alloc, &mut other, OTHER) == empty);
-    drop(second);
-    drop(other);
+    assert!(rt; loaded(alloc, &mut first, OTHER) == empty);
+    first.let_go();
+    second.let_go();
+    take_turns(&rt, alloc, &mut first, &mut second)?;
     fs::remove_dir_all(&rt, FOLDER)?;
     Ok(())
+}
+
+/// Gives each command of an assembly to both keepers over the file `OTHER`: what one stores, the other loads, and it then changes nothing. A
+/// change is refused over tables that the other keeper has changed since.
+fn take_turns(
+    rt: &HostRuntime,
+    alloc: Global,
+    first: &mut SqliteKeeper,
+    second: &mut SqliteKeeper,
+) -> Result<(), Fail> {
+    let mut map = MapKeeper::new(alloc, &[])?;
+    assert!(rt; loaded(alloc, second, OTHER) == spelled(alloc, map.tables()));
+    second.let_go();
+    for (asked, ending) in ENROLLED {
+        assert!(rt; done(rt, alloc, &mut map, *asked) == Some(*ending));
+        assert!(rt; in_turn(rt, alloc, first, *asked) == Some(*ending));
+        assert!(rt; in_turn(rt, alloc, second, *asked) == Some(*ending));
+        assert!(rt; told(alloc, first) == spelled(alloc, map.tables()));
+        first.let_go();
+    }
+    let withdrawal = Asked::Withdraw("k2");
+    assert!(rt; done(rt, alloc, &mut map, withdrawal) == Some(Ending::Replies));
+    assert!(rt; in_turn(rt, alloc, second, withdrawal) == Some(Ending::Replies));
+    assert!(rt; first.store(alloc, &Change::Withdrawn { place: 0 }).is_err());
+    assert!(rt; told(alloc, first) == spelled(alloc, map.tables()));
+    Ok(())
+}
+
+/// Does a command over a keeper, which then lets the file go.
+fn in_turn(
+    rt: &HostRuntime,
+    alloc: Global,
+    keeper: &mut SqliteKeeper,
+    asked: Asked,
+) -> Option<Ending> {
+    let ending = done(rt, alloc, keeper, asked);
+    keeper.let_go();
+    ending
+}
+
+/// Returns what a keeper loads, as a text.
+fn told(alloc: Global, keeper: &mut SqliteKeeper) -> Option<String> {
+    let tables = keeper.load(alloc).ok()?;
+    spelled(alloc, &tables)
 }

@@ -66,7 +66,7 @@ pub fn apply(alloc: Global, tables: &Tables, change: &Change) -> Result<Tables, 
     ensures { IfOk result (λ changed. changed ≡ applied tables.now (seen_change change.now)) }
 {
     let parts = changed_parts(alloc, tables, change)?;
-    Ok(Tables::from_parts(parts))
+    Tables::from_parts(alloc, parts)
 }
 
 /// Returns the parts of the tables after a change.

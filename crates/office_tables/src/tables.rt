@@ -7,10 +7,11 @@ ghost use Rattle.office_tables.specs.Seen.{TellsTables, seen_parts};
 
 use crate::charters::{Charter, Rules};
 use crate::checking::are_tables;
-use crate::kept_rounds::{Round, copied_rounds};
-use crate::rows::{Entry, copied_entries};
+use crate::kept_rounds::Round;
+use crate::rows::Entry;
 use std::alloc::{AllocError, Global};
 use std::marker::Model;
+use std::sync::Arc;
 
 /// The parts of tables.
 #[derive(Debug, Drop)]
@@ -25,22 +26,24 @@ pub struct Parts {
     pub rounds: Vec<Round>,
 }
 
-/// The tables of an office. `IsTables` holds of them at every moment; `tables_of` lists its facts.
+/// The tables of an office. `IsTables` holds of them at every moment; `tables_of` lists its facts. Tables never change, so equal ones share
+/// their parts.
 #[derive(Debug, Drop)]
 pub struct Tables {
-    parts: Parts,
+    parts: Arc<Parts>,
 }
 
 impl Model for Tables {
     ghost use Rattle.define_offices.specs.Tables.{Tables as Seen};
     ghost use Rattle.define_offices.specs.Facts.{IsTables};
     ghost use Rattle.office_tables.specs.Seen.{seen_parts};
+    ghost use Rattle.std.specs.Arc.{arc_value};
 
     ghost Value = { Seen };
 
-    ghost view = { λ t. seen_parts t.parts };
+    ghost view = { λ t. seen_parts (arc_value t.parts) };
 
-    ghost invariant = { λ t. IsTables (seen_parts t.parts) };
+    ghost invariant = { λ t. IsTables (seen_parts (arc_value t.parts)) };
 }
 
 impl Tables {
@@ -56,15 +59,17 @@ impl Tables {
             register: Vec::new(alloc),
             rounds,
         };
-        Ok(Tables::from_parts(parts))
+        Tables::from_parts(alloc, parts)
     }
 
     /// Returns the tables of these parts, of which `IsTables` must hold.
-    pub(crate) fn from_parts(parts: Parts) -> Tables
+    pub(crate) fn from_parts(alloc: Global, parts: Parts) -> Result<Tables, AllocError>
         requires { IsTables (seen_parts parts) }
-        ensures { result ≡ seen_parts parts }
+        ensures { IfOk result (λ tables. tables ≡ seen_parts parts) }
     {
-        Tables { parts }
+        Ok(Tables {
+            parts: Arc::new(alloc, parts)?,
+        })
     }
 
     /// Does nothing; its contract says what holds of all tables.
@@ -102,27 +107,14 @@ impl Tables {
         &self.parts.rounds
     }
 
-    /// Returns equal tables.
+    /// Returns equal tables, which share the parts.
     pub fn copy(&self) -> Result<Tables, AllocError>
         ensures { IfOk result (λ copied. copied ≡ self.now) }
     {
         Ok(Tables {
-            parts: copied_parts(&self.parts)?,
+            parts: self.parts.clone()?,
         })
     }
-}
-
-/// Returns equal parts.
-fn copied_parts(parts: &Parts) -> Result<Parts, AllocError>
-    ensures { IfOk result (λ copied. seen_parts copied ≡ seen_parts parts.now) }
-{
-    let alloc = *parts.rounds.allocator();
-    Ok(Parts {
-        charter: copied_charter(&parts.charter)?,
-        rules: copied_rules(&parts.rules)?,
-        register: copied_entries(alloc, &parts.register)?,
-        rounds: copied_rounds(alloc, &parts.rounds)?,
-    })
 }
 
 /// Returns an equal charter, or None if there is none.
@@ -157,7 +149,7 @@ pub fn tables_of(alloc: Global, parts: Parts) -> Result<Option<Tables>, AllocErr
     ensures { TellsTables (seen_parts parts) result }
 {
     if are_tables(alloc, &parts)? {
-        Ok(Some(Tables::from_parts(parts)))
+        Ok(Some(Tables::from_parts(alloc, parts)?))
     } else {
         Ok(None)
     }

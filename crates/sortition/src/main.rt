@@ -1,10 +1,12 @@
 //! The program: a citizens' assembly sortition office. `main` calls `office` over standard input and output, a keeper of files and a door
-//! over a port, and has no contract of its own. Stands on `command_office`, whose `office` has the promises.
+//! over a port, and has no contract of its own. Stands on `command_office`, whose `office` has the promises, and on `desk_log`, whose door
+//! tells standard error of each visit if the words of `serve` have `--log`.
 #![tactic(auto)]
 
 mod given;
 
 use command_office::{no_words, office};
+use desk_log::LoggedDoor;
 use office_keeper::SqliteKeeper;
 use outside::{NoWatch, StdSink, StdSource, TcpDoor};
 use std::process::ExitCode;
@@ -14,8 +16,13 @@ fn main(rt: HostRuntime) -> ExitCode {
     let mut out = StdSink::new(rt.stdout());
     let mut errs = StdSink::new(rt.stderr());
     let mut keeper = SqliteKeeper::new(&rt);
-    let mut door = TcpDoor::new(&rt);
-    let status = match given::given_words(&rt) {
+    let words = given::given_words(&rt);
+    let log = match &words {
+        Ok(words) if given::ask_for_log(rt.alloc(), words) => Some(StdSink::new(rt.stderr())),
+        _ => None,
+    };
+    let mut door = LoggedDoor::new(rt.alloc(), TcpDoor::new(&rt), log);
+    let status = match words {
         Ok(words) => office(
             &rt,
             rt.alloc(),

@@ -9,7 +9,7 @@ use Rattle.command_desk.proofs.Turned.{all_turns, failed_turn, last_turn, no_tur
 use Rattle.command_desk.proofs.serving.serve_links.Goals as goal
 
 pub loop-turn-init : goal.loop-turn-init
-loop-turn-init g c = record { way = no_turn _ _; needed = none_read g.D.Link.Link.left g.D.Link.Link.reads _ _ refl; back = c.requires; none = refl; port = refl; calls = refl; place = refl }
+loop-turn-init g c = record { way = no_turn _ _; needed = none_read g.D.Link.Link.left g.D.Link.Link.reads _ _ refl; back = c.requires.links; none = refl; port = refl; calls = refl; place = refl; free = c.requires.free }
 
 pub add-requires : goal.add-requires
 add-requires g c =
@@ -32,6 +32,7 @@ loop-turn-preserved g c =
       port = c.visit_next.ensures.port ∙ here.port;
       calls = turn_calls c.loop-turn._turn (g.D.Door.calls c.args.door.now) (g.D.Door.calls c.loop-turn.door) (g.D.Door.calls c.visit_next.new.door) here.calls (rw c.in-Ok-Some.field-0-is at c.in-Ok-Some.ensures.calls);
       place = c.in-Ok-Some.ensures.place ∙ here.place;
+      free = c.in-Ok-Some.ensures.free;
     }
 
 pub returns-in-Ok-None-clause-served : goal.returns-in-Ok-None-clause-served

@@ -23,7 +23,7 @@ pub returns-in-Some-clause-back : goal.returns-in-Some-clause-back
 returns-in-Some-clause-back g c =
     let links = g.D.Door.links c.args.door.now in
     let first = subst (λ (link : Option g.row.D-Link.Denot). IfSome links (λ told. link ≡ first_of told.coming)) c.in-Some.is c.in_ok-link.ensures.first in
-    none_out links (g.D.Door.links c.next.new.self) (g.D.Door.links c.back.new.self) c.in-Some.link c.attend-ended.new.link c.requires first c.in_ok-link.ensures.given c.back.ensures.last
+    none_out links (g.D.Door.links c.next.new.self) (g.D.Door.links c.back.new.self) c.in-Some.link c.attend-ended.new.link c.requires.links first c.in_ok-link.ensures.given c.back.ensures.last
 
 pub returns-in-Some-clause-needed : goal.returns-in-Some-clause-needed
 returns-in-Some-clause-needed g c =

@@ -78,7 +78,7 @@ returns-clause-page c = record { absent = refl; digits = refl; tickets = refl; s
 
 pub returns-clause-serve : goal.returns-clause-serve
 unfolding given_in command_table proof_commands draw_commands office_commands run_commands clap_on_literals
-returns-clause-serve c = record { defaults = refl; least = refl; most = refl; no_store = refl; no_port = refl; zero = refl; greater_port = refl; nobody = refl; more = refl }
+returns-clause-serve c = record { defaults = refl; least = refl; most = refl; log = refl; log_value = refl; no_store = refl; no_port = refl; zero = refl; greater_port = refl; nobody = refl; more = refl }
 
 pub returns-clause-short : goal.returns-clause-short
 unfolding given_in command_table proof_commands draw_commands office_commands run_commands clap_on_literals

@@ -1,7 +1,7 @@
 use Rattle.office_requests.specs.Askings.{seen_asking}
 use Rattle.office_http.proofs.Answering.{answered, unread}
 use Rattle.office_http.specs.Visits.{kept}
-use Rattle.office_http.proofs.attending.answer_link.Goals as goal
+use Rattle.office_http.proofs.attending.ask_desk.Goals as goal
 
 pub returns-in-Ok-clause-answer : goal.returns-in-Ok-clause-answer
 returns-in-Ok-clause-answer g c =

@@ -1,0 +1,76 @@
+//! Tells whether a store was changed, without opening it. No clause says what a file system tells: `tests/desk-shared` tests it.
+
+use std::io::ErrorKind;
+use std::os::unix::fs::{FileExt, MetadataExt};
+use std::time::{SystemTime, UNIX_EPOCH};
+use std::{fs, io};
+
+/// How many seconds a file must have been unchanged before its mark counts. A system may stamp two changes within that time alike.
+const SETTLED: u64 = 2;
+
+/// How many bytes a log has up to the end of the salts of its first frame.
+const LOG_HEAD: usize = 48;
+
+/// By what a store's file is known. If two looks return equal marks, nobody changed the store between them.
+#[derive(Clone, Copy, PartialEq, Eq)]
+pub(crate) struct Mark {
+    device: u64,
+    inode: u64,
+    size: u64,
+    seconds: i64,
+    nanoseconds: i64,
+}
+
+/// Returns the mark of the store at `path`, or None if the store may be changing, if its log may hold a commit, or if it can't be looked at.
+///
+/// # Errors
+///
+/// Want of memory.
+pub(crate) fn mark_of(rt: &HostRuntime, path: &str) -> Result<Option<Mark>, KeeperStop> {
+    match looked_at(rt, path) {
+        Ok(mark) => Ok(mark),
+        Err(error) if error.kind() == ErrorKind::OutOfMemory => Err(KeeperStop::OutOfMemory),
+        Err(_) => Ok(None),
+    }
+}
+
+fn looked_at(rt: &HostRuntime, path: &str) -> io::Result<Option<Mark>> {
+    // The log lies where a link leads.
+    let real = fs::canonicalize(rt, path)?;
+    let log = format!(in rt.alloc(); "{}-wal", real.as_str())?;
+    // The log comes first: a commit leaves it only after the file was changed.
+    if may_hold_commit(rt, log.as_str())? {
+        return Ok(None);
+    }
+    settled_mark(rt, real.as_str())
+}
+
+/// True if the salts of the log's first frame are those of its head.
+fn may_hold_commit(rt: &HostRuntime, log: &str) -> io::Result<bool> {
+    let file = match fs::open(rt, log) {
+        Ok(file) => file,
+        Err(error) if error.kind() == ErrorKind::NotFound => return Ok(false),
+        Err(error) => return Err(error),
+    };
+    let mut head = [0u8; LOG_HEAD];
+    let read = file.read_at(&mut head, 0)?;
+    Ok(read == LOG_HEAD && head[16..24] == head[40..48])
+}
+
+/// Returns the mark of a file, or None if it changed in the last seconds. The time is that of the last change of the file or of what the
+/// system keeps of it, since a program can set the other times back.
+fn settled_mark(rt: &HostRuntime, path: &str) -> io::Result<Option<Mark>> {
+    let found = fs::metadata(rt, path)?;
+    let mark = Mark {
+        device: found.dev(),
+        inode: found.ino(),
+        size: found.len(),
+        seconds: found.ctime(),
+        nanoseconds: found.ctime_nsec(),
+    };
+    let Ok(now) = SystemTime::now(rt)?.duration_since(UNIX_EPOCH) else {
+        return Ok(None);
+    };
+    let is_settled = mark.seconds.unsigned_abs().saturating_add(SETTLED) < now.as_secs();
+    Ok(is_settled.then_some(mark))
+}
