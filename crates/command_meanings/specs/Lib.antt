@@ -10,6 +10,8 @@ pub mod Check
 pub mod Verify
 pub mod ItsBundle
 pub mod Prove
+mod TakenNodes
+pub use TakenNodes.{NodesAreTaken}
 pub mod ShortDraw
 pub mod CheckCover
 pub mod ItsCover

@@ -22,6 +22,7 @@ use Rattle.command_shell.specs.declared.formats.PoolOrBundle.{PoolOrBundle}
 use Rattle.command_shell.specs.declared.formats.PoolOrBundle.TheVariants as either
 use Rattle.command_meanings.specs.Check.{IsGreatest, PrintsRefusal, SpendsStage, refused_line}
 use Rattle.command_meanings.specs.Lottery.{PassesWidth, PrintsNone, SpendsBudget}
+use Rattle.command_meanings.specs.TakenNodes.{NodesAreTaken}
 
 -- ---- the input: a pool, or a bundle, whose answer is to be proved
 
@@ -147,9 +148,11 @@ ProveMeans count about = record no_answer {
   refused = RefusesProve about;
 }
 
--- what is right to answer if trees have `nodes` nodes, for some count of what is left of them. Any count will do here, so this doesn't say that
--- a node was taken: the contract of `prove_within` says so of its own counter, which only `take_node` lowers
+-- what is right to answer if trees have `nodes` nodes, for some count of what is left of them. A count of which none is left needs the evidence
+-- that all nodes were taken, which no text of another crate can make: so a body that tells that no trees are found had a budget of `nodes` nodes
+-- in hand, and took each of them. That it looked for trees meanwhile isn't said
 pub record ProvesWithin (nodes : ℕ) (about : PoolOrBundle) (answer : Saying) : Type 0 where
   pub count : Left
   pub most : count.most_nodes ≡ nodes
+  pub taken : count.nodes ≡ 0 → NodesAreTaken nodes
   pub right : IsRight (ProveMeans count about) answer

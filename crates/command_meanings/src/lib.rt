@@ -3,11 +3,12 @@
 //! texts about a round (Steps), all imports (Imports), and `prove` over a store (ProvedRounds). `serve` prints no answer of its own: what a
 //! call of it does is said in `command_desk`. Stands on `command_shell` and on definitions.
 //!
-//! Promises: the laws in `laws.rt`.
+//! Promises: the laws in `laws.rt`, and `evidence_of_taken_nodes`, without which `prove` can't answer that no trees are found.
 #![tactic(auto)]
 
 mod laws;
 mod office;
+mod taking;
 
 pub use laws::{
     bundle_has_one_answer, check_has_one_answer, draw_has_one_answer, legs_has_one_answer,
@@ -15,3 +16,4 @@ pub use laws::{
     sharing_answers_as_lottery, verify_has_one_answer,
 };
 pub use office::{Import, RoundText, StoreText};
+pub use taking::evidence_of_taken_nodes;

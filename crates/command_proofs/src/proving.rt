@@ -18,6 +18,7 @@ ghost use Rattle.proof_limits.specs.Budgets.{Left, SpendsOn};
 use crate::making::{Made, proof_within};
 use crate::settling::{Settled, if_valid, proof_answer, settle};
 use bundle_text::Bundle;
+use command_meanings::evidence_of_taken_nodes;
 use command_pools::{LotteryRun, lottery_limits, run_lottery};
 use command_shell::{Answer, Meaning, PoolOrBundle, Resources, Status, call_answered_by, no_panel};
 use outside::{Sink, Source, Watch};
@@ -84,7 +85,9 @@ fn proved<R: Threads + Sync, W: Watch + Sync>(
 {
     let mut budget = Budget::new(command.pivots, command.nodes);
     let mut trees = Budget::new(u64::MAX, command.nodes);
-    prove_within(resources, &mut budget, &mut trees, about)
+    let answer = prove_within(resources, &mut budget, &mut trees, about);
+    evidence_of_taken_nodes(&trees);
+    answer
 }
 
 /// Returns what `prove` answers by a run under `budget`, if the nodes of `trees` are left for trees. Afterwards both are what is left of
