@@ -1,5 +1,5 @@
 -- Bodies of JSON: their texts, made of the texts of their parts, and the values whose texts they are. Used by the modules `bodies` and
--- `seats`.
+-- `seat_page`.
 use Rattle.std.specs.Prelude.{ℕ, ◌++◌, Bool, true, List, Option, Some, None, codes}
 use Rattle.std.specs.Fmt.{decimal}
 use Rattle.json.specs.Print.{quoted}

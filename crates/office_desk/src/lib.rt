@@ -16,7 +16,7 @@ mod published;
 mod refusals;
 mod replies;
 mod routes;
-mod seats;
+mod seat_page;
 mod serving;
 mod withdrawing;
 

@@ -1,4 +1,4 @@
-//! The pages `/me` and `/me/seat`: what a volunteer sees with their key.
+//! The pages about a volunteer, who asks with a key, and what `/me` tells.
 
 ghost use Rattle.std.specs.Prelude.{◌≡◌, [], ◌∷◌, codes, option_map, string_bytes, IfOk};
 ghost use Rattle.define_offices.specs.Deciding.{with_hash};
@@ -17,7 +17,7 @@ use crate::published::{last_phase, last_published};
 use crate::refusals::Refusal;
 use crate::replies::told_json;
 use crate::routes::OwnPage;
-use crate::seats::seat_of;
+use crate::seat_page::seat_of;
 use office_requests::{Key, Request};
 use office_tables::{Entry, Phase, Tables};
 use sealed_draw::seal;

@@ -1,4 +1,4 @@
-//! What became of a volunteer in the rounds so far: a seat, and the rounds of which the volunteer dropped out.
+//! The page `/me/seat`: the rounds of which a volunteer dropped out, and whether the volunteer is seated.
 
 ghost use Rattle.std.specs.Prelude.{◌≡◌, ◌-◌, length, map, IfOk, string_bytes};
 ghost use Rattle.serde_json.specs.View.{view};
