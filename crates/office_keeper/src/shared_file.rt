@@ -192,6 +192,7 @@ fn unchanged(rt: &HostRuntime, path: &str, known: &Option<Known>) -> Result<Open
 fn reopened(rt: &HostRuntime, path: &str) -> Result<OpenFile, KeeperStop> {
     match fs::metadata(rt, path) {
         Ok(found) if found.len() > 0 => current(connect(rt, path)?),
+        Err(error) if error.kind() == ErrorKind::OutOfMemory => Err(KeeperStop::OutOfMemory),
         _ => Err(KeeperStop::Failed),
     }
 }
