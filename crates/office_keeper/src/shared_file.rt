@@ -8,6 +8,7 @@ use crate::sqlite_over::SqliteOver;
 use office_core::{Change, Keeper, KeeperStop, Tables};
 use sqlite::{Connection, Error, ErrorCode, File, FileStore};
 use std::alloc::Global;
+use std::io::ErrorKind;
 use std::time::Duration;
 use std::{fs, thread};
 
