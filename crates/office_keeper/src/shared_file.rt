@@ -8,6 +8,7 @@ use crate::sqlite_over::SqliteOver;
 use office_core::{Change, Keeper, KeeperStop, Tables};
 use sqlite::{Connection, Error, ErrorCode, File, FileStore};
 use std::alloc::Global;
+use std::io::ErrorKind;
 use std::time::Duration;
 use std::{fs, thread};
 
@@ -192,6 +193,7 @@ fn unchanged(rt: &HostRuntime, path: &str, known: &Option<Known>) -> Result<Open
 fn reopened(rt: &HostRuntime, path: &str) -> Result<OpenFile, KeeperStop> {
     match fs::metadata(rt, path) {
         Ok(found) if found.len() > 0 => current(connect(rt, path)?),
+        Err(error) if error.kind() == ErrorKind::OutOfMemory => Err(KeeperStop::OutOfMemory),
         _ => Err(KeeperStop::Failed),
     }
 }
