@@ -24,6 +24,6 @@ returns c =
     let dropped = told ∙ (ap (λ (name : List ℕ). numbers (dropped_from name c.rounds-2.result.now 1)) c.id.ensures ∙ ap (λ (all : List Round). numbers (dropped_from entry.id all 1)) c.rounds-2.ensures) in
     let id = c.as_str.ensures ∙ c.id-2.ensures in
     let many : length c.rounds.result.now ≡ length (map published tables.rounds) = ap (λ (all : List Round). length all) c.rounds.ensures ∙ sym (length-map tables.rounds published) in
-    let before = c.saturating_sub-before.ensures ∙ (ap (λ (n : ℕ). n - 1) (c.len.ensures ∙ many)) in
+    let before = c.saturating_sub-before.ensures ∙ ap (λ (n : ℕ). n - 1) many in
     let seated = c.in_ok-seated.ensures ∙ ap (keeps_seat (map published tables.rounds) (own_in tables entry)) before in
     IfOk-weaker c.seat_body.result _ _ (λ body is. is ∙ seat_text_same _ _ _ _ _ _ dropped id seated) c.seat_body.ensures
