@@ -21,9 +21,9 @@ loop-place-preserved c =
     let more : after ≡ before ++ cond has (number_data (place + 1) ∷ []) [] =
     elim c.if-has_dropped.branch [
       | then-has_dropped+in_ok-push w ↦
-        with_value has (number_data (place + 1)) before after w.if-has_dropped.true
-        (ap (λ (all : Vec Value Global). map view all.items) w.numbers-is ∙ (ap (λ (all : List Value). map view all) w.in_ok-push.ensures.items
-        ∙ (map-append view c.loop-place.numbers.items (w.from.result ∷ []) ∙ ap (λ (d : Data). before ++ d ∷ []) w.from.ensures)))
+          with_value has (number_data (place + 1)) before after w.if-has_dropped.true
+          (ap (λ (all : Vec Value Global). map view all.items) w.numbers-is ∙ (ap (λ (all : List Value). map view all) w.in_ok-push.ensures.items
+          ∙ (map-append view c.loop-place.numbers.items (w.from.result ∷ []) ∙ ap (λ (d : Data). before ++ d ∷ []) w.from.ensures)))
       | else-has_dropped w ↦ without_value has (number_data (place + 1)) before after w.if-has_dropped.false (ap (λ (all : Vec Value Global). map view all.items) w.numbers-is)
     ] in
     told_more id rounds place c.index-rounds-place.result has before after (map number_data (dropped_from id rounds 1)) below c.index-rounds-place.is c.has_dropped.ensures more c.loop-place.invariant
