@@ -132,11 +132,23 @@ const SEALED: &[Row] = &[
 const DRAWN: &[Row] = &[("GET /me/seat", "office-key: abc", STATUS_OK, "", NO_SEAT)];
 
 /// Requests and replies after a dropped out.
-const DROPPED: &[Row] = &[("GET /me/seat", "office-key: abc", STATUS_OK, "", DROPPED_OUT)];
+const DROPPED: &[Row] = &[(
+    "GET /me/seat",
+    "office-key: abc",
+    STATUS_OK,
+    "",
+    DROPPED_OUT,
+)];
 
 /// Requests and replies while the second round is open.
 const SECOND: &[Row] = &[
-    ("GET /me/seat", "office-key: abc", STATUS_OK, "", DROPPED_OUT),
+    (
+        "GET /me/seat",
+        "office-key: abc",
+        STATUS_OK,
+        "",
+        DROPPED_OUT,
+    ),
     (
         "GET /me/seat",
         "office-key: k3",

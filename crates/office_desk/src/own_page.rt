@@ -98,11 +98,23 @@ fn told_own(
 ) -> Result<Answer, AllocError>
     ensures { IfOk result (λ answer. answer ≡ sent_of (told (body_on page (shown_to tables.now entry.now) (own_in tables.now entry.now)))) }
 {
-    let body = match page {
-        OwnPage::Standing => standing_of(alloc, tables, entry)?,
-        OwnPage::Seat => seat_of(alloc, tables, entry)?,
-    };
+    let body = body_of(alloc, tables, page, entry)?;
     told_json(alloc, body.as_str())
+}
+
+/// Returns the body of a page about the volunteer with this row.
+fn body_of(
+    alloc: Global,
+    tables: &Tables,
+    page: OwnPage,
+    entry: &Entry,
+) -> Result<String, AllocError>
+    ensures { IfOk result (λ body. string_bytes body ≡ body_on page (shown_to tables.now entry.now) (own_in tables.now entry.now)) }
+{
+    match page {
+        OwnPage::Standing => standing_of(alloc, tables, entry),
+        OwnPage::Seat => seat_of(alloc, tables, entry),
+    }
 }
 
 /// Returns the body for what the volunteer with this row sees of the last round.

@@ -1,8 +1,8 @@
 //! The page `/me/seat`: the rounds of which a volunteer dropped out, and whether the volunteer is seated.
 
-ghost use Rattle.std.specs.Prelude.{◌≡◌, ◌-◌, length, map, IfOk, string_bytes};
+ghost use Rattle.std.specs.Prelude.{◌≡◌, map, IfOk, string_bytes};
 ghost use Rattle.serde_json.specs.View.{view};
-ghost use Rattle.define_pools.specs.Lists.{includes_list};
+ghost use Rattle.define_pools.specs.Lists.{includes, includes_list};
 ghost use Rattle.define_desk.specs.Desk.{keeps_seat as is_kept, seat_body as body_of_seat};
 ghost use Rattle.define_desk.specs.Views.{dropped_from, dropped_of, published as published_so};
 ghost use Rattle.office_desk.specs.Bodies.{number_data};
@@ -36,12 +36,19 @@ fn keeps_seat(
 ) -> Result<bool, AllocError>
     ensures { IfOk result (λ keeps. keeps ≡ is_kept (map published_so tables.now.rounds) (own_in tables.now entry.now) number) }
 {
-    let dropped = match round_named(tables, number) {
-        Some(round) => has_dropped(round, entry.id()),
-        None => false,
-    };
     let drawn = is_drawn(alloc, &published_of(tables, number), entry.id())?;
-    Ok(drawn.unwrap_or(false) && !dropped)
+    let left = has_left(tables, entry.id(), number);
+    Ok(drawn.unwrap_or(false) && !left)
+}
+
+/// True if the volunteer with this id dropped out of the round with this number, counted from 1.
+fn has_left(tables: &Tables, id: &Name, number: usize) -> bool
+    ensures { result ≡ includes (dropped_from id.now tables.now.rounds 1) number }
+{
+    match round_named(tables, number) {
+        Some(round) => has_dropped(round, id),
+        None => false,
+    }
 }
 
 /// Returns the numbers of the rounds of which the volunteer with this id dropped out, as values of JSON.
