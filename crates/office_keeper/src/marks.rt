@@ -1,5 +1,6 @@
 //! Tells whether a store was changed, without opening it. No clause says what a file system tells: `tests/desk-shared` tests it.
 
+use office_core::KeeperStop;
 use std::io::ErrorKind;
 use std::os::unix::fs::{FileExt, MetadataExt};
 use std::time::{SystemTime, UNIX_EPOCH};
