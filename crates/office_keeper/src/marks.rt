@@ -1,12 +1,20 @@
 //! Tells whether a store was changed, without opening it. No clause says what a file system tells: `tests/desk-shared` tests it.
 
+use office_core::KeeperStop;
 use std::io::ErrorKind;
 use std::os::unix::fs::{FileExt, MetadataExt};
 use std::time::{SystemTime, UNIX_EPOCH};
 use std::{fs, io};
 
-/// How many seconds a file must have been unchanged before its mark counts. A system may stamp two changes within that time alike.
-const SETTLED: u64 = 2;
+/// For how many milliseconds a file must have been unchanged before its mark counts. A system may stamp two changes within its tick alike,
+/// which takes 10 milliseconds at most.
+const SETTLED: u64 = 100;
+
+/// The same where the file system may stamp in whole seconds.
+const SETTLED_COARSELY: u64 = 2_000;
+
+/// How many nanoseconds a millisecond has. A stamp with a part of one is none of a file system that stamps in seconds.
+const MILLISECOND: i64 = 1_000_000;
 
 /// How many bytes a log has up to the end of the salts of its first frame.
 const LOG_HEAD: usize = 48;
@@ -57,8 +65,8 @@ fn may_hold_commit(rt: &HostRuntime, log: &str) -> io::Result<bool> {
     Ok(read == LOG_HEAD && head[16..24] == head[40..48])
 }
 
-/// Returns the mark of a file, or None if it changed in the last seconds. The time is that of the last change of the file or of what the
-/// system keeps of it, since a program can set the other times back.
+/// Returns the mark of a file, or None if it changed a moment ago. The time is that of the last change of the file or of what the system keeps
+/// of it, since a program can set the other times back.
 fn settled_mark(rt: &HostRuntime, path: &str) -> io::Result<Option<Mark>> {
     let found = fs::metadata(rt, path)?;
     let mark = Mark {
@@ -71,6 +79,26 @@ fn settled_mark(rt: &HostRuntime, path: &str) -> io::Result<Option<Mark>> {
     let Ok(now) = SystemTime::now(rt)?.duration_since(UNIX_EPOCH) else {
         return Ok(None);
     };
-    let is_settled = mark.seconds.unsigned_abs().saturating_add(SETTLED) < now.as_secs();
-    Ok(is_settled.then_some(mark))
+    let milliseconds = now
+        .as_secs()
+        .saturating_mul(1000)
+        .saturating_add(u64::from(now.subsec_millis()));
+    Ok((mark.counts_from() < milliseconds).then_some(mark))
+}
+
+impl Mark {
+    /// Returns the time from which on the mark counts, in milliseconds since 1970.
+    fn counts_from(&self) -> u64 {
+        let settled = if self.nanoseconds % MILLISECOND == 0 {
+            SETTLED_COARSELY
+        } else {
+            SETTLED
+        };
+        let parts = (self.nanoseconds / MILLISECOND).unsigned_abs();
+        self.seconds
+            .unsigned_abs()
+            .saturating_mul(1000)
+            .saturating_add(parts)
+            .saturating_add(settled)
+    }
 }

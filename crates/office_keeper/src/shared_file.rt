@@ -9,14 +9,17 @@ use office_core::{Change, Keeper, KeeperStop, Tables};
 use sqlite::{Connection, Error, ErrorCode, File, FileStore};
 use std::alloc::Global;
 use std::io::ErrorKind;
-use std::time::Duration;
+use std::time::{Duration, Instant};
 use std::{fs, thread};
 
-/// How many times an open is tried while somebody else has the file, with a pause after each: five seconds in all.
-const TRIES: u32 = 250;
+/// For how many seconds an open is tried while somebody else has the file.
+const PATIENCE: u64 = 5;
 
-/// How many milliseconds a pause takes.
-const PAUSE: u64 = 20;
+/// How many milliseconds the pause after a try takes. A desk that is asked without a rest leaves the file free for about one between visits.
+const PAUSE: u64 = 2;
+
+/// How many times an open is tried at most. The pauses after them take five seconds.
+const TRIES: u32 = 2_500;
 
 /// The file of a store. While it is open, nobody else can open it.
 #[derive(Drop)]
@@ -212,10 +215,11 @@ fn current(connection: Connection<FileStore<File>>) -> Result<OpenFile, KeeperSt
 
 /// Opens the file of a path. If somebody else has it, waits for up to five seconds.
 fn connect(rt: &HostRuntime, path: &str) -> Result<Connection<FileStore<File>>, KeeperStop> {
+    let begun = Instant::now(rt).ok();
     for _ in 0..TRIES {
         match Connection::open(rt, path) {
             Ok(connection) => return Ok(connection),
-            Err(Error::SqliteFailure(ErrorCode::DatabaseBusy)) => {
+            Err(Error::SqliteFailure(ErrorCode::DatabaseBusy)) if !is_over(rt, &begun) => {
                 thread::sleep(rt, Duration::from_millis(PAUSE));
             }
             Err(Error::SqliteFailure(ErrorCode::OutOfMemory)) => {
@@ -225,4 +229,15 @@ fn connect(rt: &HostRuntime, path: &str) -> Result<Connection<FileStore<File>>, 
         }
     }
     Err(KeeperStop::Failed)
+}
+
+/// True if the time for which an open is tried is over. Without a clock the tries alone are counted.
+fn is_over(rt: &HostRuntime, begun: &Option<Instant>) -> bool {
+    match begun {
+        Some(begun) => match begun.elapsed(rt) {
+            Ok(waited) => waited >= Duration::from_secs(PATIENCE),
+            Err(_) => false,
+        },
+        None => false,
+    }
 }
