@@ -1,10 +1,11 @@
 -- How a request ends: withdrawals, and requests that don't change the tables.
-use Rattle.std.proofs.Common.{◌≡◌, ℕ, List, [], ◌∷◌, Option, Some, None, Result, Ok, Err, inl, inr, option_map, refl, sym, ap, ◌∙◌, subst}
-use Rattle.std.specs.Prelude.{◌==◌, IfSome, codes, map}
+use Rattle.std.proofs.Common.{◌≡◌, ℕ, Bool, true, false, cond, List, [], ◌∷◌, Option, Some, None, Ok, Err, inl, inr, option_map, refl, sym, ap, ◌∙◌, subst}
+use Rattle.std.specs.Prelude.{◌==◌, IfSome, codes, map, option_and_then}
+use Rattle.std.proofs.lemmas.Bool.{eqb-true}
 use Rattle.define_draws.specs.Seal.{seal_of}
 use Rattle.define_offices.specs.Commands as office
 use Rattle.define_offices.specs.Commands.{Outcome, Refuses, Replies, Stops, Withdraw}
-use Rattle.define_offices.specs.Deciding.{IsDecided, place_of_hash, with_hash, withdraw_at}
+use Rattle.define_offices.specs.Deciding.{place_of_hash, with_hash, withdraw_at}
 use Rattle.define_offices.specs.Steps.{AtOnce, ByRun, Comes, tables_after}
 use Rattle.define_offices.specs.Tables.{Entry, Tables}
 use Rattle.define_desk.specs.Requests.{Request}
@@ -21,12 +22,13 @@ use Rattle.office_core.specs.declared.stops.ActStop.TheVariants as act
 use Rattle.office_desk.specs.Answers.{FailsInTurn, FailsToStore, HasFault, IsReplyTo, NoMemory, Replied, ToLoad, ToStore, Unavailable}
 use Rattle.office_desk.proofs.Causes.{because}
 use Rattle.office_desk.specs.Endings.{Done, EndsAs, Failed, IsSentFor, WantsMemory}
-use Rattle.office_desk.specs.Pages.{body_of, seen_page}
+use Rattle.office_desk.specs.Pages.{body_of, in_round, seen_page}
 use Rattle.office_desk.specs.Refusals.{refusal_reply}
 use Rattle.office_desk.specs.Sent.{Sent, sent_of}
 use Rattle.office_desk.specs.Withdrawals.{TellsWithdrawn, stop_refusal}
 use Rattle.office_desk.specs.declared.routes.OwnPage.{OwnPage}
 use Rattle.office_desk.specs.declared.routes.OwnPage.TheVariants.{Seat, Standing}
+use Rattle.office_desk.specs.declared.routes.Page.{Page}
 use Rattle.office_desk.specs.declared.routes.Page.TheVariants.{Bundle, Draw, Own, Withdrawal}
 
 -- ---- withdrawals
@@ -111,42 +113,68 @@ module _ (before : Option Tables) (tables : Tables) (request : Request) (loaded 
 
 -- ---- the reply for each page
 
+is_in_round : (page : ℕ → Page) (number : ℕ) (found : Page) → in_round page number ≡ Some found → page number ≡ found
+is_in_round page number found e = by (number == 0) e
+  where
+    by : (b : Bool) → cond b None (Some (page number)) ≡ Some found → page number ≡ found
+    by true e = absurd (cc)
+    by false e = cc
+
+no_number : (page : ℕ → Page) (number : ℕ) → in_round page number ≡ None → number ≡ 0
+no_number page number e = by (number == 0) refl e
+  where
+    by : (b : Bool) → (number == 0) ≡ b → cond b None (Some (page number)) ≡ None → number ≡ 0
+    by true is e = eqb-true number 0 is
+    by false is e = absurd (cc)
+
 module _ (tables : Tables) (request : Request) where
-  pub at_bundle : (found : Option SeenPage) (round : ℕ) → option_map seen_page found ≡ Some (Bundle round) → served_page tables request found ≡ leaving tables (bundle_reply request (published_of (map published tables.rounds) round))
+  pub at_bundle : (found : Option SeenPage) (round : ℕ) → option_and_then seen_page found ≡ Some (Bundle round) → served_page tables request found ≡ leaving tables (bundle_reply request (published_of (map published tables.rounds) round))
   at_bundle None round e = absurd (cc)
-  at_bundle (Some (BundlePage text)) round e = let n : round_named text ≡ round = cc in ap (λ (k : ℕ). leaving tables (bundle_reply request (published_of (map published tables.rounds) k))) n
-  at_bundle (Some (DrawPage text)) round e = absurd (cc)
+  at_bundle (Some (BundlePage text)) round e =
+      let is : Bundle (round_named text) ≡ Bundle round = is_in_round (λ n. Bundle n) (round_named text) (Bundle round) e in
+      let n : round_named text ≡ round = cc in
+      ap (λ (k : ℕ). leaving tables (bundle_reply request (published_of (map published tables.rounds) k))) n
+  at_bundle (Some (DrawPage text)) round e = let is : Draw (round_named text) ≡ Bundle round = is_in_round (λ n. Draw n) (round_named text) (Bundle round) e in absurd (cc)
   at_bundle (Some AtOwn) round e = absurd (cc)
   at_bundle (Some SeatPage) round e = absurd (cc)
   at_bundle (Some WithdrawalPage) round e = absurd (cc)
 
-  pub at_draw : (found : Option SeenPage) (round : ℕ) → option_map seen_page found ≡ Some (Draw round) → served_page tables request found ≡ leaving tables (draw_reply request (published_of (map published tables.rounds) round))
+  pub at_draw : (found : Option SeenPage) (round : ℕ) → option_and_then seen_page found ≡ Some (Draw round) → served_page tables request found ≡ leaving tables (draw_reply request (published_of (map published tables.rounds) round))
   at_draw None round e = absurd (cc)
-  at_draw (Some (BundlePage text)) round e = absurd (cc)
-  at_draw (Some (DrawPage text)) round e = let n : round_named text ≡ round = cc in ap (λ (k : ℕ). leaving tables (draw_reply request (published_of (map published tables.rounds) k))) n
+  at_draw (Some (BundlePage text)) round e = let is : Bundle (round_named text) ≡ Draw round = is_in_round (λ n. Bundle n) (round_named text) (Draw round) e in absurd (cc)
+  at_draw (Some (DrawPage text)) round e =
+      let is : Draw (round_named text) ≡ Draw round = is_in_round (λ n. Draw n) (round_named text) (Draw round) e in
+      let n : round_named text ≡ round = cc in
+      ap (λ (k : ℕ). leaving tables (draw_reply request (published_of (map published tables.rounds) k))) n
   at_draw (Some AtOwn) round e = absurd (cc)
   at_draw (Some SeatPage) round e = absurd (cc)
   at_draw (Some WithdrawalPage) round e = absurd (cc)
 
-  pub at_own : (found : Option SeenPage) (page : OwnPage) → option_map seen_page found ≡ Some (Own page) → served_page tables request found ≡ leaving tables (if_by (codes "GET") request (own_reply (body_of page) tables request.keys))
+  pub at_own : (found : Option SeenPage) (page : OwnPage) → option_and_then seen_page found ≡ Some (Own page) → served_page tables request found ≡ leaving tables (if_by (codes "GET") request (own_reply (body_of page) tables request.keys))
   at_own None page e = absurd (cc)
-  at_own (Some (BundlePage text)) page e = absurd (cc)
-  at_own (Some (DrawPage text)) page e = absurd (cc)
+  at_own (Some (BundlePage text)) page e = let is : Bundle (round_named text) ≡ Own page = is_in_round (λ n. Bundle n) (round_named text) (Own page) e in absurd (cc)
+  at_own (Some (DrawPage text)) page e = let is : Draw (round_named text) ≡ Own page = is_in_round (λ n. Draw n) (round_named text) (Own page) e in absurd (cc)
   at_own (Some AtOwn) page e = let is : Standing ≡ page = cc in ap (λ (p : OwnPage). leaving tables (if_by (codes "GET") request (own_reply (body_of p) tables request.keys))) is
   at_own (Some SeatPage) page e = let is : Seat ≡ page = cc in ap (λ (p : OwnPage). leaving tables (if_by (codes "GET") request (own_reply (body_of p) tables request.keys))) is
   at_own (Some WithdrawalPage) page e = absurd (cc)
 
-  pub at_withdrawal : (found : Option SeenPage) → option_map seen_page found ≡ Some Withdrawal → served_page tables request found ≡ served_page tables request (Some WithdrawalPage)
+  pub at_withdrawal : (found : Option SeenPage) → option_and_then seen_page found ≡ Some Withdrawal → served_page tables request found ≡ served_page tables request (Some WithdrawalPage)
   at_withdrawal None e = absurd (cc)
-  at_withdrawal (Some (BundlePage text)) e = absurd (cc)
-  at_withdrawal (Some (DrawPage text)) e = absurd (cc)
+  at_withdrawal (Some (BundlePage text)) e = let is : Bundle (round_named text) ≡ Withdrawal = is_in_round (λ n. Bundle n) (round_named text) Withdrawal e in absurd (cc)
+  at_withdrawal (Some (DrawPage text)) e = let is : Draw (round_named text) ≡ Withdrawal = is_in_round (λ n. Draw n) (round_named text) Withdrawal e in absurd (cc)
   at_withdrawal (Some AtOwn) e = absurd (cc)
   at_withdrawal (Some SeatPage) e = absurd (cc)
   at_withdrawal (Some WithdrawalPage) e = refl
 
-  pub at_nothing : (found : Option SeenPage) → option_map seen_page found ≡ None → served_page tables request found ≡ leaving tables not_found
+  pub at_nothing : (found : Option SeenPage) → option_and_then seen_page found ≡ None → served_page tables request found ≡ leaving tables not_found
   at_nothing None e = refl
-  at_nothing (Some page) e = absurd (cc)
+  at_nothing (Some (BundlePage text)) e =
+      ap (λ (k : ℕ). leaving tables (bundle_reply request (published_of (map published tables.rounds) k))) (no_number (λ n. Bundle n) (round_named text) e)
+  at_nothing (Some (DrawPage text)) e =
+      ap (λ (k : ℕ). leaving tables (draw_reply request (published_of (map published tables.rounds) k))) (no_number (λ n. Draw n) (round_named text) e)
+  at_nothing (Some AtOwn) e = absurd (cc)
+  at_nothing (Some SeatPage) e = absurd (cc)
+  at_nothing (Some WithdrawalPage) e = absurd (cc)
 
 -- ---- counts of faults
 

@@ -1,10 +1,10 @@
 -- What can be learned with a key: the reply to each request with it is the same over all tables with the same view for this key.
-use Rattle.std.proofs.Common.{◌≡◌, ℕ, zero, suc, ◌+◌, ◌<◌, Bool, true, false, cond, eqb, not, ◌&&◌, List, [], ◌∷◌, length, get_or, map, option_map, Option, Some, None, refl, sym, ap, ◌∙◌, arith, subst}
-use Rattle.std.specs.Prelude.{codes, IsTrue}
+use Rattle.std.proofs.Common.{◌≡◌, ℕ, zero, suc, ◌+◌, ◌<◌, Bool, true, false, cond, not, ◌&&◌, List, [], ◌∷◌, length, get_or, map, option_map, Option, Some, None, refl, sym, ap, ◌∙◌, arith, subst}
+use Rattle.std.specs.Prelude.{codes}
 use Rattle.std.specs.Str.{bytes_eq}
-use Rattle.std.proofs.lemmas.Bool.{and_parts, eq-eqb, false≢true, ne_eqb, or_left}
+use Rattle.std.proofs.lemmas.Bool.{and_parts, false≢true}
 use Rattle.std.proofs.lemmas.List.{length-map}
-use Rattle.define_pools.specs.Lists.{all_different, includes, includes_list}
+use Rattle.define_pools.specs.Lists.{includes, includes_list}
 use Rattle.define_pools.specs.Building.{ids}
 use Rattle.define_bundles.specs.BundleText.{Bundle}
 use Rattle.define_draws.specs.Seal.{seal_of}
@@ -16,12 +16,12 @@ use Rattle.define_offices.specs.Facts.{IsTables, closed_but_last, entry_ids, has
 use Rattle.define_offices.specs.Pools.{pool_of}
 use Rattle.define_offices.specs.Tables.{Entry, Round, Open, Solved, Sealed, Drawn, Tables, last_phase, round_at}
 use Rattle.define_desk.specs.Requests.{Request}
-use Rattle.define_desk.specs.Replies.{Reply, not_allowed, told, too_late, unknown_key}
-use Rattle.define_desk.specs.Views.{Nothing, Own, Published, TheBundle, TheDraw, View, dropped_from, dropped_of, own_of, published, published_at, published_of, view}
+use Rattle.define_desk.specs.Replies.{Reply, not_allowed, told, too_late}
+use Rattle.define_desk.specs.Views.{Own, Published, TheDraw, View, dropped_from, own_of, published, published_at, published_of, view}
 use Rattle.define_desk.specs.Desk.{BundlePage, DrawPage, IsIsolated, IsPublic, OwnPage, Page, SeatPage, WithdrawalPage, bundle_reply, draw_reply, if_by, leaving, own_body, own_reply, own_reply_by, page_of, round_named, seat_body, served_page, withdrawal, withdrawal_by, withdrawal_reply, withdrawn_body}
 use Rattle.office_desk.proofs.Dropouts.{dropped_at, dropped_in}
 use Rattle.office_desk.proofs.PublishedRounds.{at_place, shown}
-use Rattle.office_desk.proofs.Seats.{IsRow, row_of, same_place, seat_by, seat_first, seat_later}
+use Rattle.office_desk.proofs.Seats.{row_of, same_place, seat_by, seat_first, seat_later}
 
 -- ---- the last rounds
 

@@ -1,5 +1,5 @@
 -- The reply to a volunteer's key.
-use Rattle.std.proofs.Common.{◌≡◌, ℕ, List, [], ◌∷◌, length, get_or, map, Option, Some, None, ap, refl, sym, ◌∙◌, arith}
+use Rattle.std.proofs.Common.{◌≡◌, ℕ, List, [], ◌∷◌, length, get_or, map, Option, Some, None, ap, refl, sym, arith}
 use Rattle.define_draws.specs.Seal.{seal_of}
 use Rattle.define_offices.specs.Deciding.{with_hash}
 use Rattle.define_offices.specs.Tables.{Entry, Tables, last_phase}

@@ -5,6 +5,7 @@ pub mod Contents
 pub mod Heads
 pub mod Bodies
 pub mod Pages
+pub mod Routes
 pub mod Shown
 pub mod Panels
 pub mod Endings

@@ -1,13 +1,18 @@
 //! Which page a path names.
 
-ghost use Rattle.std.specs.Prelude.{◌≡◌, codes, IsTrue, option_map};
+ghost use Rattle.std.specs.Prelude.{◌≡◌, [], codes, IfOk, IsTrue, option_and_then, unwrap_or};
 ghost use Rattle.std.specs.Char.{is_ascii_digit};
 ghost use Rattle.std.specs.List.{list_all};
 ghost use Rattle.std.specs.Str.Parse.{digits_value};
-ghost use Rattle.define_desk.specs.Desk.{after_front as rest_after, page_of as page_named, round_named as number_named, round_page as page_of_rest};
+ghost use Rattle.define_desk.specs.Desk.{page_of as page_named, round_named as number_named};
 ghost use Rattle.office_desk.specs.Pages.{is_round_text, seen_page};
+ghost use Rattle.matchit.specs.Params.{AllText, named};
+ghost use Rattle.office_desk.specs.Routes.{desk_routes, page_on, parts_of};
 
-/// What a path names. A round that isn't named by 1 to 4 digits has the number 0, which no round has.
+use matchit::{InsertError, Params, Router};
+use std::alloc::{AllocError, Global};
+
+/// What a path names.
 #[derive(Clone, Copy, Debug, PartialEq, Eq)]
 pub(crate) enum Page {
     /// The bundle of a round.
@@ -29,49 +34,84 @@ pub(crate) enum OwnPage {
     Seat,
 }
 
+/// A route of the desk.
+#[derive(Clone, Copy, Debug, PartialEq, Eq)]
+pub(crate) enum Route {
+    Standing,
+    Seat,
+    Withdrawal,
+    Bundle,
+    Draw,
+}
+
+/// Returns the routes of the desk.
+fn routes(alloc: Global) -> Result<Router<Route>, InsertError>
+    ensures { IfOk result (λ router. router ≡ desk_routes) }
+{
+    let mut router = Router::new(alloc);
+    router.insert("/me", Route::Standing)?;
+    router.insert("/me/seat", Route::Seat)?;
+    router.insert("/me/withdraw", Route::Withdrawal)?;
+    router.insert("/public/bundle/{*round}", Route::Bundle)?;
+    router.insert("/public/draw/{*round}", Route::Draw)?;
+    Ok(router)
+}
+
 /// Returns the page that a path names, if there is one.
-pub(crate) fn page_of(path: &[u8]) -> Option<Page>
-    ensures { result ≡ option_map seen_page (page_named path.now) }
+pub(crate) fn page_of(alloc: Global, path: &str) -> Result<Option<Page>, AllocError>
+    ensures { IfOk result (λ page. page ≡ option_and_then seen_page (page_named path.now)) }
 {
-    if path == b"/me".as_slice() {
-        Some(Page::Own(OwnPage::Standing))
-    } else if path == b"/me/seat".as_slice() {
-        Some(Page::Own(OwnPage::Seat))
-    } else if path == b"/me/withdraw".as_slice() {
-        Some(Page::Withdrawal)
-    } else {
-        round_page(path)
+    let Ok(router) = routes(alloc) else {
+        return Err(AllocError);
+    };
+    Ok(page_by(&router, path))
+}
+
+/// Returns the page that a path names by the routes of the desk.
+fn page_by(router: &Router<Route>, path: &str) -> Option<Page>
+    requires { router.now ≡ desk_routes }
+    ensures { result ≡ option_and_then seen_page (page_named path.now) }
+{
+    match router.at(path) {
+        Ok(found) => page_at(*found.value, round_in(&found.params)),
+        Err(_) => None,
     }
 }
 
-/// Returns the page of a round that a path names, if there is one.
-fn round_page(path: &[u8]) -> Option<Page>
-    ensures { result ≡ option_map seen_page (page_of_rest (rest_after (codes "/public/bundle/") path.now) (rest_after (codes "/public/draw/") path.now)) }
+/// Returns what the parameter `round` of a route took of the path, or an empty text if the route has none.
+fn round_in<'p>(params: &Params<'_, 'p>) -> &'p str
+    ensures { AllText (parts_of params.now) → result.now ≡ unwrap_or (named (codes "round") (parts_of params.now)) [] }
 {
-    if let Some(round) = after_front(b"/public/bundle/", path) {
-        Some(Page::Bundle {
-            round: round_named(round),
-        })
-    } else if let Some(round) = after_front(b"/public/draw/", path) {
-        Some(Page::Draw {
-            round: round_named(round),
-        })
-    } else {
-        None
+    match params.get("round") {
+        Some(round) => round,
+        None => "",
     }
 }
 
-/// Returns what follows `front` in a path, if the path begins with `front`.
-fn after_front<'a>(front: &[u8], path: &'a [u8]) -> Option<&'a [u8]>
-    ensures { option_map (λ rest. rest.now) result ≡ rest_after front.now path.now }
+/// Returns the page of a route. `round` names the round if the route has one.
+fn page_at(route: Route, round: &str) -> Option<Page>
+    ensures { result ≡ page_on route round.now }
 {
-    path.strip_prefix(front)
+    match route {
+        Route::Standing => Some(Page::Own(OwnPage::Standing)),
+        Route::Seat => Some(Page::Own(OwnPage::Seat)),
+        Route::Withdrawal => Some(Page::Withdrawal),
+        Route::Bundle => match round_named(round) {
+            0 => None,
+            round => Some(Page::Bundle { round }),
+        },
+        Route::Draw => match round_named(round) {
+            0 => None,
+            round => Some(Page::Draw { round }),
+        },
+    }
 }
 
-/// Returns the number that 1 to 4 digits write, else 0.
-fn round_named(text: &[u8]) -> usize
+/// Returns the number that 1 to 4 digits write, else 0, which no round has.
+fn round_named(text: &str) -> usize
     ensures { result ≡ number_named text.now }
 {
+    let text = text.as_bytes();
     if is_round(text) { number_of(text) } else { 0 }
 }
 

@@ -1,11 +1,13 @@
 //! Answers a request over the tables that a keeper keeps.
 
-ghost use Rattle.std.specs.Prelude.{◌≡◌, IfOk};
+ghost use Rattle.std.specs.Prelude.{◌≡◌, IfOk, option_and_then};
+ghost use Rattle.define_desk.specs.Desk.{page_of as page_named};
 ghost use Rattle.define_desk.specs.Replies.{Reply, out_of_memory};
 ghost use Rattle.office_core.specs.Acting.{IsLoaded};
 ghost use Rattle.office_requests.specs.Askings.{seen_asking};
 ghost use Rattle.office_desk.specs.Answers.{FailsFor, FailsInTurn, FailsToStore, HasFault, IsDeskAnswer, IsReplyTo};
 ghost use Rattle.office_desk.specs.Endings.{IsSentFor};
+ghost use Rattle.office_desk.specs.Pages.{seen_page};
 ghost use Rattle.office_desk.specs.Sent.{sent_of};
 
 use crate::answers::Answer;
@@ -77,7 +79,29 @@ fn reply_over<R: Threads + Sync, K: Keeper, W: Watch + Sync>(
     ensures place { (K.course keeper.new).place ≡ (K.course keeper.old).place }
     ensures fault { HasFault (FailsToStore tables.now request.now.keys (K.course keeper.old) (K.course keeper.new)) (K.faults keeper.old) (K.faults keeper.new) result.status }
 {
-    match page_of(request.path().as_bytes()) {
+    match page_of(alloc, request.path()) {
+        Ok(page) => reply_on(rt, alloc, keeper, tables, page, request, watch),
+        Err(_) => Answer::refused(Refusal::OutOfMemory),
+    }
+}
+
+/// Returns the reply to a request for this page over tables that were loaded.
+fn reply_on<R: Threads + Sync, K: Keeper, W: Watch + Sync>(
+    rt: &R,
+    alloc: Global,
+    keeper: &mut K,
+    tables: &Tables,
+    page: Option<Page>,
+    request: &Request,
+    watch: &W,
+) -> Answer
+    requires loaded { IsLoaded (K.tables keeper.old) tables.now }
+    requires page { page ≡ option_and_then seen_page (page_named request.now.path) }
+    ensures desk { IsReplyTo (K.tables keeper.old) request.now (K.tables keeper.new) result }
+    ensures place { (K.course keeper.new).place ≡ (K.course keeper.old).place }
+    ensures fault { HasFault (FailsToStore tables.now request.now.keys (K.course keeper.old) (K.course keeper.new)) (K.faults keeper.old) (K.faults keeper.new) result.status }
+{
+    match page {
         Some(Page::Withdrawal) => withdrawal_answer(rt, alloc, keeper, tables, request, watch),
         Some(Page::Own(page)) => or_short(own_page_answer(alloc, tables, page, request)),
         Some(Page::Bundle { round }) => or_short(bundle_answer(alloc, tables, round, request)),

@@ -1,7 +1,7 @@
-use Rattle.std.proofs.Common.{◌≡◌, ap, ◌∙◌, false}
+use Rattle.std.proofs.Common.{ap, ◌∙◌}
 use Rattle.std.proofs.lemmas.Result.{IfOk-weaker}
 use Rattle.serde_json.specs.Data.{Data, array}
-use Rattle.serde_json.specs.View.{items_view, view}
+use Rattle.serde_json.specs.View.{items_view}
 use Rattle.serde_json.specs.Written.{compact_text, has_float}
 use Rattle.office_desk.specs.Bodies.{seat_data}
 use Rattle.office_desk.proofs.BodyTexts.{seat_data-float, seat_data-text}

@@ -2,13 +2,12 @@ use Rattle.std.proofs.Common.{◌≡◌, ◌-◌, ℕ, List, length, map, ap, sy
 use Rattle.std.proofs.lemmas.List.{length-map}
 use Rattle.std.proofs.lemmas.Result.{IfOk-weaker}
 use Rattle.serde_json.specs.Data.{Data, array}
-use Rattle.serde_json.specs.View.{items_of, view}
-use Rattle.serde_json.specs.Written.{compact_text, has_float, items_have_float}
+use Rattle.serde_json.specs.View.{items_of}
+use Rattle.serde_json.specs.Written.{compact_text, items_have_float}
 use Rattle.define_offices.specs.Tables.{Round}
 use Rattle.define_desk.specs.Desk.{keeps_seat}
 use Rattle.define_desk.specs.Replies.{numbers}
 use Rattle.define_desk.specs.Views.{dropped_from, published}
-use Rattle.office_desk.specs.Bodies.{number_data}
 use Rattle.office_desk.specs.Shown.{own_in}
 use Rattle.office_desk.proofs.BodyTexts.{numbers_as_text, numbers_have_no_float, seat_text_same}
 use Rattle.office_desk.proofs.seat_page.seat_of.Goals as goal
