@@ -6,7 +6,9 @@ use office_core::{Change, Keeper};
 use office_keeper::{MapKeeper, SqliteKeeper};
 use std::alloc::Global;
 use std::fs;
+use std::process::Abort;
 use std::test::Fail;
+use std::thread::Threads;
 
 const FOLDER: &str = "office_store_test";
 
@@ -48,8 +50,8 @@ fn another_keeper_finds_the_file(rt: HostRuntime) -> Result<(), Fail> {
 
 /// Gives each command of an assembly to both keepers over the file `OTHER`: what one stores, the other loads, and it then changes nothing. A
 /// change is refused over tables that the other keeper has changed since.
-fn take_turns(
-    rt: &HostRuntime,
+fn take_turns<R: Threads + Sync + Abort>(
+    rt: &R,
     alloc: Global,
     first: &mut SqliteKeeper,
     second: &mut SqliteKeeper,
@@ -73,8 +75,8 @@ fn take_turns(
 }
 
 /// Does a command over a keeper, which then lets the file go.
-fn in_turn(
-    rt: &HostRuntime,
+fn in_turn<R: Threads + Sync>(
+    rt: &R,
     alloc: Global,
     keeper: &mut SqliteKeeper,
     asked: Asked,
