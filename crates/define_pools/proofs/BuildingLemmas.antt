@@ -2,7 +2,7 @@
 use Rattle.std.proofs.Common.{◌≡◌, ℕ, zero, suc, ◌+◌, ◌<◌, ◌≤◌, Bool, true, false, cond, eqb, ltb, leb, not, ◌&&◌, ◌||◌, List, [], ◌∷◌, ◌++◌, length, Option, Some, None, option_map, unwrap_or, refl, sym, ap, ◌∙◌, arith, add-one, get_or}
 use Rattle.std.specs.List.{list_all}
 use Rattle.std.specs.Str.{is_utf8, bytes_eq}
-use Rattle.std.proofs.lemmas.Bool.{false≢true, and_parts, and_from, or_parts, or_from, not-true, not-false, not_from_false, ltb-false, leb-false, leb-true, eqb-true, eqb-false, eq-eqb, le-leb, lt-leb, lt-ltb}
+use Rattle.std.proofs.lemmas.Bool.{cond_both, false≢true, and_parts, and_from, or_parts, or_from, not-true, not-false, not_from_false, ltb-false, leb-false, leb-true, eqb-true, eqb-false, eq-eqb, le-leb, lt-leb, lt-ltb}
 use Rattle.std.proofs.lemmas.Bool.Decides.{same_from_decides}
 use Rattle.std.proofs.lemmas.Slice.Eq.{bytes_eq-Decides}
 use Rattle.std.proofs.lemmas.List.{length_push, map_push, nil_from_length}
@@ -14,7 +14,7 @@ use Rattle.define_pools.specs.declared.Standing.TheVariants.{Open}
 pub use Rattle.define_pools.proofs.Each.{list_all-push as list_all_push}
 use Rattle.define_pools.proofs.Each.{list_all-push}
 use Rattle.define_pools.specs.Lists.{includes_list, all_different}
-use Rattle.define_pools.specs.Pool.{BoundedValue, Category, Volunteer, Pool, most_members, most_volunteers, keeps_name_limits, is_name, is_size, are_bounds, is_value, is_category, has_values, is_household, IsPool}
+use Rattle.define_pools.specs.Pool.{BoundedValue, Category, Volunteer, Pool, limits_for, most_members, most_volunteers, keeps_name_limits, is_name, is_size, are_bounds, is_value, is_category, has_values, is_household, IsPool}
 use Rattle.define_pools.specs.Building.{category_names, value_names, ids, last_values, with_value, place_of, places_of, are_known, empty_pool, size_kind, category_added, category_kind, value_added, value_kind, volunteer_added, volunteer_kind, with_standing, standing_set, with_household, household_set, household_kind}
 
 -- If `if test then Some kind else rest` is None, `test` is false and `rest` is None.
@@ -52,6 +52,11 @@ members_are_few Large = omega arith
 pub volunteers_are_few : (limits : Limits) → most_volunteers limits ≤ most_volunteers Large
 volunteers_are_few Usual = omega arith
 volunteers_are_few Large = omega arith
+
+-- as many volunteers as a pool can have are within the limits for them
+pub within_limits_for : (volunteers : ℕ) → volunteers ≤ most_volunteers Large → volunteers ≤ most_volunteers (limits_for volunteers)
+within_limits_for volunteers few =
+    cond_both (leb volunteers (most_volunteers Usual)) Usual Large (λ limits. volunteers ≤ most_volunteers limits) (λ usual. leb-true volunteers (most_volunteers Usual) usual) (λ _. few)
 
 -- a size within any limits is a size within those of every pool
 is_size_of_pool : (limits : Limits) (size : ℕ) → is_size limits size ≡ true → is_size Large size ≡ true

@@ -1,5 +1,5 @@
 -- Pools, quota panels, and the list of a pool's quota panels. Builds on Lists. Every other file about pools builds on this one.
-use Rattle.std.specs.Prelude.{ℕ, ◌==◌, nat_lt, nat_le, Bool, true, false, not, ◌&&◌, IsTrue, List, [], ◌∷◌, map, length, count_by, filter, slice_index, slice_index_or, Option, Some, None, is_some, bytes_eq}
+use Rattle.std.specs.Prelude.{ℕ, ◌==◌, nat_lt, nat_le, if◌then◌else◌, Bool, true, false, not, ◌&&◌, IsTrue, List, [], ◌∷◌, map, length, count_by, filter, slice_index, slice_index_or, Option, Some, None, is_some, bytes_eq}
 use Rattle.std.specs.List.{list_all, list_any, enumerate_from, range_with_len}
 use Rattle.std.specs.Str.{is_utf8}
 use Rattle.define_pools.specs.declared.Limits.{Limits}
@@ -55,6 +55,10 @@ most_members Large = 1000
 abbrev pub most_volunteers : Limits → ℕ
 most_volunteers Usual = 400
 most_volunteers Large = 4000
+
+-- the limits that a pool with this many volunteers needs
+abbrev pub limits_for : ℕ → Limits
+limits_for volunteers = if nat_le volunteers (most_volunteers Usual) then Usual else Large
 
 -- a panel has at least one member, and at most as many as the limits say
 abbrev pub is_size : Limits → ℕ → Bool

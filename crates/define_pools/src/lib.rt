@@ -11,7 +11,7 @@
 
 ghost use Rattle.std.specs.Prelude.{◌≡◌, ◌↔◌, ◌*◌, [], ◌∷◌, List, ℕ, Contains, IsTrue, sum};
 ghost use Rattle.std.specs.List.{list_all};
-ghost use Rattle.define_pools.specs.Pool.{is_of_size, is_quota_panel, Pool, IsPool, panels, most_members, most_volunteers};
+ghost use Rattle.define_pools.specs.Pool.{is_of_size, is_quota_panel, Pool, IsPool, panels, limits_for, most_members, most_volunteers};
 ghost use Rattle.define_pools.specs.Lottery.{Lottery, IsLottery, TotalAgrees, LeximinGreatest, counts};
 ghost use Rattle.define_pools.specs.Certificate.{Stage, Certifies};
 
@@ -36,6 +36,17 @@ pub enum Limits {
 }
 
 impl Limits {
+    /// Returns the limits that a pool with this many volunteers needs.
+    pub fn of(volunteers: usize) -> Limits
+        ensures { result ≡ limits_for volunteers }
+    {
+        if volunteers <= Limits::Usual.volunteers() {
+            Limits::Usual
+        } else {
+            Limits::Large
+        }
+    }
+
     /// Returns the greatest number of a panel's members.
     pub fn members(self) -> usize
         ensures { result ≡ most_members self }

@@ -2,7 +2,7 @@
 //! `pool_model`, whose builder and kinds of fault it uses, `text_lines` and `define_bundles`. Used by `bundle_text` and `proof_text`,
 //! which read a pool within their texts; `command_shell`, for the commands on pools; and the office.
 //!
-//! Promises: `read_pool` and `write_pool`. `Progress`, `after`, `version_of` and `version_word` serve the readers and writers of texts that contain a pool.
+//! Promises: `read_pool` and `write_pool`. `Progress`, `after` and the functions of versions serve the readers and writers of texts that contain a pool.
 #![tactic(auto)]
 
 mod entries;
@@ -15,5 +15,5 @@ mod writing;
 pub use faults::{PoolFault, ReadPool};
 pub use progress::{Progress, after};
 pub use reading::read_pool;
-pub use versions::{version_of, version_word};
+pub use versions::{version_line, version_of, version_word};
 pub use writing::write_pool;

@@ -1,7 +1,7 @@
 //! The versions of a pool's text: what each one has, the first line of each, and which one a pool has.
 
 ghost use Rattle.std.specs.Prelude.{◌≡◌, IfSome, IfNone, IsTrue, false};
-ghost use Rattle.define_bundles.specs.PoolText.{version_field, version_of as own_version};
+ghost use Rattle.define_bundles.specs.PoolText.{version_line as first_line, version_field, version_of as own_version};
 ghost use Rattle.define_bundles.specs.PoolReading.{limits_in as limits, may_house as may, must_house as must, must_pass as passes, is_version_line, version_said};
 
 use define_bundles::Version;
@@ -13,6 +13,17 @@ const FIRST: &[u8] = b"pool\t1";
 const SECOND: &[u8] = b"pool\t2";
 
 const THIRD: &[u8] = b"pool\t3";
+
+/// Returns the first line of a text of this version.
+pub fn version_line(version: Version) -> &'static [u8]
+    ensures { result.now ≡ first_line version }
+{
+    match version {
+        Version::First => FIRST,
+        Version::Second => SECOND,
+        Version::Third => THIRD,
+    }
+}
 
 /// Returns the field that spells the version.
 pub fn version_word(version: Version) -> &'static [u8]
