@@ -4,9 +4,10 @@ use Rattle.std.specs.Prelude.{bytes_eq, codes}
 use Rattle.std.specs.Fmt.{decimal}
 use Rattle.std.specs.List.{AllByRecursion, list_all}
 use Rattle.std.specs.Option.{option_map}
-use Rattle.std.proofs.lemmas.Bool.{and_from, and_parts, cond_both, eqb-true, eq-eqb, leb-true, lt-ltb, ltb-true}
+use Rattle.std.proofs.lemmas.Bool.{and_from, and_parts, cond_both, eqb-true, eq-eqb, le-leb, leb-true, lt-ltb, ltb-true}
 use Rattle.define_pools.proofs.Each.{each_map}
-use Rattle.define_pools.specs.Pool.{Pool}
+use Rattle.define_pools.specs.Pool.{Pool, limits_for}
+use Rattle.define_pools.proofs.BuildingLemmas.{volunteers_are_few}
 use Rattle.define_lines.specs.Lines.{line_feed, tab, line_of, fields_of}
 use Rattle.define_lines.specs.Numbers.{number_up_to}
 use Rattle.define_lines.proofs.LineLemmas.{Lacks, fields_of-line_of, line_of-fields_of}

@@ -59,7 +59,7 @@ within_limits_for volunteers few =
     cond_both (leb volunteers (most_volunteers Usual)) Usual Large (λ limits. volunteers ≤ most_volunteers limits) (λ usual. leb-true volunteers (most_volunteers Usual) usual) (λ _. few)
 
 -- a size within any limits is a size within those of every pool
-is_size_of_pool : (limits : Limits) (size : ℕ) → is_size limits size ≡ true → is_size Large size ≡ true
+pub is_size_of_pool : (limits : Limits) (size : ℕ) → is_size limits size ≡ true → is_size Large size ≡ true
 is_size_of_pool limits size h =
     let parts = and_parts (leb 1 size) (leb size (most_members limits)) h in
     let most = leb-true size (most_members limits) parts.1 in
