@@ -11,6 +11,9 @@ use crate::variables::Variable;
 use crate::worst::{Rule, Worst};
 use proof_limits::{Narrow, ProveStop, Span, times, wide_mul, wide_sub};
 
+// How many candidates are picked one by one before the rest is sorted.
+const FEW: usize = 8;
+
 // A slot whose variable can move the row's variable towards its span, with the row's entry there, which is not 0.
 #[derive(Clone, Copy)]
 pub(crate) struct Candidate {
@@ -25,7 +28,14 @@ pub(crate) struct Candidate {
 fn ratio(goal: Narrow, entry: Narrow) -> u128
     requires { entry ≢ pos 0 }
 {
-    (goal.get().unsigned_abs() as u128 * (1 << 60)) / entry.get().unsigned_abs() as u128
+    let scaled = goal.get().unsigned_abs() as u128 * (1 << 60);
+    let divisor = entry.get().unsigned_abs();
+    // (many entries are 1, and a division of 128 bits is slow)
+    if divisor == 1 {
+        scaled
+    } else {
+        scaled / divisor as u128
+    }
 }
 
 // Returns the slot as a candidate if its variable, moved off the end of `span` where it is, moves the row's variable towards the row's
@@ -105,10 +115,38 @@ fn need_after(need: i128, candidate: &Candidate, span: Span) -> Result<i128, Pro
     wide_sub(need, wide_mul(candidate.entry.abs().wide(), gap)?)
 }
 
+// True if a candidate comes before another one: it has the lower ratio, or an equal one and the lower entry, or the lower variable.
+fn is_before(candidate: &Candidate, other: &Candidate) -> bool {
+    let key = (candidate.ratio, candidate.entry.abs(), candidate.variable);
+    key < (other.ratio, other.entry.abs(), other.variable)
+}
+
+// Takes the first candidate in order out of a list whose order may change.
+fn take_first(candidates: &mut Vec<Candidate>) -> Option<Candidate> {
+    let mut first = 0;
+    for place in 0..candidates.len() {
+        if is_before(&candidates[place], &candidates[first]) {
+            first = place;
+        }
+    }
+    if first < candidates.len() {
+        Some(candidates.swap_remove(first))
+    } else {
+        None
+    }
+}
+
+// Moves the variable of a slot to the other end of its span.
+fn flip(slots: &mut [Slot], slot: usize) {
+    if let Some(slot) = slots.get_mut(slot) {
+        slot.is_at_greatest = !slot.is_at_greatest;
+    }
+}
+
 // Moves the candidates, in order, to the other ends of their spans, until one would bring the row's variable back into its span. Returns
-// that candidate, or None if none of them does.
+// that candidate, or None if none of them does. The first ones are picked one by one, since mostly these are enough; then all are sorted.
 fn pass(
-    candidates: &[Candidate],
+    candidates: &mut Vec<Candidate>,
     slots: &mut [Slot],
     spans: &Spans,
     worst: Worst,
@@ -116,14 +154,36 @@ fn pass(
     ensures { IfErr result IsWideOrMemory }
 {
     let mut need = worst.need;
+    for _ in 0..FEW {
+        let Some(candidate) = take_first(candidates) else {
+            return Ok(None);
+        };
+        need = need_after(need, &candidate, spans.of(candidate.variable))?;
+        if need <= 0 {
+            return Ok(Some(candidate));
+        }
+        flip(slots, candidate.slot);
+    }
+    candidates.sort_unstable_by_key(|c| (c.ratio, c.entry.abs(), c.variable));
+    pass_sorted(candidates, slots, spans, need)
+}
+
+// Does what `pass` says with candidates that are in order. `need` is how far the row's variable is still out of its span.
+fn pass_sorted(
+    candidates: &[Candidate],
+    slots: &mut [Slot],
+    spans: &Spans,
+    need: i128,
+) -> Result<Option<Candidate>, ProveStop>
+    ensures { IfErr result IsWideOrMemory }
+{
+    let mut need = need;
     for candidate in candidates {
         need = need_after(need, candidate, spans.of(candidate.variable))?;
         if need <= 0 {
             return Ok(Some(*candidate));
         }
-        if let Some(slot) = slots.get_mut(candidate.slot) {
-            slot.is_at_greatest = !slot.is_at_greatest;
-        }
+        flip(slots, candidate.slot);
     }
     Ok(None)
 }
@@ -141,9 +201,6 @@ pub(crate) fn choose(
 {
     match rule {
         Rule::Least => Ok(least(candidates)),
-        Rule::Farthest => {
-            candidates.sort_unstable_by_key(|c| (c.ratio, c.entry.abs(), c.variable));
-            pass(candidates, slots, spans, worst)
-        }
+        Rule::Farthest => pass(candidates, slots, spans, worst),
     }
 }
