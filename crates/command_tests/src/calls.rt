@@ -1,6 +1,7 @@
 //! Calls of `office` over a source and sinks in memory that use no store: what it answers, what fails, and workers on threads.
 
 use crate::office_calls::{Call, Holding, Told, called};
+use crate::prove_calls::PROVE_ROWS;
 use crate::texts::{
     APART, BARRED, COUPLE, EITHER, EITHER_BUNDLE, FAMILY, FIVE, FOUR, FOUR_BUNDLE, ONE_WOMAN, PAIR,
     REPLACED, SIX, WOMEN_GONE,
@@ -180,21 +181,37 @@ const MAKE_ROWS: &[Row] = &[
     ),
 ];
 
+/// True if the call of the row tells what the row says.
+fn is_told<R: Threads + Sync>(rt: &R, alloc: Global, row: &Row) -> Result<bool, AllocError> {
+    let (words, text, status, out, errs) = row;
+    let told = answer_of(rt, alloc, &asking(words, text))?;
+    Ok(told.is(*status, out, errs))
+}
+
+/// Calls of each command that reads no store, and a text that is too long.
 #[test]
 fn calls_are_answered(rt: HostRuntime) -> Result<(), AllocError> {
     let alloc = rt.alloc();
-    for rows in [ROWS, MAKE_ROWS] {
-        for (words, text, status, out, errs) in rows {
-            let told = answer_of(&rt, alloc, &asking(words, text))?;
-            assert_eq!(rt; told.status, *status, "{words:?}");
-            assert_eq!(rt; told.out.written(), *out, "{words:?}");
-            assert_eq!(rt; told.errs.written(), *errs, "{words:?}");
+    for rows in [ROWS, MAKE_ROWS, PROVE_ROWS] {
+        for row in rows {
+            assert!(rt; is_told(&rt, alloc, row)?, "{:?}", row.0);
         }
     }
     let long = vec![in alloc; b'x'; 16_777_217]?;
     let told = answer_of(&rt, alloc, &asking(&["panel"], &long))?;
-    assert!(rt; told.status == 3 && told.errs.written() == b"input\t0\t10\n".as_slice());
+    assert!(rt; told.is(3, b"", b"input\t0\t10\n"));
     Ok(())
+}
+
+/// True if two calls with these words are done, and print the same text.
+fn is_told_alike<R: Threads + Sync>(
+    rt: &R,
+    alloc: Global,
+    words: &[&str],
+) -> Result<bool, AllocError> {
+    let first = answer_of(rt, alloc, &asking(words, b""))?;
+    let second = answer_of(rt, alloc, &asking(words, b""))?;
+    Ok(second.is(0, first.out.written(), first.errs.written()) && first.status == 0)
 }
 
 /// Two calls of `make` with the same words print the same text.
@@ -212,13 +229,7 @@ fn made_pools_are_answered_alike(rt: HostRuntime) -> Result<(), AllocError> {
         .as_slice(),
         &["make", "--seed=7", "--volunteers=200"],
     ] {
-        let first = answer_of(&rt, alloc, &asking(words, b""))?;
-        let second = answer_of(&rt, alloc, &asking(words, b""))?;
-        assert_eq!(rt; first.status, 0, "{words:?}");
-        assert!(rt;
-            second.status == 0 && second.out.written() == first.out.written(),
-            "{words:?}"
-        );
+        assert!(rt; is_told_alike(&rt, alloc, words)?, "{words:?}");
     }
     Ok(())
 }
@@ -236,37 +247,60 @@ const APART_FILES: &[(&str, &[u8])] = &[
     ),
 ];
 
-/// Three workers are at work at once, for `lottery`, `legs`, `make` and `solve`: a watch holds the pieces of two until the third has started.
-#[test]
-fn the_third_worker_starts_while_two_are_held(rt: HostRuntime) -> Result<(), AllocError> {
-    let alloc = rt.alloc();
+/// Returns a keeper of the first round over the pool `APART`.
+fn apart<R: Threads + Sync>(rt: &R, alloc: Global) -> Result<MapKeeper, AllocError> {
     let mut keeper = MapKeeper::new(alloc, &[])?;
     for (import, file) in APART_FILES {
         let words = [*import, "--store=s"];
         let call = asking(&words, file);
         let none = Holding::none();
-        let told = called(&rt, alloc, &call, &mut keeper, Vec::new(alloc), &none)?;
-        assert_eq!(rt; told.status, 0, "{import}");
+        let _told = called(rt, alloc, &call, &mut keeper, Vec::new(alloc), &none)?;
     }
+    Ok(keeper)
+}
+
+/// True if the call is done, and its third worker starts while the pieces of two are held.
+fn has_three_at_once<R: Threads + Sync>(
+    rt: &R,
+    alloc: Global,
+    keeper: &mut MapKeeper,
+    words: &[&str],
+) -> Result<bool, AllocError> {
+    let watch = Holding::pieces();
+    let call = asking(words, APART);
+    let told = called(rt, alloc, &call, keeper, Vec::new(alloc), &watch)?;
+    Ok(told.status == 0 && watch.has_started() && !watch.was_in_vain())
+}
+
+/// Three workers are at work at once, for `lottery`, `legs`, `make` and `solve`: a watch holds the pieces of two until the third has started.
+#[test]
+fn the_third_worker_starts_while_two_are_held(rt: HostRuntime) -> Result<(), AllocError> {
+    let alloc = rt.alloc();
+    let mut keeper = apart(&rt, alloc)?;
     for words in [
         ["lottery", "--workers=3"].as_slice(),
         &["legs", "--workers=3"],
         &["make", "--seed=7", "--volunteers=20", "--workers=3"],
         &["solve", "--store=s", "--workers=3"],
     ] {
-        let watch = Holding::pieces();
-        let call = asking(words, APART);
-        let told = called(&rt, alloc, &call, &mut keeper, Vec::new(alloc), &watch)?;
-        assert_eq!(rt; told.status, 0, "{words:?}");
-        assert!(rt; watch.has_started(), "{words:?}");
-        assert!(rt; !watch.was_in_vain(), "{words:?}");
+        assert!(rt; has_three_at_once(&rt, alloc, &mut keeper, words)?, "{words:?}");
     }
     Ok(())
 }
 
+type FailingRow = (
+    &'static [u64],
+    &'static [u64],
+    usize,
+    &'static [u64],
+    u8,
+    usize,
+    &'static [u8],
+);
+
 /// Calls of `lottery` in which something fails: which reads of the source, which puts of `out`, how many bytes `out` takes, and which puts
 /// of `errs`; then the status, how many bytes of the answer `out` gained, and what `errs` gained. No put or read is tried again.
-const FAILING: &[(&[u64], &[u64], usize, &[u64], u8, usize, &[u8])] = &[
+const FAILING: &[FailingRow] = &[
     (&[1], &[], 1000, &[], 7, 0, b"read fault\n"),
     (&[2], &[], 1000, &[], 7, 0, b"read fault\n"),
     (&[3], &[], 1000, &[], 0, 218, b""),
@@ -279,81 +313,92 @@ const FAILING: &[(&[u64], &[u64], usize, &[u64], u8, usize, &[u8])] = &[
     (&[], &[2], 1000, &[1], 8, 9, b""),
 ];
 
+/// True if the call of the row tells what the row says.
+fn fails_so<R: Threads + Sync>(
+    rt: &R,
+    alloc: Global,
+    row: &FailingRow,
+) -> Result<bool, AllocError> {
+    let (reads, puts, room, lines, status, written, errs) = row;
+    let call = Call {
+        reads,
+        puts,
+        lines,
+        room: *room,
+        ..asking(&["lottery"], FOUR)
+    };
+    let told = answer_of(rt, alloc, &call)?;
+    Ok(told.is(*status, &FOUR_BUNDLE[..*written.min(&FOUR_BUNDLE.len())], errs))
+}
+
+/// True if `lottery` is cut off after the first `begun` bytes of its answer, where `out` takes `room` bytes and the puts in `puts` fail.
+fn is_cut_off<R: Threads + Sync>(
+    rt: &R,
+    alloc: Global,
+    room: usize,
+    puts: &[u64],
+    begun: usize,
+) -> Result<bool, AllocError> {
+    let call = Call {
+        room,
+        puts,
+        ..asking(&["lottery"], FOUR)
+    };
+    let told = answer_of(rt, alloc, &call)?;
+    Ok(told.is(8, FOUR_BUNDLE.get(..begun).unwrap_or(b"?"), b"write fault\n"))
+}
+
+/// If `out` takes too few bytes, or the put of a line fails, `out` has gained the bytes before that place.
 #[test]
 fn each_failing_is_told(rt: HostRuntime) -> Result<(), AllocError> {
     let alloc = rt.alloc();
-    for (reads, puts, room, lines, status, written, errs) in FAILING {
-        let call = Call {
-            reads,
-            puts,
-            lines,
-            room: *room,
-            ..asking(&["lottery"], FOUR)
-        };
-        let told = answer_of(&rt, alloc, &call)?;
-        assert_eq!(rt; told.status, *status, "{reads:?} {puts:?} {room}");
-        assert!(rt;
-            FOUR_BUNDLE.starts_with(told.out.written()) && told.out.written().len() == *written
-        );
-        assert_eq!(rt; told.errs.written(), *errs, "{reads:?} {puts:?} {room}");
+    for row in FAILING {
+        assert!(rt; fails_so(&rt, alloc, row)?, "{:?} {:?} {}", row.0, row.1, row.2);
     }
-    // If `out` takes too few bytes, or the put of a line fails, `out` has gained the bytes before that place.
     let mut line = 1;
     let mut begun = 0;
     for (length, byte) in FOUR_BUNDLE.iter().enumerate() {
-        let call = Call {
-            room: length,
-            ..asking(&["lottery"], FOUR)
-        };
-        let told = answer_of(&rt, alloc, &call)?;
-        assert!(rt; told.status == 8 && told.out.written() == &FOUR_BUNDLE[..length]);
-        assert_eq!(rt; told.errs.written(), b"write fault\n".as_slice());
+        assert!(rt; is_cut_off(&rt, alloc, length, &[], length)?, "{length}");
         if *byte == b'\n' {
-            let call = Call {
-                puts: &[line],
-                ..asking(&["lottery"], FOUR)
-            };
-            let told = answer_of(&rt, alloc, &call)?;
-            assert!(rt; told.status == 8 && told.errs.written() == b"write fault\n".as_slice());
-            assert!(rt; FOUR_BUNDLE.get(..begun) == Some(told.out.written()));
+            assert!(rt; is_cut_off(&rt, alloc, 1000, &[line], begun)?, "{line}");
             line = u64::saturating_add(line, 1);
             begun = usize::saturating_add(length, 1);
         }
     }
-    assert_eq!(rt; line, 18);
     let call = Call {
         lines: &[1],
         ..asking(&["lottery", "--bits", "1"], EITHER)
     };
     let told = answer_of(&rt, alloc, &call)?;
-    assert!(rt; told.status == 4 && told.errs.written().is_empty());
+    assert!(rt; line == 18 && told.is(4, b"", b""));
     Ok(())
+}
+
+/// True if words that can't be had for this reason are told with this status and this line.
+fn is_told_of_words(
+    alloc: Global,
+    kind: io::ErrorKind,
+    status: u8,
+    line: &[u8],
+) -> Result<bool, AllocError> {
+    let mut errs = MemSink::new(alloc, 100, &[])?;
+    let told = no_words(&mut errs, kind);
+    Ok(told.number() == status && errs.written() == line)
 }
 
 #[test]
 fn words_that_cannot_be_had(rt: HostRuntime) -> Result<(), AllocError> {
     let alloc = rt.alloc();
-    for (kind, status, text) in [
-        (
-            io::ErrorKind::InvalidData,
-            2,
-            b"error: invalid UTF-8 was detected in one or more arguments\n".as_slice(),
-        ),
-        (
-            io::ErrorKind::OutOfMemory,
-            12,
-            b"want of memory\n".as_slice(),
-        ),
-    ] {
-        let mut errs = MemSink::new(alloc, 100, &[])?;
-        assert_eq!(rt; no_words(&mut errs, kind).number(), status);
-        assert_eq!(rt; errs.written(), text);
-    }
+    let no_text = b"error: invalid UTF-8 was detected in one or more arguments\n";
+    assert!(rt; is_told_of_words(alloc, io::ErrorKind::InvalidData, 2, no_text)?);
+    assert!(rt; is_told_of_words(alloc, io::ErrorKind::OutOfMemory, 12, b"want of memory\n")?);
     Ok(())
 }
 
+type LotteryRow = (&'static [u8], &'static [u8], &'static [u8]);
+
 /// What `lottery` prints: the first line of the bundle, the pool that is read, and the lines after the pool.
-const LOTTERIES: &[(&[u8], &[u8], &[u8])] = &[
+const LOTTERIES: &[LotteryRow] = &[
     (
         b"bundle\t1\n",
         FOUR,
@@ -391,22 +436,39 @@ const LOTTERIES: &[(&[u8], &[u8], &[u8])] = &[
     ),
 ];
 
+/// The words of calls that print the same lottery.
+const LOTTERY_WORDS: &[&[&str]] = &[
+    &["lottery", "--workers=1"],
+    &["lottery", "--workers=2"],
+    &["lottery", "--workers=7"],
+    &["lottery", "--share", "--workers=7"],
+];
+
+/// True if each call prints the lottery of the row, and `check` finds it valid.
+fn is_found_and_checked<R: Threads + Sync>(
+    rt: &R,
+    alloc: Global,
+    row: &LotteryRow,
+) -> Result<bool, AllocError> {
+    let (first, pool, rest) = row;
+    let mut bundle = Vec::from_slice(alloc, first)?;
+    bundle.extend_from_slice(pool)?;
+    bundle.extend_from_slice(rest)?;
+    for words in LOTTERY_WORDS {
+        let told = answer_of(rt, alloc, &asking(words, pool))?;
+        if !told.is(0, &bundle, b"") {
+            return Ok(false);
+        }
+    }
+    let told = answer_of(rt, alloc, &asking(&["check"], &bundle))?;
+    Ok(told.is(0, b"valid\n", b""))
+}
+
 #[test]
 fn lotteries_are_checked(rt: HostRuntime) -> Result<(), AllocError> {
     let alloc = rt.alloc();
-    for (first, pool, rest) in LOTTERIES {
-        let mut bundle = Vec::from_slice(alloc, first)?;
-        bundle.extend_from_slice(pool)?;
-        bundle.extend_from_slice(rest)?;
-        for workers in ["--workers=1", "--workers=2", "--workers=7"] {
-            let told = answer_of(&rt, alloc, &asking(&["lottery", workers], pool))?;
-            assert_eq!(rt; told.out.written(), bundle.as_slice());
-        }
-        let sharing = ["lottery", "--share", "--workers=7"];
-        let told = answer_of(&rt, alloc, &asking(&sharing, pool))?;
-        assert_eq!(rt; told.out.written(), bundle.as_slice());
-        let told = answer_of(&rt, alloc, &asking(&["check"], &bundle))?;
-        assert_eq!(rt; told.out.written(), b"valid\n".as_slice());
+    for (place, row) in LOTTERIES.iter().enumerate() {
+        assert!(rt; is_found_and_checked(&rt, alloc, row)?, "{place}");
     }
     Ok(())
 }

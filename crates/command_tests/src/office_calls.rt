@@ -44,6 +44,13 @@ pub(crate) struct Told {
     pub(crate) door: MemDoor,
 }
 
+impl Told {
+    /// True if the call had this status, and `out` and `errs` gained these bytes.
+    pub(crate) fn is(&self, status: u8, out: &[u8], errs: &[u8]) -> bool {
+        self.status == status && self.out.written() == out && self.errs.written() == errs
+    }
+}
+
 /// Makes a call over the store of `keeper` and a door with these links.
 pub(crate) fn called<R: Threads + Sync>(
     rt: &R,

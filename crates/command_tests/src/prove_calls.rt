@@ -5,10 +5,11 @@ use crate::texts::{
     FOUR, FOUR_BUNDLE, FOUR_BUNDLE_PROVED, FOUR_PROOF, FOUR_PROVED, MEN_LEFT, PASSED_CAP, SHORT,
     SHORT_PROVED, TOTAL_OF_THREE,
 };
-use std::alloc::AllocError;
+use std::alloc::{AllocError, Global};
+use std::thread::Threads;
 
 /// Calls of `prove`.
-const PROVE_ROWS: &[Row] = &[
+pub(crate) const PROVE_ROWS: &[Row] = &[
     (&["prove"], FOUR, 0, FOUR_PROVED, b""),
     (&["prove"], SHORT, 1, SHORT_PROVED, b""),
     // the run of `lottery` takes over, and its lottery is proved as a bundle
@@ -49,22 +50,26 @@ const PROVE_ROWS: &[Row] = &[
     (&["prove"], b"bundle\t3\n", 3, b"", b"input\t1\t13\n"),
 ];
 
+/// True if `prove` is told that the first `length` bytes of a pool have their fault in this line, of which they are the beginning.
+fn is_told_of_cut<R: Threads + Sync>(
+    rt: &R,
+    alloc: Global,
+    length: usize,
+    line: usize,
+) -> Result<bool, AllocError> {
+    let begun = FOUR.get(..length).unwrap_or(b"");
+    let told = answer_of(rt, alloc, &asking(&["prove"], begun))?;
+    let errs = format!(in alloc; "input\t{line}\t12\n")?;
+    Ok(told.is(3, b"", errs.as_bytes()))
+}
+
 /// A pool that is cut off has its fault in the line after its last whole line.
 #[test]
-fn proofs_are_answered(rt: HostRuntime) -> Result<(), AllocError> {
+fn a_cut_pool_is_told(rt: HostRuntime) -> Result<(), AllocError> {
     let alloc = rt.alloc();
-    for (words, text, status, out, errs) in PROVE_ROWS {
-        let told = answer_of(&rt, alloc, &asking(words, text))?;
-        assert_eq!(rt; told.status, *status, "{words:?}");
-        assert_eq!(rt; told.out.written(), *out, "{words:?}");
-        assert_eq!(rt; told.errs.written(), *errs, "{words:?}");
-    }
     let mut line = 1;
     for (length, byte) in FOUR.iter().enumerate() {
-        let told = answer_of(&rt, alloc, &asking(&["prove"], &FOUR[..length]))?;
-        let errs = format!(in alloc; "input\t{line}\t12\n")?;
-        assert!(rt; told.status == 3 && told.errs.written() == errs.as_bytes());
-        assert!(rt; told.out.written().is_empty());
+        assert!(rt; is_told_of_cut(&rt, alloc, length, line)?, "{length}");
         if *byte == b'\n' {
             line = usize::saturating_add(line, 1);
         }
