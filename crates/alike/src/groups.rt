@@ -145,8 +145,8 @@ impl ValueBounds {
 }
 
 /// The classes of a pool, in the order of their first members, with the size of a panel and the bounds of each category's values. They
-/// are within the limits of a pool: a size from 1 to 200; at most 20 categories of at most 50 values, each with a lower bound that is at
-/// most the upper one, which is at most 999; at most 400 classes with at most 400 members in all, each class with a member and with a value
+/// are within the limits of a pool: a size from 1 to 1,000; at most 20 categories of at most 50 values, each with a lower bound that is at
+/// most the upper one, which is at most 999; at most 4,000 classes with at most 4,000 members in all, each class with a member and with a value
 /// of each category. Each volunteer is in exactly one class.
 #[derive(Debug, Drop)]
 pub struct Classes {

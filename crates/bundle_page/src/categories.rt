@@ -22,7 +22,7 @@ pub(crate) fn push_categories(
     total: u128,
 ) -> Result<(), AllocError>
     requires each { length counts.now ≡ length pool.now.volunteers }
-    requires few { length pool.now.volunteers ≤ 400 }
+    requires few { length pool.now.volunteers ≤ 4000 }
     requires within { EachIndex counts.now (λ i. slice_index counts.now i ≤ total) }
     requires some { 1 ≤ total }
     requires most { total ≤ 10 ^ 38 }
@@ -45,7 +45,7 @@ fn push_category(
     category: &Category,
 ) -> Result<(), AllocError>
     requires each { length counts.now ≡ length pool.now.volunteers }
-    requires few { length pool.now.volunteers ≤ 400 }
+    requires few { length pool.now.volunteers ≤ 4000 }
     requires within { EachIndex counts.now (λ i. slice_index counts.now i ≤ total) }
     requires some { 1 ≤ total }
     requires most { total ≤ 10 ^ 38 }
@@ -68,7 +68,7 @@ fn push_values(
     category: &Category,
 ) -> Result<(), AllocError>
     requires each { length counts.now ≡ length pool.now.volunteers }
-    requires few { length pool.now.volunteers ≤ 400 }
+    requires few { length pool.now.volunteers ≤ 4000 }
     requires within { EachIndex counts.now (λ i. slice_index counts.now i ≤ total) }
     requires some { 1 ≤ total }
     requires most { total ≤ 10 ^ 38 }

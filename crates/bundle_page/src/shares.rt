@@ -30,7 +30,7 @@ pub(crate) fn share_of(
     value: &BoundedValue,
 ) -> Share
     requires each { length counts.now ≡ length volunteers.now }
-    requires few { length volunteers.now ≤ 400 }
+    requires few { length volunteers.now ≤ 4000 }
     requires within { EachIndex counts.now (λ i. slice_index counts.now i ≤ total) }
     requires some { 1 ≤ total }
     requires most { total ≤ 10 ^ 38 }

@@ -126,7 +126,7 @@ fn page_of_counts(
     drawn: &[u8],
 ) -> Result<Vec<u8>, AllocError>
     requires each { length counts.now ≡ length pool.now.volunteers }
-    requires few { length pool.now.volunteers ≤ 400 }
+    requires few { length pool.now.volunteers ≤ 4000 }
     requires within { EachIndex counts.now (λ i. slice_index counts.now i ≤ total) }
     requires some { 1 ≤ total }
     requires most { total ≤ 10 ^ 38 }
@@ -167,7 +167,7 @@ fn push_lower(
     seal: &[u8],
 ) -> Result<(), AllocError>
     requires each { length counts.now ≡ length pool.now.volunteers }
-    requires few { length pool.now.volunteers ≤ 400 }
+    requires few { length pool.now.volunteers ≤ 4000 }
     requires within { EachIndex counts.now (λ i. slice_index counts.now i ≤ total) }
     requires some { 1 ≤ total }
     requires most { total ≤ 10 ^ 38 }

@@ -26,7 +26,7 @@ stops_at T number progress rest line later parted wanted same stop tells told e 
 -- if `IsRight` holds of a progress, so does `IsDoneRight`
 pub done_right : (progress : Progress) → IsRight progress → IsDoneRight progress
 done_right Begun right = tt
-done_right (InPool second progress) right = tt
+done_right (InPool version progress) right = tt
 done_right (InRows pool lottery) right = tt
 done_right (InStages pool answer) right = tt
 done_right (Done bundle) right = right.in_ranges

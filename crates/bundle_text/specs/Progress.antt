@@ -16,7 +16,7 @@ said Unknown = words.Unknown
 
 abbrev pub seen : Progress → words.Progress
 seen Begun = words.Begun
-seen (InPool second progress) = words.InPool second (pools.seen progress)
+seen (InPool version progress) = words.InPool version (pools.seen progress)
 seen (InRows pool lottery) = words.InRows pool lottery
 seen (InStages pool lottery stages) = words.InStages pool (record { lottery = lottery; stages = stages })
 seen (Done pool answer) = words.Done (record { pool = pool; answer = answer })
@@ -24,7 +24,7 @@ seen (Done pool answer) = words.Done (record { pool = pool; answer = answer })
 -- if the progress is `Done`, the numbers of its answer are in the ranges of a bundle
 abbrev pub IsDoneRight : words.Progress → Type 0
 IsDoneRight words.Begun = Unit {0}
-IsDoneRight (words.InPool second progress) = Unit {0}
+IsDoneRight (words.InPool version progress) = Unit {0}
 IsDoneRight (words.InRows pool lottery) = Unit {0}
 IsDoneRight (words.InStages pool answer) = Unit {0}
 IsDoneRight (words.Done bundle) = IsInRanges bundle.pool bundle.answer

@@ -9,7 +9,7 @@ pub struct BundleFault {
     pub line: usize,
     /// The lowest kind of fault in it:
     /// - 1 to 12 within the pool's text, the kinds of `PoolFault`; 1 also if the pool's version isn't that of the bundle
-    /// - 13 the first line isn't that of a bundle of version 1 or 2
+    /// - 13 the first line isn't that of a bundle of version 1, 2 or 3
     /// - 14 the line after the pool isn't a total from 1 to 10^38
     /// - 15 after the total or a panel line, the line is no right panel line and, if it follows a panel line, doesn't begin with `stage`
     /// - 16 after a stage line, the line is neither a right stage line nor `done`; or after a panel line it begins with `stage` and

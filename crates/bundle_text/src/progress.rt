@@ -3,23 +3,21 @@
 ghost use Rattle.std.specs.Prelude.{◌≡◌, IfOk};
 ghost use Rattle.pool_text.specs.Answers.{Tells};
 ghost use Rattle.pool_text.specs.Progress.{seen as pool_seen};
-ghost use Rattle.define_bundles.specs.PoolText.{version_line};
 ghost use Rattle.define_bundles.specs.BundleReading.{line_kind, after_line, Begun, InPool, InRows, InStages};
 ghost use Rattle.bundle_text.specs.Progress.{seen};
 
 use crate::lines::{AnswerLine, answer_line, total_of};
+use define_bundles::Version;
 use pool_model::{Answer, BuildStop, Certificate, Lottery, Pool};
-use pool_text::Progress as PoolProgress;
+use pool_text::{Progress as PoolProgress, version_line};
 use std::alloc::Global;
 
-const FIRST_VERSION: &[u8] = b"bundle\t1";
+/// The first line of each version.
+const FIRST: &[u8] = b"bundle\t1";
 
-const SECOND_VERSION: &[u8] = b"bundle\t2";
+const SECOND: &[u8] = b"bundle\t2";
 
-/// The pool's first line in a bundle of version 1.
-const FIRST_POOL: &[u8] = b"pool\t1";
-
-const SECOND_POOL: &[u8] = b"pool\t2";
+const THIRD: &[u8] = b"bundle\t3";
 
 /// The kind of fault if the pool's first line isn't the one of the bundle's version.
 const FORM: u8 = 1;
@@ -44,8 +42,8 @@ pub(crate) const ENDING: u8 = 17;
 pub enum Progress {
     /// Before the first line.
     Begun,
-    /// After the first line: true for version 2 or false for version 1, and the progress of the pool's lines.
-    InPool(bool, PoolProgress),
+    /// After the first line: the version, and the progress of the pool's lines.
+    InPool(Version, PoolProgress),
     /// After the total: the pool, and the lottery with the panels read so far.
     InRows(Pool, Lottery),
     /// After at least one stage line: also the stages read so far.
@@ -61,7 +59,7 @@ pub fn after(alloc: Global, progress: Progress, line: &[u8]) -> Result<Progress,
 {
     match progress {
         Progress::Begun => first_line(line),
-        Progress::InPool(second, progress) => after_pool(alloc, second, progress, line),
+        Progress::InPool(version, progress) => after_pool(alloc, version, progress, line),
         Progress::InRows(pool, lottery) => after_row(alloc, pool, lottery, line),
         Progress::InStages(pool, lottery, certificate) => {
             after_stage(alloc, pool, lottery, certificate, line)
@@ -74,10 +72,12 @@ fn first_line(line: &[u8]) -> Result<Progress, BuildStop>
     ensures kind { Tells (line_kind Begun line.now) result }
     ensures ok { IfOk result (λ next. seen next ≡ after_line Begun line.now) }
 {
-    if line == FIRST_VERSION {
-        Ok(Progress::InPool(false, PoolProgress::Begun))
-    } else if line == SECOND_VERSION {
-        Ok(Progress::InPool(true, PoolProgress::Begun))
+    if line == FIRST {
+        Ok(Progress::InPool(Version::First, PoolProgress::Begun))
+    } else if line == SECOND {
+        Ok(Progress::InPool(Version::Second, PoolProgress::Begun))
+    } else if line == THIRD {
+        Ok(Progress::InPool(Version::Third, PoolProgress::Begun))
     } else {
         Err(BuildStop::Kind(VERSION))
     }
@@ -86,28 +86,21 @@ fn first_line(line: &[u8]) -> Result<Progress, BuildStop>
 /// Returns the progress after a line of the pool, or after the total line that follows the pool.
 fn after_pool(
     alloc: Global,
-    second: bool,
+    version: Version,
     progress: PoolProgress,
     line: &[u8],
 ) -> Result<Progress, BuildStop>
-    ensures kind { Tells (line_kind (InPool second (pool_seen progress)) line.now) result }
-    ensures ok { IfOk result (λ next. seen next ≡ after_line (InPool second (pool_seen progress)) line.now) }
+    ensures kind { Tells (line_kind (InPool version (pool_seen progress)) line.now) result }
+    ensures ok { IfOk result (λ next. seen next ≡ after_line (InPool version (pool_seen progress)) line.now) }
 {
     match progress {
-        PoolProgress::Begun if line != pool_line(second) => Err(BuildStop::Kind(FORM)),
+        PoolProgress::Begun if line != version_line(version) => Err(BuildStop::Kind(FORM)),
         PoolProgress::Ended(pool) => match total_of(alloc, line)? {
             Some(total) => Ok(Progress::InRows(pool, Lottery::new(total, Vec::new(alloc)))),
             None => Err(BuildStop::Kind(TOTAL)),
         },
-        progress => Ok(Progress::InPool(second, pool_text::after(alloc, progress, line)?)),
+        progress => Ok(Progress::InPool(version, pool_text::after(alloc, progress, line)?)),
     }
-}
-
-/// Returns the first line of a pool in a bundle of version 2 if `second`, else of version 1.
-fn pool_line(second: bool) -> &'static [u8]
-    ensures { result.now ≡ version_line second }
-{
-    if second { SECOND_POOL } else { FIRST_POOL }
 }
 
 /// Returns the progress after a line that follows the total or a panel line.

@@ -71,7 +71,7 @@ fn last(progress: Progress, line: usize, rest: &[u8]) -> Result<Bundle, ReadBund
     match progress {
         Progress::Done(pool, answer) => Ok(finished(pool, answer)),
         Progress::Begun => Err(missing),
-        Progress::InPool(_second, _progress) => Err(missing),
+        Progress::InPool(_version, _progress) => Err(missing),
         Progress::InRows(_pool, _lottery) => Err(missing),
         Progress::InStages(_pool, _lottery, _certificate) => Err(missing),
     }

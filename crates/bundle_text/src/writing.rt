@@ -7,8 +7,8 @@ ghost use Rattle.define_bundles.specs.Ranges.{IsInRanges};
 ghost use Rattle.define_bundles.specs.BundleText.{total_line, panel_line, stage_line, done_line, answer_lines, bundle_text};
 ghost use Rattle.define_bundles.specs.BundleReading.{read_bundle};
 
-use pool_model::{Answer, Lottery, LotteryRow, Pool, Stage, has_households};
-use pool_text::{version, write_pool};
+use pool_model::{Answer, Lottery, LotteryRow, Pool, Stage};
+use pool_text::{version_of, version_word, write_pool};
 use std::alloc::{AllocError, Global};
 use text_lines::{end_line, push_line, push_numbers, push_signed, push_signed_numbers};
 
@@ -20,7 +20,7 @@ pub fn write_bundle(alloc: Global, pool: &Pool, answer: &Answer) -> Result<Vec<u
 {
     pool.facts();
     let mut text = Vec::new(alloc);
-    push_line(&mut text, b"bundle", &[version(has_households(pool))])?;
+    push_line(&mut text, b"bundle", &[version_word(version_of(pool))])?;
     push_pool(alloc, &mut text, pool)?;
     push_answer(&mut text, answer)?;
     Ok(text)

@@ -29,13 +29,13 @@ pub fn sum_with(
     value_place: usize,
 ) -> Sum
     requires each { length counts.now ≡ length volunteers.now }
-    requires few { length volunteers.now ≤ 400 }
+    requires few { length volunteers.now ≤ 4000 }
     requires within { EachIndex counts.now (λ i. slice_index counts.now i ≤ total) }
     requires some { 1 ≤ total }
     requires most { total ≤ 10 ^ 38 }
     ensures value { result.whole * total + result.rest ≡ count_with volunteers.now counts.now place value_place }
     ensures rest { result.rest < total }
-    ensures few { result.whole ≤ 400 }
+    ensures few { result.whole ≤ 4000 }
 {
     let mut sum = Sum { whole: 0, rest: 0 };
     for (i, volunteer) in volunteers.iter().enumerate() {
@@ -56,7 +56,7 @@ fn value_at(volunteer: &Volunteer, place: usize) -> usize
 /// Returns the sum with `count` added.
 fn with_count(sum: Sum, count: u128, total: u128) -> Sum
     requires rest { sum.rest < total }
-    requires few { sum.whole < 400 }
+    requires few { sum.whole < 4000 }
     requires within { count ≤ total }
     requires most { total ≤ 10 ^ 38 }
     ensures value { result.whole * total + result.rest ≡ sum.whole * total + sum.rest + count }
@@ -80,7 +80,7 @@ fn with_count(sum: Sum, count: u128, total: u128) -> Sum
 /// Returns a sum of chances in ten-thousandths, rounded to the nearest number, and up from a half.
 pub fn rounded_sum(sum: Sum, total: u128) -> u128
     requires rest { sum.rest < total }
-    requires few { sum.whole ≤ 400 }
+    requires few { sum.whole ≤ 4000 }
     requires most { total ≤ 10 ^ 38 }
     ensures value { result ≡ value_of_ten_thousandths (sum.whole * total + sum.rest) total }
     ensures few { result ≤ 4010000 }
@@ -91,7 +91,7 @@ pub fn rounded_sum(sum: Sum, total: u128) -> u128
 /// Returns the text of a sum of chances, in lowest terms.
 pub fn sum_text(alloc: Global, sum: Sum, total: u128) -> Result<Vec<u8>, AllocError>
     requires rest { sum.rest < total }
-    requires few { sum.whole ≤ 400 }
+    requires few { sum.whole ≤ 4000 }
     requires most { total ≤ 10 ^ 38 }
     ensures { IfOk result (λ text. text.items ≡ fraction_text (lowest_of (sum.whole * total + sum.rest) total)) }
 {
@@ -101,7 +101,7 @@ pub fn sum_text(alloc: Global, sum: Sum, total: u128) -> Result<Vec<u8>, AllocEr
 /// Returns the text that `sum_text` returns. It brings the rest to lowest terms, and adds the whole number.
 fn lowest_text(alloc: Global, sum: Sum, total: u128) -> Result<Vec<u8>, AllocError>
     requires rest { sum.rest < total }
-    requires few { sum.whole ≤ 400 }
+    requires few { sum.whole ≤ 4000 }
     requires most { total ≤ 10 ^ 38 }
     ensures { IfOk result (λ text. text.items ≡ fraction_text (record {
       num = sum.whole * (lowest_of sum.rest total).den + (lowest_of sum.rest total).num;
@@ -119,7 +119,7 @@ fn lowest_text(alloc: Global, sum: Sum, total: u128) -> Result<Vec<u8>, AllocErr
 
 /// Returns the text of `whole + num / den` as one fraction.
 fn fraction_of(alloc: Global, whole: u128, num: u128, den: u128) -> Result<Vec<u8>, AllocError>
-    requires few { whole ≤ 400 }
+    requires few { whole ≤ 4000 }
     requires num { num ≤ 10 ^ 38 }
     requires den { den ≤ 10 ^ 38 }
     ensures { IfOk result (λ text. text.items ≡ fraction_text (record { num = whole * den + num; den = den })) }
@@ -133,7 +133,7 @@ fn fraction_of(alloc: Global, whole: u128, num: u128, den: u128) -> Result<Vec<u
 
 /// Returns the digits of `whole * den + num`. The number may pass 128 bits, so its last 19 digits are computed apart from the others.
 fn numerator(alloc: Global, whole: u128, num: u128, den: u128) -> Result<Vec<u8>, AllocError>
-    requires few { whole ≤ 400 }
+    requires few { whole ≤ 4000 }
     requires num { num ≤ 10 ^ 38 }
     requires den { den ≤ 10 ^ 38 }
     ensures { IfOk result (λ text. text.items ≡ decimal (whole * den + num)) }

@@ -146,8 +146,8 @@ impl ValueBounds {
 }
 
 /// The classes of a pool, in the order of their first members, with the size of a panel and the bounds of each category's values. They are
-/// within the limits of a pool. The size is from 1 to 200. There are at most 20 categories of at most 50 values, and a value's lower bound
-/// is at most its upper one, which is at most 999. There are at most 400 classes with at most 400 members in all. Each class has a member,
+/// within the limits of a pool. The size is from 1 to 1,000. There are at most 20 categories of at most 50 values, and a value's lower bound
+/// is at most its upper one, which is at most 999. There are at most 4,000 classes with at most 4,000 members in all. Each class has a member,
 /// and a value of each category.
 #[derive(Debug, Drop)]
 pub struct Classes {

@@ -254,7 +254,7 @@ impl Search {
         requires terms { AreTerms terms.now }
         requires below { depth < length terms.now.classes.classes }
         requires can_take { CanTake terms.now.classes depth (least + above) }
-        requires few { least + above ≤ 400 }
+        requires few { least + above ≤ 4000 }
         requires stands { StandsAt terms.now.classes terms.now.closed.items terms.now.row depth (drop (depth + 1) terms.now.classes.classes) self.old }
         ensures { Steps terms.now.classes terms.now.closed.items terms.now.row depth (drop (depth + 1) terms.now.classes.classes)
             (children_above terms.now.classes terms.now.closed.items terms.now.row (drop (depth + 1) terms.now.classes.classes) (take depth self.old.counts.items) (counts_down least above))

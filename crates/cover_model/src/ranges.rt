@@ -7,10 +7,7 @@ ghost use Rattle.define_cover_texts.specs.CoverText.{keep_ranges};
 ghost use Rattle.cover_model.specs.Causes.{seen_cause};
 
 use crate::fronts::{Cause, FrontLine, Fronts};
-use pool_model::Pool;
-
-/// The greatest count of a front: a pool has at most 400 volunteers.
-const MOST_COUNT: usize = 400;
+use pool_model::{Limits, Pool};
 
 /// Returns how many values all categories of the pool have.
 pub fn value_count(pool: &Pool) -> usize
@@ -26,13 +23,13 @@ pub fn value_count(pool: &Pool) -> usize
 }
 
 /// True if the number of the cause's value is that of a value of the pool, the number of its earlier stage is below `stage`, the front has
-/// at most one count per volunteer, and each count is at most 400.
+/// at most one count per volunteer, and each count is at most the limit of the pool's volunteers.
 pub fn is_front_line(pool: &Pool, stage: usize, line: &FrontLine) -> bool
     ensures { result ≡ keeps_line pool.now stage line.now }
 {
     is_cause(pool, stage, line.cause())
         && line.front().len() <= pool.volunteers().len()
-        && are_counts(line.front())
+        && are_counts(pool.volunteers().len(), line.front())
 }
 
 /// True if the number of the cause is in its range.
@@ -53,11 +50,12 @@ fn is_numbered(last: usize, number: usize) -> bool
     0 < number && number <= last
 }
 
-/// True if each count is at most 400.
-fn are_counts(counts: &[usize]) -> bool
-    ensures { result ≡ list_all (λ c. nat_le c most_count) counts.now }
+/// True if each count is at most the limit of volunteers of a pool with this many.
+fn are_counts(volunteers: usize, counts: &[usize]) -> bool
+    ensures { result ≡ list_all (λ c. nat_le c (most_count volunteers)) counts.now }
 {
-    counts.iter().all(|count| *count <= MOST_COUNT)
+    let most = Limits::of(volunteers).volunteers();
+    counts.iter().all(|count| *count <= most)
 }
 
 /// True if all lines of all trees are in their ranges, each for the stage of its tree.

@@ -3,7 +3,7 @@
 
 ghost use Rattle.std.specs.Prelude.{◌≡◌, ◌<◌, ◌^◌, ◌==◌, nat_lt, ◌&&◌, if◌then◌else◌, map, IfOk, option_map};
 ghost use Rattle.define_bundles.specs.BundleReading.{numbers_up_to};
-ghost use Rattle.define_covers.specs.CoverRanges.{most_count};
+ghost use Rattle.define_covers.specs.CoverRanges.{greatest_count};
 ghost use Rattle.define_cover_texts.specs.CoverText.{most_trees};
 ghost use Rattle.define_cover_texts.specs.CoverReading.{NextTree, TheClose, Unknown, cause_of as cause_in, fields_said, front_in_range, front_said, line_in_tree as line_said, unnumbered as unnumbered_in};
 ghost use Rattle.cover_model.specs.Causes.{seen_cause};
@@ -16,7 +16,7 @@ use std::alloc::{AllocError, Global};
 use text_lines::{fields, number_up_to};
 
 /// The greatest count of a front.
-const MOST_COUNT: usize = 400;
+const MOST_COUNT: usize = 4000;
 
 const CLOSE: &[u8] = b"close";
 
@@ -174,9 +174,9 @@ fn unnumbered(cause: Cause, argument: &[u8]) -> Option<Cause>
     if argument == ZERO { Some(cause) } else { None }
 }
 
-/// Reads counts up to 400. Returns None if a field spells none.
+/// Reads counts up to 4,000. Returns None if a field spells none.
 fn counts_of(alloc: Global, fields: &[&[u8]]) -> Result<Option<Vec<usize>>, AllocError>
-    ensures { IfOk result (λ counts. option_map (λ v. v.items) counts ≡ numbers_up_to most_count (map (λ field. field.now) fields.now)) }
+    ensures { IfOk result (λ counts. option_map (λ v. v.items) counts ≡ numbers_up_to greatest_count (map (λ field. field.now) fields.now)) }
 {
     let mut counts = Vec::with_capacity(alloc, fields.len())?;
     for field in fields {

@@ -152,15 +152,15 @@ signed_field (negsuc n) small =
       utf8 = is_utf8-from_IsUtf8 (45 ∷ decimal (suc n)) (IsUtf8-append (45 ∷ []) (decimal (suc n)) (IsUtf8-from_ascii (45 ∷ []) minus_is_ascii) (IsUtf8-from_is_utf8 (decimal (suc n)) digits.utf8));
     }
 
--- if numbers are below a limit of at most 400, their digits are fields, and are read as the same numbers
-numbers_are_fields : (limit : ℕ) → limit ≤ 400 → (numbers : List ℕ) → list_all (λ i. ltb i limit) numbers ≡ true → AllByRecursion IsField (map decimal numbers)
+-- if numbers are below a limit of at most 4,000, their digits are fields, and are read as the same numbers
+numbers_are_fields : (limit : ℕ) → limit ≤ 4000 → (numbers : List ℕ) → list_all (λ i. ltb i limit) numbers ≡ true → AllByRecursion IsField (map decimal numbers)
 numbers_are_fields limit small [] h = tt
 numbers_are_fields limit small (number ∷ numbers) h =
     let parts = and_parts (ltb number limit) (list_all (λ i. ltb i limit) numbers) h in
     let below = ltb-true number limit parts.0 in
     (decimal_field number (omega arith), numbers_are_fields limit small numbers parts.1)
 
-numbers_again : (limit : ℕ) → limit ≤ 400 → (numbers : List ℕ) → list_all (λ i. ltb i limit) numbers ≡ true → numbers_up_to limit (map decimal numbers) ≡ Some numbers
+numbers_again : (limit : ℕ) → limit ≤ 4000 → (numbers : List ℕ) → list_all (λ i. ltb i limit) numbers ≡ true → numbers_up_to limit (map decimal numbers) ≡ Some numbers
 numbers_again limit small [] h = refl
 numbers_again limit small (number ∷ numbers) h =
     let parts = and_parts (ltb number limit) (list_all (λ i. ltb i limit) numbers) h in
@@ -197,14 +197,14 @@ row_parts volunteers row is =
     let parts = and_parts (is_weight row.weight) (is_group volunteers row.panel) is in
     record { weight = parts.0; below = (and_parts (ltb 0 (length row.panel) && is_increasing row.panel) (list_all (λ i. ltb i volunteers) row.panel) parts.1).1 }
 
-pub row_fields : (volunteers : ℕ) → volunteers ≤ 400 → (row : LotteryRow) → is_row volunteers row ≡ true → AllByRecursion IsField (codes "panel" ∷ decimal row.weight ∷ map decimal row.panel)
+pub row_fields : (volunteers : ℕ) → volunteers ≤ 4000 → (row : LotteryRow) → is_row volunteers row ≡ true → AllByRecursion IsField (codes "panel" ∷ decimal row.weight ∷ map decimal row.panel)
 row_fields volunteers small row is =
     let parts = row_parts volunteers row is in
     let most = weight_at_most row.weight parts.weight in
     (plain_field (codes "panel") refl, (decimal_field row.weight (omega arith), numbers_are_fields volunteers small row.panel parts.below))
 
 -- if `is_row` holds of a row, its line is read as this row
-pub row_again : (volunteers : ℕ) → volunteers ≤ 400 → (row : LotteryRow) → is_row volunteers row ≡ true → answer_line volunteers (fields_of (panel_line row)) ≡ OfRow row
+pub row_again : (volunteers : ℕ) → volunteers ≤ 4000 → (row : LotteryRow) → is_row volunteers row ≡ true → answer_line volunteers (fields_of (panel_line row)) ≡ OfRow row
 row_again volunteers small row is =
     let parts = row_parts volunteers row is in
     let most = weight_at_most row.weight parts.weight in

@@ -1,4 +1,4 @@
--- The lines before the first faulty line begin the text of some pool, or are right lines of version 2 that still lack a household line.
+-- The lines before the first faulty line begin the text of some pool, or are right lines of version 2 or 3 that still lack others.
 -- Together with the faulty line they begin no pool's text, unless the fault is a missing end.
 use Rattle.std.proofs.Common.{◌≡◌, ◌≢◌, ℕ, suc, Bool, true, false, eqb, ltb, ◌+◌, ◌-◌, ◌<◌, List, [], ◌∷◌, ◌++◌, length, take, get_or, refl, sym, ◌∙◌, ap, subst, arith, append_assoc, length-append, Some, None, ◌⊎◌, inl, inr}
 use Rattle.std.specs.Prelude.{Result, Ok, Err}
@@ -6,13 +6,14 @@ use Rattle.std.specs.List.{AllByRecursion}
 use Rattle.std.proofs.Math.Seq.{get_or-append_seam, take-append_seam}
 use Rattle.std.proofs.lemmas.Grind.{flat_map-append}
 use Rattle.std.proofs.lemmas.List.{append-nil}
-use Rattle.std.proofs.lemmas.Bool.{and_parts, eqb-true}
+use Rattle.std.proofs.lemmas.Bool.{and_parts, or_from, eqb-true, false≢true}
 use Rattle.std.specs.Prelude.{codes}
 use Rattle.std.specs.Str.{is_utf8, chars}
 use Rattle.define_pools.proofs.Each.{each_left}
 use lib.Utf8.{encode}
+use Rattle.define_pools.specs.declared.Limits.TheVariants.{Large}
 use Rattle.define_pools.specs.declared.Standing.TheVariants.{Open}
-use Rattle.define_pools.specs.Pool.{Pool, IsPool}
+use Rattle.define_pools.specs.Pool.{Pool, IsPool, is_usual}
 use Rattle.define_pools.specs.Building.{empty_pool}
 use Rattle.define_pools.proofs.BuildingLemmas.{IsPool-empty_pool}
 use Rattle.define_lines.specs.Lines.{Fault, line_feed, pieces_of, text_of}
@@ -20,8 +21,10 @@ use Rattle.define_lines.specs.Reading.{fault_or, read_lines}
 use Rattle.define_lines.proofs.LineLemmas.{Lacks, pieces_lack, some_piece, pieces_of-text_of_then}
 use Rattle.define_bundles.specs.PoolText.{version_line, size_line, end_line, lines_in, lines_before_end, spelling}
 use Rattle.define_bundles.specs.declared.Passed.{Passed}
-use Rattle.define_bundles.specs.PoolReading.{Progress, Begun, Versioned, Inside, Ended, awaits_household, line_kind, line_kinds, after_line, at_last, read, reader}
-use Rattle.define_bundles.specs.FirstFault.{IsPoolText, BeginsPoolText, AwaitsHousehold, lines_before, lines_up_to, IsLowest, after_lines, kinds_at}
+use Rattle.define_bundles.specs.declared.Version.{Version}
+use Rattle.define_bundles.specs.declared.Version.TheVariants.{First, Second, Third}
+use Rattle.define_bundles.specs.PoolReading.{Progress, Begun, Versioned, Inside, Ended, must_house, must_pass, awaits_household, awaits_volunteers, line_kind, line_kinds, after_line, at_last, read, reader}
+use Rattle.define_bundles.specs.FirstFault.{IsPoolText, BeginsPoolText, LacksLines, lines_before, lines_up_to, IsLowest, after_lines, kinds_at}
 use Rattle.define_bundles.proofs.LowestKinds.{not_the_end, lowest_is, line_kinds_rise}
 use Rattle.define_bundles.proofs.PoolReadAgain.{spelled_is_read}
 use Rattle.define_bundles.proofs.PoolSpelled.{IsRight, IsRightInside, own_version, lines_so_far, line_adds}
@@ -50,41 +53,56 @@ lodger : Pool
 lodger = record { size = 1; categories = []; volunteers = record { id = codes "a"; values = []; standing = Open; household = Some (codes "h") } ∷ [] }
 
 -- in each version, the first line alone begins the text of some pool
-version_begins : (second : Bool) → BeginsPoolText (version_line second ∷ [])
+version_begins : (version : Version) → BeginsPoolText (version_line version ∷ [])
 unfolding lodger is_utf8 chars encode
-version_begins true =
-    begins lodger (version_line true ∷ []) _ (record { size = refl; few_categories = refl; categories = refl; different_categories = refl; few_volunteers = refl; ids = refl; different_ids = refl; values = refl; households = refl }) refl
-version_begins false = begins (empty_pool 1) (version_line false ∷ []) (size_line 1 ∷ end_line ∷ []) (IsPool-empty_pool 1 refl) refl
+version_begins First = begins (empty_pool 1) (version_line First ∷ []) (size_line 1 ∷ end_line ∷ []) (IsPool-empty_pool Large 1 refl) refl
+version_begins Second =
+    begins lodger (version_line Second ∷ []) _ (record { size = refl; few_categories = refl; categories = refl; different_categories = refl; few_volunteers = refl; ids = refl; different_ids = refl; values = refl; households = refl }) refl
+version_begins Third = begins (empty_pool 201) (version_line Third ∷ []) (size_line 201 ∷ end_line ∷ []) (IsPool-empty_pool Large 201 refl) refl
 
--- after the size line, the right lines so far are those of the pool in its own version, or the first household line is still missing
-own_or_awaits : (pool : Pool) (passed : Passed) → IsRightInside pool passed → (lines_in passed.second pool ≡ lines_before_end pool) ⊎ AwaitsHousehold (lines_in passed.second pool)
-own_or_awaits pool passed right =
-    (elim (awaits_household passed) as (λ b. awaits_household passed ≡ b → (lines_in passed.second pool ≡ lines_before_end pool) ⊎ AwaitsHousehold (lines_in passed.second pool)) [
-      | false ↦ λ e. inl (ap (λ second. lines_in second pool) (sym (own_version pool passed right e)))
+-- after the size line, the right lines so far are those of the pool in its own version, or lines are still missing
+own_or_lacks : (pool : Pool) (passed : Passed) → IsRightInside pool passed → (lines_in passed.version pool ≡ lines_before_end pool) ⊎ LacksLines (lines_in passed.version pool)
+own_or_lacks pool passed right =
+    (elim (awaits_household passed) as (λ b. awaits_household passed ≡ b → (lines_in passed.version pool ≡ lines_before_end pool) ⊎ LacksLines (lines_in passed.version pool)) [
       | true ↦ λ e.
-          let parts = and_parts passed.second (eqb passed.households 0) e in
-          inr (pool, right.is_pool, right.housed ∙ ap (ltb 0) (eqb-true passed.households 0 parts.1), ap (λ second. lines_in second pool) parts.0)
+          let parts = and_parts (must_house passed.version) (eqb passed.households 0) e in
+          inr (inl (pool, right.is_pool, right.housed ∙ ap (ltb 0) (eqb-true passed.households 0 parts.1), ap (λ version. lines_in version pool) (second passed.version parts.0)))
+      | false ↦ λ e. (elim (awaits_volunteers pool passed) as (λ b. awaits_volunteers pool passed ≡ b → (lines_in passed.version pool ≡ lines_before_end pool) ⊎ LacksLines (lines_in passed.version pool)) [
+          | true ↦ λ f.
+              let parts = and_parts (must_pass passed.version) (is_usual pool) f in
+              inr (inr (pool, right.is_pool, parts.1, ap (λ version. lines_in version pool) (third passed.version parts.0)))
+          | false ↦ λ f. inl (ap (λ version. lines_in version pool) (sym (own_version pool passed right (or_from (awaits_household passed) (awaits_volunteers pool passed) e f))))
+        ]) refl
     ]) refl
+  where
+    second : (version : Version) → must_house version ≡ true → version ≡ Second
+    second First h = absurd (false≢true h)
+    second Second h = refl
+    second Third h = absurd (false≢true h)
 
--- the lines so far begin some pool's text, or the first household line is still missing
-stands : (progress : Progress) → IsRight progress → BeginsPoolText (lines_so_far progress) ⊎ AwaitsHousehold (lines_so_far progress)
-stands Begun right = inl (begins (empty_pool 1) [] (lines_before_end (empty_pool 1) ++ end_line ∷ []) (IsPool-empty_pool 1 refl) refl)
-stands (Versioned second) right = inl (version_begins second)
+    third : (version : Version) → must_pass version ≡ true → version ≡ Third
+    third First h = absurd (false≢true h)
+    third Second h = absurd (false≢true h)
+    third Third h = refl
+
+-- the lines so far begin some pool's text, or lines are still missing
+stands : (progress : Progress) → IsRight progress → BeginsPoolText (lines_so_far progress) ⊎ LacksLines (lines_so_far progress)
+stands Begun right = inl (begins (empty_pool 1) [] (lines_before_end (empty_pool 1) ++ end_line ∷ []) (IsPool-empty_pool Large 1 refl) refl)
+stands (Versioned version) right = inl (version_begins version)
 stands (Inside pool passed) right =
-    elim (own_or_awaits pool passed right) as (λ _. BeginsPoolText (lines_in passed.second pool) ⊎ AwaitsHousehold (lines_in passed.second pool)) [
-      | inl own ↦ inl (begins pool (lines_in passed.second pool) (end_line ∷ []) right.is_pool (ap (λ lines. lines ++ end_line ∷ []) (sym own)))
+    elim (own_or_lacks pool passed right) as (λ _. BeginsPoolText (lines_in passed.version pool) ⊎ LacksLines (lines_in passed.version pool)) [
+      | inl own ↦ inl (begins pool (lines_in passed.version pool) (end_line ∷ []) right.is_pool (ap (λ lines. lines ++ end_line ∷ []) (sym own)))
       | inr due ↦ inr due
     ]
 stands (Ended pool) right = inl (begins pool (lines_before_end pool ++ end_line ∷ []) [] right (sym (append-nil (lines_before_end pool ++ end_line ∷ []))))
 
--- if there are at least two lines so far, they are a pool's text, or are one once the end is added, or the first household line is still
--- missing
+-- if there are at least two lines so far, they are a pool's text, or are one once the end is added, or lines are still missing
 closed : (progress : Progress) → IsRight progress → 1 < length (lines_so_far progress) →
-    IsPoolText (text_of (lines_so_far progress)) ⊎ IsPoolText (text_of (lines_so_far progress ++ end_line ∷ [])) ⊎ AwaitsHousehold (lines_so_far progress)
+    IsPoolText (text_of (lines_so_far progress)) ⊎ IsPoolText (text_of (lines_so_far progress ++ end_line ∷ [])) ⊎ LacksLines (lines_so_far progress)
 closed Begun right more = absurd (omega arith)
-closed (Versioned second) right more = absurd (omega arith)
+closed (Versioned version) right more = absurd (omega arith)
 closed (Inside pool passed) right more =
-    elim (own_or_awaits pool passed right) as (λ _. IsPoolText (text_of (lines_in passed.second pool)) ⊎ IsPoolText (text_of (lines_in passed.second pool ++ end_line ∷ [])) ⊎ AwaitsHousehold (lines_in passed.second pool)) [
+    elim (own_or_lacks pool passed right) as (λ _. IsPoolText (text_of (lines_in passed.version pool)) ⊎ IsPoolText (text_of (lines_in passed.version pool ++ end_line ∷ [])) ⊎ LacksLines (lines_in passed.version pool)) [
       | inl own ↦ inr (inl (pool, right.is_pool, ap (λ lines. text_of (lines ++ end_line ∷ [])) own))
       | inr due ↦ inr (inr due)
     ]
@@ -114,7 +132,7 @@ same_fault r first second h k = cc
 
 last_stops : (number : ℕ) (progress : Progress) (bytes : List ℕ) (fault : Fault) → at_last number progress bytes ≡ Err fault → Stops number progress (bytes ∷ []) fault
 last_stops number Begun bytes fault h = subst (Stops number Begun (bytes ∷ [])) (same_fault _ _ fault refl h) (lacks_end number Begun bytes)
-last_stops number (Versioned second) bytes fault h = subst (Stops number (Versioned second) (bytes ∷ [])) (same_fault _ _ fault refl h) (lacks_end number (Versioned second) bytes)
+last_stops number (Versioned version) bytes fault h = subst (Stops number (Versioned version) (bytes ∷ [])) (same_fault _ _ fault refl h) (lacks_end number (Versioned version) bytes)
 last_stops number (Inside pool stood) bytes fault h = subst (Stops number (Inside pool stood) (bytes ∷ [])) (same_fault _ _ fault refl h) (lacks_end number (Inside pool stood) bytes)
 last_stops number (Ended pool) [] fault h = cc
 last_stops number (Ended pool) (byte ∷ bytes) fault h = subst (Stops number (Ended pool) ((byte ∷ bytes) ∷ [])) (same_fault _ _ fault refl h) (fails_here number (Ended pool) (byte ∷ bytes) [] 1 refl)
@@ -157,20 +175,20 @@ up_to_is bytes fault at =
     ap (λ pieces. take fault.line pieces) parted
     ∙ (ap (λ m. take m ((at.before ++ at.line ∷ []) ++ at.later)) n ∙ take-append_seam (at.before ++ at.line ∷ []) at.later)
 
-pub before_begins : (bytes : List ℕ) (fault : Fault) → read bytes ≡ Err fault → BeginsPoolText (lines_before fault bytes) ⊎ AwaitsHousehold (lines_before fault bytes)
+pub before_begins : (bytes : List ℕ) (fault : Fault) → read bytes ≡ Err fault → BeginsPoolText (lines_before fault bytes) ⊎ LacksLines (lines_before fault bytes)
 before_begins bytes fault h =
     let at = stops_at bytes fault h in
     let stood = passed Begun at.before tt at.passes in
-    subst (λ lines. BeginsPoolText lines ⊎ AwaitsHousehold lines) (stood.1 ∙ sym (before_is bytes fault at)) (stands (after_lines Begun at.before) stood.0)
+    subst (λ lines. BeginsPoolText lines ⊎ LacksLines lines) (stood.1 ∙ sym (before_is bytes fault at)) (stands (after_lines Begun at.before) stood.0)
 
 pub before_is_closed : (bytes : List ℕ) (fault : Fault) → read bytes ≡ Err fault → 2 < fault.line →
-    IsPoolText (text_of (lines_before fault bytes)) ⊎ IsPoolText (text_of (lines_before fault bytes ++ end_line ∷ [])) ⊎ AwaitsHousehold (lines_before fault bytes)
+    IsPoolText (text_of (lines_before fault bytes)) ⊎ IsPoolText (text_of (lines_before fault bytes ++ end_line ∷ [])) ⊎ LacksLines (lines_before fault bytes)
 before_is_closed bytes fault h third =
     let at = stops_at bytes fault h in
     let stood = passed Begun at.before tt at.passes in
     let same = stood.1 ∙ sym (before_is bytes fault at) in
     let size : length (lines_so_far (after_lines Begun at.before)) ≡ length at.before = ap (λ (ls : List (List ℕ)). length ls) stood.1 in
-    subst (λ lines. IsPoolText (text_of lines) ⊎ IsPoolText (text_of (lines ++ end_line ∷ [])) ⊎ AwaitsHousehold lines) same
+    subst (λ lines. IsPoolText (text_of lines) ⊎ IsPoolText (text_of (lines ++ end_line ∷ [])) ⊎ LacksLines lines) same
     (closed (after_lines Begun at.before) stood.0 (let p = at.place in omega (arith, size)))
 
 -- if the lines `before` are right and `line` has a fault after them, the reading of `before`, `line` and at least one more piece finds a

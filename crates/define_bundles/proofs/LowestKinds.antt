@@ -83,7 +83,7 @@ entry_kinds_rise pool passed Unknown last = refl
 -- the kinds of fault that a line may have are in rising order
 pub line_kinds_rise : (progress : Progress) (line : List ℕ) → is_increasing (map (λ k. k.0) (line_kinds progress line)) ≡ true
 line_kinds_rise Begun line = refl
-line_kinds_rise (Versioned second) line = refl
+line_kinds_rise (Versioned version) line = refl
 line_kinds_rise (Inside pool passed) line = entry_kinds_rise pool passed (entry_of (fields_of line)) (not (is_utf8 line))
 line_kinds_rise (Ended pool) line = refl
 
@@ -104,7 +104,7 @@ entry_kinds_end pool passed Unknown last = refl
 
 line_kinds_end : (progress : Progress) (line : List ℕ) → includes (map (λ k. k.0) (line_kinds progress line)) 12 ≡ false
 line_kinds_end Begun line = refl
-line_kinds_end (Versioned second) line = refl
+line_kinds_end (Versioned version) line = refl
 line_kinds_end (Inside pool passed) line = entry_kinds_end pool passed (entry_of (fields_of line)) (not (is_utf8 line))
 line_kinds_end (Ended pool) line = refl
 

@@ -4,25 +4,29 @@ use Rattle.std.specs.Prelude.{bytes_eq, codes, Ok, is_some}
 use Rattle.std.specs.Fmt.{decimal}
 use Rattle.std.specs.List.{AllByRecursion, flat_map, list_all, list_any}
 use Rattle.std.specs.Str.{is_utf8}
-use Rattle.std.proofs.lemmas.Bool.{and_parts, cond_both, leb-true, ltb-false, lt-ltb, not-false, or_parts, or_from, or_right, false≢true}
+use Rattle.std.proofs.lemmas.Bool.{and_from, and_parts, cond_both, le-leb, leb-true, ltb-false, lt-ltb, not-false, or_parts, or_from, or_right, false≢true}
 use Rattle.std.proofs.lemmas.Grind.{flat_map-append}
-use Rattle.std.proofs.lemmas.List.{append-nil, map-append}
+use Rattle.std.proofs.lemmas.List.{append-nil, length_push, map-append}
 use Rattle.std.proofs.lemmas.List.Quantifiers.{position-Some}
 use Rattle.std.proofs.lemmas.List.Folds.{list_any-append}
-use Rattle.define_pools.specs.Pool.{Pool, BoundedValue, Category, Volunteer, are_bounds, IsPool, has_households}
+use Rattle.define_pools.specs.Pool.{Pool, BoundedValue, Category, Volunteer, are_bounds, is_size, is_usual, most_members, most_volunteers, IsPool, has_households}
 use Rattle.define_pools.specs.Lists.{includes_list}
-use Rattle.define_pools.specs.Building.{value_names, size_kind, with_value, place_of, places_of, are_known, volunteer_kind, with_standing, standing_set, with_household, household_set, household_kind}
+use Rattle.define_pools.specs.Building.{value_names, size_kind, with_value, place_of, places_of, are_known, empty_pool, volunteer_kind, volunteer_added, with_standing, standing_set, with_household, household_set, household_kind}
 use Rattle.define_lines.specs.Lines.{line_of, text_of, fields_of}
 use Rattle.define_lines.specs.Numbers.{number_up_to}
-use Rattle.define_bundles.specs.PoolText.{version_line, size_line, value_line, category_lines, names_at, volunteer_line, household_line, household_lines, standing_line, standing_lines, end_line, lines_in, lines_before_end, spelling}
+use Rattle.define_bundles.specs.PoolText.{version_line, size_line, value_line, category_lines, names_at, volunteer_line, household_line, household_lines, standing_line, standing_lines, end_line, version_of, lines_in, lines_before_end, spelling}
 use Rattle.define_bundles.specs.declared.Passed.{Passed}
-use Rattle.define_bundles.specs.PoolReading.{Progress, Begun, Versioned, Inside, Ended, Entry, OfCategory, OfValue, OfVolunteer, OfHousehold, OfStanding, TheEnd, Unknown, Word, CategoryWord, ValueWord, VolunteerWord, HouseholdWord, StandingWord, EndWord, words, word_among, bound_of, entry_of_word, entry_behind, entry_of, number_of, is_ahead, awaits_household, entry_kind, size_of, line_kind, after_entry, after_line, at_last, read, reader}
+use Rattle.define_bundles.specs.declared.Version.{Version}
+use Rattle.define_bundles.specs.declared.Version.TheVariants.{First, Second, Third}
+use Rattle.define_bundles.specs.PoolReading.{Progress, Begun, Versioned, Inside, Ended, Entry, OfCategory, OfValue, OfVolunteer, OfHousehold, OfStanding, TheEnd, Unknown, Word, CategoryWord, ValueWord, VolunteerWord, HouseholdWord, StandingWord, EndWord, words, word_among, bound_of, entry_of_word, entry_behind, entry_of, number_of, is_ahead, limits_in, may_house, must_house, must_pass, awaits_household, awaits_volunteers, is_version_line, entry_kind, size_of, line_kind, after_entry, after_line, at_last, read, reader}
+use Rattle.define_pools.specs.declared.Limits.{Limits}
+use Rattle.define_pools.specs.declared.Limits.TheVariants.{Usual, Large}
 use Rattle.define_pools.specs.declared.Standing.{Standing}
 use Rattle.define_pools.specs.declared.Standing.TheVariants.{Open, Seated, Gone}
 use Rattle.std.specs.Str.{IsUtf8}
 use Rattle.std.proofs.lemmas.Str.{IsUtf8-from_is_utf8}
 use Rattle.define_pools.proofs.Each.{list_all-push}
-use Rattle.define_pools.proofs.BuildingLemmas.{no_kind, category_fits, value_fits, volunteer_fits, place_at, IsPool-empty_pool, IsPool-category_added, IsPool-value_added, IsPool-volunteer_added, IsPool-standing_set, IsPool-household_set}
+use Rattle.define_pools.proofs.BuildingLemmas.{no_kind, category_fits, value_fits, volunteer_fits, place_at, IsPool-empty_pool, IsPool-category_added, IsPool-value_added, IsPool-volunteer_added, IsPool-standing_set, IsPool-household_set, length-with_standing, length-with_household}
 use Rattle.define_lines.proofs.LineByLine as reading
 use Rattle.define_lines.proofs.LineLemmas.{each_field_is_utf8, line_of-fields_of}
 use Rattle.define_lines.proofs.NumberLemmas.{bytes_are, number_spelled}
@@ -36,8 +40,8 @@ neither (Some kind) second h = cc
 -- the lines that led to a progress
 abbrev pub lines_so_far : Progress → List (List ℕ)
 lines_so_far Begun = []
-lines_so_far (Versioned second) = version_line second ∷ []
-lines_so_far (Inside pool passed) = lines_in passed.second pool
+lines_so_far (Versioned version) = version_line version ∷ []
+lines_so_far (Inside pool passed) = lines_in passed.version pool
 lines_so_far (Ended pool) = lines_before_end pool ++ end_line ∷ []
 
 -- the line of an entry; an open standing has none
@@ -323,82 +327,124 @@ id_fits pool passed id h =
           }
     ]) refl (not-false (is_ahead passed (number_of pool.volunteers id)) h)
 
--- if a standing line has no fault, no household line is missing, and the id fits
+-- if a standing line has no fault, nothing is missing before it, and the id fits
 standing_fits : (pool : Pool) (passed : Passed) (standing : Standing) (id : List ℕ) → entry_kind pool passed (OfStanding standing id) ≡ None →
-    (awaits_household passed ≡ false) × IdFits pool passed.standings id
+    ((awaits_household passed || awaits_volunteers pool passed) ≡ false) × IdFits pool passed.standings id
 standing_fits pool passed standing id h =
-    let first = no_kind (awaits_household passed) 1 _ h in
+    let first = no_kind (awaits_household passed || awaits_volunteers pool passed) 1 _ h in
     (first.0, id_fits pool passed.standings id (no_kind (not (is_ahead passed.standings (number_of pool.volunteers id))) 9 None first.1).0)
 
--- a household line has no fault: the version is 2, no standing line came before it, the id fits, and the household's name has no fault
+-- a household line has no fault: the version has household lines, no standing line came before it, the id fits, and the household's name
+-- has no fault
 record HouseholdFits (pool : Pool) (passed : Passed) (id name : List ℕ) : Type 0 where
-  second : passed.second ≡ true
+  may : may_house passed.version ≡ true
   no_standing : passed.standings ≡ 0
   fits : IdFits pool passed.households id
   kind : household_kind name ≡ None
 
 household_fits : (pool : Pool) (passed : Passed) (id name : List ℕ) → entry_kind pool passed (OfHousehold id name) ≡ None → HouseholdFits pool passed id name
 household_fits pool passed id name h =
-    let first = no_kind (not passed.second || ltb 0 passed.standings) 1 _ h in
+    let first = no_kind (not (may_house passed.version) || ltb 0 passed.standings || awaits_volunteers pool passed) 1 _ h in
     let next = no_kind (not (is_ahead passed.households (number_of pool.volunteers id))) 9 (household_kind name) first.1 in
-    let place = or_parts (not passed.second) (ltb 0 passed.standings) first.0 in
-    let none = ltb-false 0 passed.standings place.1 in
-    record { second = not-false passed.second place.0; no_standing = omega arith; fits = id_fits pool passed.households id next.0; kind = next.1 }
+    let place = or_parts (not (may_house passed.version) || ltb 0 passed.standings) (awaits_volunteers pool passed) first.0 in
+    let before = or_parts (not (may_house passed.version)) (ltb 0 passed.standings) place.0 in
+    let none = ltb-false 0 passed.standings before.1 in
+    record { may = not-false (may_house passed.version) before.0; no_standing = omega arith; fits = id_fits pool passed.households id next.0; kind = next.1 }
 
 -- if a volunteer's line has no fault, no household or standing line came before it, and building finds no fault
 volunteer_parts : (pool : Pool) (passed : Passed) (id : List ℕ) (names : List (List ℕ)) → entry_kind pool passed (OfVolunteer id names) ≡ None →
-    (passed.households ≡ 0) × (passed.standings ≡ 0) × (volunteer_kind pool id names ≡ None)
+    (passed.households ≡ 0) × (passed.standings ≡ 0) × (volunteer_kind (limits_in passed.version) pool id names ≡ None)
 volunteer_parts pool passed id names h =
-    let parts = no_kind (ltb 0 passed.households || ltb 0 passed.standings) 1 (volunteer_kind pool id names) h in
+    let parts = no_kind (ltb 0 passed.households || ltb 0 passed.standings) 1 (volunteer_kind (limits_in passed.version) pool id names) h in
     let neither_passed = or_parts (ltb 0 passed.households) (ltb 0 passed.standings) parts.0 in
     let one = ltb-false 0 passed.households neither_passed.0 in
     let other = ltb-false 0 passed.standings neither_passed.1 in (omega arith, omega arith, parts.1)
 
--- the pool so far is right: it is a pool; volunteers from `passed.standings` on are open; volunteers from `passed.households` on have no
--- household; somebody has a household exactly if there was a household line; and in version 1 there was none
+usual_size : (size : ℕ) → size_kind Usual size ≡ None → is_usual (empty_pool size) ≡ true
+usual_size size h =
+    let is = not-false (is_size Usual size) (no_kind (not (is_size Usual size)) 2 None h).0 in
+    and_from (leb size (most_members Usual)) (leb 0 (most_volunteers Usual)) (and_parts (leb 1 size) (leb size (most_members Usual)) is).1 refl
+
+usual_added : (pool : Pool) (id : List ℕ) (names : List (List ℕ)) → volunteer_kind Usual pool id names ≡ None → is_usual pool ≡ true → is_usual (volunteer_added pool id names) ≡ true
+usual_added pool id names h usual =
+    let fits = volunteer_fits Usual pool id names h in
+    let parts = and_parts (leb pool.size (most_members Usual)) (leb (length pool.volunteers) (most_volunteers Usual)) usual in
+    let one : Volunteer = record { id = id; values = places_of pool.categories names; standing = Open; household = None } in
+    and_from (leb pool.size (most_members Usual)) (leb (length (pool.volunteers ++ one ∷ [])) (most_volunteers Usual)) parts.0
+    (le-leb (length (pool.volunteers ++ one ∷ [])) (most_volunteers Usual) (omega (arith, length_push pool.volunteers one, fits.room)))
+
+-- the pool is within the limits that the version has: those of version 1 and 2 are the usual ones
+abbrev pub IsWithin : Version → Pool → Type 0
+IsWithin version pool = must_pass version ≡ false → is_usual pool ≡ true
+
+-- the empty pool of a size within the limits of the version is within them
+empty_within : (version : Version) (size : ℕ) → size_kind (limits_in version) size ≡ None → IsWithin version (empty_pool size)
+empty_within First size h _ = usual_size size h
+empty_within Second size h _ = usual_size size h
+empty_within Third size h e = absurd (false≢true (sym e))
+
+-- with one more volunteer who has no fault, the pool is still within the limits of the version
+within_added : (version : Version) (pool : Pool) (id : List ℕ) (names : List (List ℕ)) → volunteer_kind (limits_in version) pool id names ≡ None → IsWithin version pool → IsWithin version (volunteer_added pool id names)
+within_added First pool id names h within _ = usual_added pool id names h (within refl)
+within_added Second pool id names h within _ = usual_added pool id names h (within refl)
+within_added Third pool id names h within e = absurd (false≢true (sym e))
+
+-- setting a household or a standing doesn't change whether the pool is within the limits of the version
+within_same : (version : Version) (pool : Pool) (volunteers : List Volunteer) → length volunteers ≡ length pool.volunteers → IsWithin version pool → IsWithin version (record pool { volunteers = volunteers })
+within_same version pool volunteers same within e = ap (λ n. leb pool.size (most_members Usual) && leb n (most_volunteers Usual)) same ∙ within e
+
+-- the pool so far is right: it is a pool, within the limits of the version; volunteers from `passed.standings` on are open; volunteers from
+-- `passed.households` on have no household; somebody has a household exactly if there was a household line; and in version 1 there was none
 pub record IsRightInside (pool : Pool) (passed : Passed) : Type 0 where
   pub is_pool : IsPool pool
+  pub within : IsWithin passed.version pool
   pub ahead : open_from passed.standings pool.volunteers ≡ true
   pub alone : alone_from passed.households pool.volunteers ≡ true
   pub housed : has_households pool ≡ ltb 0 passed.households
-  pub first : passed.second ≡ false → passed.households ≡ 0
+  pub first : may_house passed.version ≡ false → passed.households ≡ 0
 
--- if no household line is missing, the pool's own version is that of the text
-pub own_version : (pool : Pool) (passed : Passed) → IsRightInside pool passed → awaits_household passed ≡ false → has_households pool ≡ passed.second
-own_version pool passed right h = right.housed ∙ same passed.second passed.households h right.first
+-- if nothing is missing, the pool's own version is that of the text
+pub own_version : (pool : Pool) (passed : Passed) → IsRightInside pool passed → (awaits_household passed || awaits_volunteers pool passed) ≡ false → version_of pool ≡ passed.version
+own_version pool passed right h =
+    let parts = or_parts (awaits_household passed) (awaits_volunteers pool passed) h in
+    same passed.version passed.households (has_households pool) (is_usual pool) (right.within) parts.0 parts.1 right.housed right.first
   where
-    same : (second : Bool) (households : ℕ) → (second && eqb households 0) ≡ false → (second ≡ false → households ≡ 0) → ltb 0 households ≡ second
-    same true zero k first = cc
-    same true (suc households) k first = lt-ltb 0 (suc households) (omega arith)
-    same false zero k first = refl
-    same false (suc households) k first = let none = first refl in absurd (omega arith)
+    same : (version : Version) (households : ℕ) (housed usual : Bool) → (must_pass version ≡ false → usual ≡ true) → (must_house version && eqb households 0) ≡ false →
+        (must_pass version && usual) ≡ false → housed ≡ ltb 0 households → (may_house version ≡ false → households ≡ 0) →
+        cond usual (cond housed Second First) Third ≡ version
+    same First zero housed usual within houses passes is first = let u = within refl in rw (u, is) refl
+    same First (suc households) housed usual within houses passes is first = let none = first refl in absurd (omega arith)
+    same Second zero housed usual within houses passes is first = absurd (false≢true (sym houses))
+    same Second (suc households) housed usual within houses passes is first =
+        let u = within refl in let some = lt-ltb 0 (suc households) (omega arith) in rw (u, is, some) refl
+    same Third households housed usual within houses passes is first = rw passes refl
 
 -- a progress is right: its pool, if it has one, is right so far
 abbrev pub IsRight : Progress → Type 0
 IsRight Begun = Unit {0}
-IsRight (Versioned second) = Unit {0}
+IsRight (Versioned version) = Unit {0}
 IsRight (Inside pool passed) = IsRightInside pool passed
 IsRight (Ended pool) = IsPool pool
 
 -- after right lines, an entry without a fault adds its line to the lines so far
 pub entry_adds : (pool : Pool) (passed : Passed) (entry : Entry) → IsRight (Inside pool passed) → entry_kind pool passed entry ≡ None →
-    lines_so_far (after_entry pool passed entry) ≡ lines_in passed.second pool ++ entry_lines entry
+    lines_so_far (after_entry pool passed entry) ≡ lines_in passed.version pool ++ entry_lines entry
 entry_adds pool passed (OfCategory name) right h =
     let fits = category_fits pool name h in
     let category : Category = record { name = name; values = [] } in
-    ap (λ lines. version_line passed.second ∷ size_line pool.size ∷ lines)
+    ap (λ lines. version_line passed.version ∷ size_line pool.size ∷ lines)
     (under_nobody (volunteer_line (pool.categories ++ category ∷ [])) (volunteer_line pool.categories) pool.volunteers
     (flat_map category_lines (pool.categories ++ category ∷ [])) (flat_map category_lines pool.categories) (line_of (codes "category" ∷ name ∷ []))
     fits.nobody (flat_map-append category_lines pool.categories (category ∷ [])))
 entry_adds pool passed (OfValue value) right h =
     let fits = value_fits pool value h in
-    ap (λ lines. version_line passed.second ∷ size_line pool.size ∷ lines)
+    ap (λ lines. version_line passed.version ∷ size_line pool.size ∷ lines)
     (under_nobody (volunteer_line (with_value pool.categories value)) (volunteer_line pool.categories) pool.volunteers
     (flat_map category_lines (with_value pool.categories value)) (flat_map category_lines pool.categories) (value_line value)
     fits.nobody (flat_map-with_value pool.categories value (λ none. let some = fits.some in omega arith)))
 entry_adds pool passed (OfVolunteer id names) right h =
     let parts = volunteer_parts pool passed id names h in
-    let fits = volunteer_fits pool id names parts.2 in
+    let fits = volunteer_fits (limits_in passed.version) pool id names parts.2 in
     let line = volunteer_line pool.categories in
     let one : Volunteer = record { id = id; values = places_of pool.categories names; standing = Open; household = None } in
     let before = flat_map category_lines pool.categories in
@@ -410,7 +456,7 @@ entry_adds pool passed (OfVolunteer id names) right h =
     let none_after = no_lines (pool.volunteers ++ one ∷ []) (list_all-push (λ (volunteer : Volunteer). is_open volunteer.standing) pool.volunteers one all_open refl) in
     let spelled : line one ≡ line_of (codes "volunteer" ∷ id ∷ names) = ap (λ fields. line_of (codes "volunteer" ∷ id ∷ fields)) (names_at-places_of pool.categories names fits.known fits.each) in
     let new = line_of (codes "volunteer" ∷ id ∷ names) ∷ [] in
-    ap (λ lines. version_line passed.second ∷ size_line pool.size ∷ lines)
+    ap (λ lines. version_line passed.version ∷ size_line pool.size ∷ lines)
     (no_more (before ++ map line (pool.volunteers ++ one ∷ [])) (household_lines (pool.volunteers ++ one ∷ [])) (standing_lines (pool.volunteers ++ one ∷ [])) none_housed_after none_after
     ∙ (ap (λ lines. before ++ lines) (map-append line pool.volunteers (one ∷ []))
     ∙ (sym (append_assoc before (map line pool.volunteers) (line one ∷ []))
@@ -433,8 +479,8 @@ entry_adds pool passed (OfHousehold id name) right h =
     let houses = household_lines pool.volunteers in
     let new = household_line (Some name) id in
     let set = with_household pool.volunteers fits.number name in
-    ap (λ n. lines_in passed.second (household_set pool n name)) place
-    ∙ ap (λ lines. version_line passed.second ∷ size_line pool.size ∷ lines)
+    ap (λ n. lines_in passed.version (household_set pool n name)) place
+    ∙ ap (λ lines. version_line passed.version ∷ size_line pool.size ∷ lines)
     (ap (λ lines. ((before ++ lines) ++ household_lines set) ++ standing_lines set) (lines_kept pool.categories pool.volunteers fits.number name)
     ∙ (ap (λ lines. (listed ++ household_lines set) ++ lines) (standings-with_household pool.volunteers fits.number name ∙ none)
     ∙ (append-nil (listed ++ household_lines set)
@@ -456,8 +502,8 @@ entry_adds pool passed (OfStanding standing id) right h =
     let added = one_standing pool.volunteers passed.standings fits.number standing nobody right.ahead fits.ahead fits.inside in
     let set = with_standing pool.volunteers fits.number standing in
     let listed = (before ++ map line pool.volunteers) ++ household_lines pool.volunteers in
-    ap (λ n. lines_in passed.second (standing_set pool n standing)) place
-    ∙ ap (λ lines. version_line passed.second ∷ size_line pool.size ∷ lines)
+    ap (λ n. lines_in passed.version (standing_set pool n standing)) place
+    ∙ ap (λ lines. version_line passed.version ∷ size_line pool.size ∷ lines)
     (ap (λ lines. ((before ++ lines) ++ household_lines set) ++ standing_lines set) kept
     ∙ (ap (λ lines. ((before ++ map line pool.volunteers) ++ lines) ++ standing_lines set) (houses-with_standing pool.volunteers fits.number standing)
     ∙ (ap (λ lines. listed ++ lines) (added ∙ ap (λ who. standing_lines pool.volunteers ++ standing_line standing who) (sym (fits.named nobody)))
@@ -468,21 +514,26 @@ entry_adds pool passed (OfStanding standing id) right h =
     lines_kept categories (volunteer ∷ volunteers) zero standing = refl
     lines_kept categories (volunteer ∷ volunteers) (suc number) standing = ap (λ lines. volunteer_line categories volunteer ∷ lines) (lines_kept categories volunteers number standing)
 entry_adds pool passed TheEnd right h =
-    let due = no_kind (awaits_household passed) 1 None h in ap (λ second. lines_in second pool ++ end_line ∷ []) (own_version pool passed right due.0)
+    let due = no_kind (awaits_household passed || awaits_volunteers pool passed) 1 None h in ap (λ version. lines_in version pool ++ end_line ∷ []) (own_version pool passed right due.0)
 entry_adds pool passed Unknown right h = cc
 
+-- 0 is no size
+no_size : (limits : Limits) (P : Type 0) → size_kind limits 0 ≡ None → P
+no_size limits P h = cc
+
 -- if fields are read as a size in range, their line is the line of this size
-size_spelled : (fields : List (List ℕ)) → size_kind (size_of fields) ≡ None → line_of fields ≡ size_line (size_of fields)
-size_spelled [] h = cc
-size_spelled (first ∷ []) h = cc
-size_spelled (first ∷ field ∷ other ∷ fields) h = cc
-size_spelled (first ∷ field ∷ []) h =
-    cond_both (bytes_eq first (codes "size")) (unwrap_or (number_up_to 200 field) 0) 0 (λ size. size_kind size ≡ None → line_of (first ∷ field ∷ []) ≡ size_line size)
-    (λ e. (elim (number_up_to 200 field) as (λ o. number_up_to 200 field ≡ o → size_kind (unwrap_or o 0) ≡ None → line_of (first ∷ field ∷ []) ≡ size_line (unwrap_or o 0)) [
-      | None ↦ λ _ k. cc
-      | Some n ↦ λ f k. ap (λ word. line_of (word ∷ field ∷ [])) (bytes_are first (codes "size") e) ∙ ap (λ digits. line_of (codes "size" ∷ digits ∷ [])) (sym (number_spelled 200 n field f).0)
+size_spelled : (limits : Limits) (fields : List (List ℕ)) → size_kind limits (size_of limits fields) ≡ None → line_of fields ≡ size_line (size_of limits fields)
+size_spelled limits [] h = no_size limits (line_of [] ≡ size_line 0) h
+size_spelled limits (first ∷ []) h = no_size limits (line_of (first ∷ []) ≡ size_line 0) h
+size_spelled limits (first ∷ field ∷ other ∷ fields) h = no_size limits (line_of (first ∷ field ∷ other ∷ fields) ≡ size_line 0) h
+size_spelled limits (first ∷ field ∷ []) h =
+    let most = most_members limits in
+    cond_both (bytes_eq first (codes "size")) (unwrap_or (number_up_to most field) 0) 0 (λ size. size_kind limits size ≡ None → line_of (first ∷ field ∷ []) ≡ size_line size)
+    (λ e. (elim (number_up_to most field) as (λ o. number_up_to most field ≡ o → size_kind limits (unwrap_or o 0) ≡ None → line_of (first ∷ field ∷ []) ≡ size_line (unwrap_or o 0)) [
+      | None ↦ λ _ k. no_size limits (line_of (first ∷ field ∷ []) ≡ size_line 0) k
+      | Some n ↦ λ f k. ap (λ word. line_of (word ∷ field ∷ [])) (bytes_are first (codes "size") e) ∙ ap (λ digits. line_of (codes "size" ∷ digits ∷ [])) (sym (number_spelled most n field f).0)
     ]) refl)
-    (λ _ k. cc) h
+    (λ _ k. no_size limits (line_of (first ∷ field ∷ []) ≡ size_line 0) k) h
 
 -- if fields are UTF-8 and are read as an entry without a fault, the progress after it is right
 module _ (pool : Pool) (passed : Passed) (right : IsRight (Inside pool passed)) where
@@ -492,14 +543,14 @@ module _ (pool : Pool) (passed : Passed) (right : IsRight (Inside pool passed)) 
   keeps : (word : Word) (fields : List (List ℕ)) → AllByRecursion (λ field. is_utf8 field ≡ true) fields → Keeps (entry_of_word word fields)
   unfolding Keeps
   keeps CategoryWord [] utf8 h = cc
-  keeps CategoryWord (name ∷ []) utf8 h = record { is_pool = IsPool-category_added pool name right.is_pool h utf8.0; ahead = right.ahead; alone = right.alone; housed = right.housed; first = right.first }
+  keeps CategoryWord (name ∷ []) utf8 h = record { is_pool = IsPool-category_added pool name right.is_pool h utf8.0; within = right.within; ahead = right.ahead; alone = right.alone; housed = right.housed; first = right.first }
   keeps CategoryWord (name ∷ other ∷ fields) utf8 h = cc
   keeps ValueWord [] utf8 h = cc
   keeps ValueWord (name ∷ []) utf8 h = cc
   keeps ValueWord (name ∷ lower ∷ []) utf8 h = cc
   keeps ValueWord (name ∷ lower ∷ upper ∷ []) utf8 h =
       let value : BoundedValue = record { name = name; lower = bound_of lower; upper = bound_of upper } in
-      record { is_pool = IsPool-value_added pool value right.is_pool h utf8.0; ahead = right.ahead; alone = right.alone; housed = right.housed; first = right.first }
+      record { is_pool = IsPool-value_added pool value right.is_pool h utf8.0; within = right.within; ahead = right.ahead; alone = right.alone; housed = right.housed; first = right.first }
   keeps ValueWord (name ∷ lower ∷ upper ∷ other ∷ fields) utf8 h = cc
   keeps VolunteerWord [] utf8 h = cc
   keeps VolunteerWord (id ∷ names) utf8 h =
@@ -508,7 +559,8 @@ module _ (pool : Pool) (passed : Passed) (right : IsRight (Inside pool passed)) 
       let all_open : open_from 0 pool.volunteers ≡ true = subst (λ n. open_from n pool.volunteers ≡ true) parts.1 right.ahead in
       let all_alone : alone_from 0 pool.volunteers ≡ true = subst (λ n. alone_from n pool.volunteers ≡ true) parts.0 right.alone in
       record {
-        is_pool = IsPool-volunteer_added pool id names right.is_pool parts.2 utf8.0;
+        is_pool = IsPool-volunteer_added (limits_in passed.version) pool id names right.is_pool parts.2 utf8.0;
+        within = within_added passed.version pool id names parts.2 right.within;
         ahead = subst (λ n. open_from n (pool.volunteers ++ one ∷ []) ≡ true) (sym parts.1)
             (list_all-push (λ (volunteer : Volunteer). is_open volunteer.standing) pool.volunteers one all_open refl);
         alone = subst (λ n. alone_from n (pool.volunteers ++ one ∷ []) ≡ true) (sym parts.0)
@@ -529,10 +581,11 @@ module _ (pool : Pool) (passed : Passed) (right : IsRight (Inside pool passed)) 
       let set = with_household pool.volunteers fits.number name in
       let at_number : IsRight (Inside (household_set pool fits.number name) (record passed { households = fits.number + 1 })) = record {
         is_pool = IsPool-household_set pool fits.number name right.is_pool all.kind utf8.1.0;
+        within = within_same passed.version pool set (length-with_household pool.volunteers fits.number name) right.within;
         ahead = subst (λ n. open_from n set ≡ true) (sym all.no_standing) (open-with_household pool.volunteers fits.number name ∙ all_open);
         alone = subst (λ n. alone_from n set ≡ true) (sym (add-one fits.number)) behind;
         housed = housed-with_household pool.volunteers fits.number name fits.inside ∙ sym (lt-ltb 0 (fits.number + 1) (omega arith));
-        first = λ none. absurd (false≢true (sym none ∙ all.second));
+        first = λ none. absurd (false≢true (sym none ∙ all.may));
       } in
       subst (λ n. IsRight (Inside (household_set pool n name) (record passed { households = n + 1 }))) (sym place) at_number
   keeps HouseholdWord (id ∷ name ∷ other ∷ fields) utf8 h = cc
@@ -543,6 +596,7 @@ module _ (pool : Pool) (passed : Passed) (right : IsRight (Inside pool passed)) 
       let behind = open_behind pool.volunteers passed.standings fits.number standing right.ahead fits.ahead in
       let at_number : IsRight (Inside (standing_set pool fits.number standing) (record passed { standings = fits.number + 1 })) = record {
         is_pool = IsPool-standing_set pool fits.number standing right.is_pool;
+        within = within_same passed.version pool (with_standing pool.volunteers fits.number standing) (length-with_standing pool.volunteers fits.number standing) right.within;
         ahead = subst (λ n. open_from n (with_standing pool.volunteers fits.number standing) ≡ true) (sym (add-one fits.number)) behind;
         alone = alone-with_standing pool.volunteers passed.households fits.number standing ∙ right.alone;
         housed = housed-with_standing pool.volunteers fits.number standing ∙ right.housed;
@@ -566,17 +620,20 @@ module _ (pool : Pool) (passed : Passed) (right : IsRight (Inside pool passed)) 
 pub line_adds : (progress : Progress) (line : List ℕ) → IsRight progress → line_kind progress line ≡ None →
     IsRight (after_line progress line) × (lines_so_far (after_line progress line) ≡ lines_so_far progress ++ line ∷ [])
 line_adds Begun line right h =
-    let fails = no_kind (not (bytes_eq line (version_line false) || bytes_eq line (version_line true))) 1 None h in
-    let some = not-false (bytes_eq line (version_line false) || bytes_eq line (version_line true)) fails.0 in
-    (tt, ap (λ l. l ∷ []) (sym (one_of (bytes_eq line (version_line false)) (bytes_eq line (version_line true)) refl refl some)))
+    let some = not-false (is_version_line line) (no_kind (not (is_version_line line)) 1 None h).0 in
+    (tt, ap (λ l. l ∷ []) (sym (one_of (bytes_eq line (version_line First)) (bytes_eq line (version_line Second)) (bytes_eq line (version_line Third)) refl refl refl some)))
   where
-    one_of : (first second : Bool) → bytes_eq line (version_line false) ≡ first → bytes_eq line (version_line true) ≡ second → (first || second) ≡ true → line ≡ version_line second
-    one_of first true e f some = bytes_are line (version_line true) f
-    one_of true false e f some = bytes_are line (version_line false) e
-    one_of false false e f some = absurd (false≢true some)
-line_adds (Versioned second) line right h =
-    let spelled = sym (line_of-fields_of line) ∙ size_spelled (fields_of line) h in
-    (record { is_pool = IsPool-empty_pool (size_of (fields_of line)) h; ahead = refl; alone = refl; housed = refl; first = λ e. refl }, ap (λ l. version_line second ∷ l ∷ []) (sym spelled))
+    one_of : (first second third : Bool) → bytes_eq line (version_line First) ≡ first → bytes_eq line (version_line Second) ≡ second → bytes_eq line (version_line Third) ≡ third →
+        (first || second || third) ≡ true → line ≡ version_line (cond second Second (cond third Third First))
+    one_of first true third e f g some = bytes_are line (version_line Second) f
+    one_of first false true e f g some = bytes_are line (version_line Third) g
+    one_of true false false e f g some = bytes_are line (version_line First) e
+    one_of false false false e f g some = absurd (false≢true some)
+line_adds (Versioned version) line right h =
+    let limits = limits_in version in
+    let size = size_of limits (fields_of line) in
+    let spelled = sym (line_of-fields_of line) ∙ size_spelled limits (fields_of line) h in
+    (record { is_pool = IsPool-empty_pool limits size h; within = empty_within version size h; ahead = refl; alone = refl; housed = refl; first = λ e. refl }, ap (λ l. version_line version ∷ l ∷ []) (sym spelled))
 line_adds (Inside pool passed) line right h =
     let kinds = neither (entry_kind pool passed (entry_of (fields_of line))) (encoding_kind line) (sym (line_kind_of pool passed line) ∙ h) in
     let same = line_of-fields_of line in
@@ -584,7 +641,7 @@ line_adds (Inside pool passed) line right h =
     let utf8 = each_field_is_utf8 (fields_of line) (subst IsUtf8 (sym same) (IsUtf8-from_is_utf8 line text)) in (
       entry_keeps pool passed right (fields_of line) utf8 kinds.0,
       entry_adds pool passed (entry_of (fields_of line)) right kinds.0
-          ∙ ap (λ lines. lines_in passed.second pool ++ lines) (sym (entry_spelled pool passed (fields_of line) kinds.0) ∙ ap (λ l. l ∷ []) same),
+          ∙ ap (λ lines. lines_in passed.version pool ++ lines) (sym (entry_spelled pool passed (fields_of line) kinds.0) ∙ ap (λ l. l ∷ []) same),
     )
 line_adds (Ended pool) line right h = cc
 
@@ -592,7 +649,7 @@ line_adds (Ended pool) line right h = cc
 last_is_spelled : (number : ℕ) (progress : Progress) (bytes : List ℕ) (pool : Pool) → IsRight progress → at_last number progress bytes ≡ Ok pool →
     IsPool pool × (text_of (lines_so_far progress) ++ bytes ≡ spelling pool)
 last_is_spelled number Begun bytes pool right h = cc
-last_is_spelled number (Versioned second) bytes pool right h = cc
+last_is_spelled number (Versioned version) bytes pool right h = cc
 last_is_spelled number (Inside other passed) bytes pool right h = cc
 last_is_spelled number (Ended other) (byte ∷ bytes) pool right h = cc
 last_is_spelled number (Ended other) [] pool right h =

@@ -5,7 +5,8 @@ use Rattle.std.specs.Fmt.{decimal, signed_decimal}
 use Rattle.std.specs.List.{list_all}
 use Rattle.std.proofs.lemmas.Bool.{and_parts, leb-true, false≢true}
 use Rattle.std.proofs.lemmas.List.{append-nil}
-use Rattle.define_pools.specs.Pool.{Pool, IsPool, has_households}
+use Rattle.define_pools.specs.Pool.{Pool, IsPool, most_volunteers}
+use Rattle.define_pools.specs.declared.Limits.TheVariants.{Large}
 use Rattle.define_pools.specs.Building.{lowest_kind}
 use Rattle.define_pools.specs.Lottery.{Lottery, LotteryRow}
 use Rattle.define_pools.specs.Certificate.{Answer, Stage}
@@ -15,7 +16,9 @@ use Rattle.define_lines.proofs.LineLemmas.{Lacks}
 use Rattle.define_lines.proofs.FieldLemmas.{plain_field, line_lacks_feed}
 use Rattle.define_lines.proofs.NumberLemmas.{bytes_same}
 use Rattle.define_bundles.specs.declared.Passed.{Passed}
-use Rattle.define_bundles.specs.PoolText.{version, version_line}
+use Rattle.define_bundles.specs.declared.Version.{Version}
+use Rattle.define_bundles.specs.declared.Version.TheVariants.{First, Second, Third}
+use Rattle.define_bundles.specs.PoolText.{version_line, version_of}
 use Rattle.define_bundles.specs.PoolReading as pools
 use Rattle.define_bundles.proofs.PoolReadAgain as pool_again
 use Rattle.define_bundles.specs.Ranges.{IsInRanges, is_weight, is_row, is_stage}
@@ -31,7 +34,7 @@ Runs = reading.Runs reader
 
 abbrev IsBehindFirst : pools.Progress → Type 0
 IsBehindFirst pools.Begun = ⊥
-IsBehindFirst (pools.Versioned second) = Unit {0}
+IsBehindFirst (pools.Versioned version) = Unit {0}
 IsBehindFirst (pools.Inside pool passed) = Unit {0}
 IsBehindFirst (pools.Ended pool) = Unit {0}
 
@@ -45,33 +48,34 @@ behind_entry pool passed pools.TheEnd = tt
 behind_entry pool passed pools.Unknown = tt
 
 -- if lines after a pool's first line lead to the pool's end, they do so in a bundle too
-inside_runs : (second : Bool) (progress : pools.Progress) (lines : List (List ℕ)) (pool : Pool) → IsBehindFirst progress → pool_again.Runs progress lines (pools.Ended pool) →
-    Runs (InPool second progress) lines (InPool second (pools.Ended pool))
-inside_runs second progress [] pool behind h = ap (InPool second) h
-inside_runs second pools.Begun (line ∷ lines) pool behind h = absurd behind
-inside_runs second (pools.Versioned version) (line ∷ lines) pool behind h = (h.0, h.1, inside_runs second (pools.after_line (pools.Versioned version) line) lines pool tt h.2)
-inside_runs second (pools.Inside other passed) (line ∷ lines) pool behind h =
-    (h.0, h.1, inside_runs second (pools.after_line (pools.Inside other passed) line) lines pool (behind_entry other passed (pools.entry_of (fields_of line))) h.2)
-inside_runs second (pools.Ended other) (line ∷ lines) pool behind h = let e = h.1 in cc
+inside_runs : (version : Version) (progress : pools.Progress) (lines : List (List ℕ)) (pool : Pool) → IsBehindFirst progress → pool_again.Runs progress lines (pools.Ended pool) →
+    Runs (InPool version progress) lines (InPool version (pools.Ended pool))
+inside_runs version progress [] pool behind h = ap (InPool version) h
+inside_runs version pools.Begun (line ∷ lines) pool behind h = absurd behind
+inside_runs version (pools.Versioned said) (line ∷ lines) pool behind h = (h.0, h.1, inside_runs version (pools.after_line (pools.Versioned said) line) lines pool tt h.2)
+inside_runs version (pools.Inside other passed) (line ∷ lines) pool behind h =
+    (h.0, h.1, inside_runs version (pools.after_line (pools.Inside other passed) line) lines pool (behind_entry other passed (pools.entry_of (fields_of line))) h.2)
+inside_runs version (pools.Ended other) (line ∷ lines) pool behind h = let e = h.1 in cc
 
 -- in a bundle, all lines of its pool lead to the pool's end
-pool_runs : (pool : Pool) → IsPool pool → Runs (InPool (has_households pool) pools.Begun) (pool_lines pool) (InPool (has_households pool) (pools.Ended pool))
+pool_runs : (pool : Pool) → IsPool pool → Runs (InPool (version_of pool) pools.Begun) (pool_lines pool) (InPool (version_of pool) (pools.Ended pool))
 pool_runs pool is =
-    let second = has_households pool in
+    let version = version_of pool in
     let runs = pool_again.pool_runs pool is in (
       runs.0,
-      ap (λ test. cond (not test) (Some 1) None) (bytes_same (version_line second) (version_line second) refl),
-      inside_runs second (pools.after_line pools.Begun (version_line second)) (drop 1 (pool_lines pool)) pool tt runs.2,
+      ap (λ test. cond (not test) (Some 1) None) (bytes_same (version_line version) (version_line version) refl),
+      inside_runs version (pools.after_line pools.Begun (version_line version)) (drop 1 (pool_lines pool)) pool tt runs.2,
     )
 
 -- the first line of a bundle leads to the lines of its pool, in the same version
-bundle_runs : (second : Bool) (lines : List (List ℕ)) (after : Progress) → Runs (InPool second pools.Begun) lines after → Runs Begun (bundle_line second ∷ lines) after
-bundle_runs true lines after runs = (line_lacks_feed (codes "bundle" ∷ codes "2" ∷ []) (plain_field (codes "bundle") refl, (plain_field (codes "2") refl, tt)), refl, runs)
-bundle_runs false lines after runs = (line_lacks_feed (codes "bundle" ∷ codes "1" ∷ []) (plain_field (codes "bundle") refl, (plain_field (codes "1") refl, tt)), refl, runs)
+bundle_runs : (version : Version) (lines : List (List ℕ)) (after : Progress) → Runs (InPool version pools.Begun) lines after → Runs Begun (bundle_line version ∷ lines) after
+bundle_runs First lines after runs = (line_lacks_feed (codes "bundle" ∷ codes "1" ∷ []) (plain_field (codes "bundle") refl, (plain_field (codes "1") refl, tt)), refl, runs)
+bundle_runs Second lines after runs = (line_lacks_feed (codes "bundle" ∷ codes "2" ∷ []) (plain_field (codes "bundle") refl, (plain_field (codes "2") refl, tt)), refl, runs)
+bundle_runs Third lines after runs = (line_lacks_feed (codes "bundle" ∷ codes "3" ∷ []) (plain_field (codes "bundle") refl, (plain_field (codes "3") refl, tt)), refl, runs)
 
 -- ---- the answer's lines
 
-module _ (pool : Pool) (few : length pool.volunteers ≤ 400) where
+module _ (pool : Pool) (few : length pool.volunteers ≤ 4000) where
   -- if a line after the total says `said`, and has no fault, the reading goes on from the progress after it
   run_row : (lottery : Lottery) (line : List ℕ) (said : AnswerLine) (lines : List (List ℕ)) (after : Progress) → Lacks line_feed line → said_of pool line ≡ said →
       lowest_kind (row_kinds (ltb 0 (length lottery.rows)) said) ≡ None → Runs (after_row pool lottery said) lines after → Runs (InRows pool lottery) (line ∷ lines) after
@@ -126,7 +130,7 @@ module _ (pool : Pool) (few : length pool.volunteers ≤ 400) where
       (stage_again (length pool.volunteers) stage parts.0) (ap (λ behind. cond (not behind) (Some 15) None) some_row) (stages_run lottery (stage ∷ []) stages parts.1)
 
   total_runs : (total : ℕ) (lines : List (List ℕ)) (after : Progress) → is_weight total ≡ true → Runs (InRows pool (record { total = total; rows = [] })) lines after →
-      Runs (InPool (has_households pool) (pools.Ended pool)) (total_line total ∷ lines) after
+      Runs (InPool (version_of pool) (pools.Ended pool)) (total_line total ∷ lines) after
   total_runs total lines after is rest =
       let again = total_again total is in (
         line_lacks_feed (codes "total" ∷ decimal total ∷ []) (total_fields total is),
@@ -136,7 +140,7 @@ module _ (pool : Pool) (few : length pool.volunteers ≤ 400) where
 
   -- reading the lines of an answer leads to the bundle's end
   answer_runs : (answer : Answer) → IsInRanges pool answer →
-      Runs (InPool (has_households pool) (pools.Ended pool)) (answer_lines answer ++ done_line ∷ []) (Done (record { pool = pool; answer = answer }))
+      Runs (InPool (version_of pool) (pools.Ended pool)) (answer_lines answer ++ done_line ∷ []) (Done (record { pool = pool; answer = answer }))
   answer_runs answer is =
       let lottery = answer.lottery in
       let bundle : Bundle = record { pool = pool; answer = answer } in
@@ -151,12 +155,12 @@ module _ (pool : Pool) (few : length pool.volunteers ≤ 400) where
 pub runs : (bundle : Bundle) → IsBundle bundle → Runs Begun (lines_before_done bundle.pool bundle.answer ++ done_line ∷ []) (Done bundle)
 runs bundle is =
     let pool = bundle.pool in
-    let second = has_households pool in
-    let few = leb-true (length pool.volunteers) 400 is.is_pool.few_volunteers in
+    let version = version_of pool in
+    let few = leb-true (length pool.volunteers) (most_volunteers Large) is.is_pool.few_volunteers in
     let answer = answer_runs pool few bundle.answer is.in_ranges in
-    let all = reading.Runs-append reader (InPool second pools.Begun) (InPool second (pools.Ended pool)) (Done bundle) (pool_lines pool) (answer_lines bundle.answer ++ done_line ∷ []) (pool_runs pool is.is_pool) answer in
-    bundle_runs second ((pool_lines pool ++ answer_lines bundle.answer) ++ done_line ∷ []) (Done bundle)
-    (subst (λ lines. Runs (InPool second pools.Begun) lines (Done bundle)) (sym (append_assoc (pool_lines pool) (answer_lines bundle.answer) (done_line ∷ []))) all)
+    let all = reading.Runs-append reader (InPool version pools.Begun) (InPool version (pools.Ended pool)) (Done bundle) (pool_lines pool) (answer_lines bundle.answer ++ done_line ∷ []) (pool_runs pool is.is_pool) answer in
+    bundle_runs version ((pool_lines pool ++ answer_lines bundle.answer) ++ done_line ∷ []) (Done bundle)
+    (subst (λ lines. Runs (InPool version pools.Begun) lines (Done bundle)) (sym (append_assoc (pool_lines pool) (answer_lines bundle.answer) (done_line ∷ []))) all)
 
 -- the spelling of a bundle is read as this bundle
 pub spelled_is_read : (bundle : Bundle) → IsBundle bundle → read_bundle (bundle_spelling bundle) ≡ Ok bundle

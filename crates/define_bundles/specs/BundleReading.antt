@@ -8,6 +8,8 @@ use Rattle.define_pools.specs.Building.{lowest_kind}
 use Rattle.define_lines.specs.Lines.{Fault, fields_of, pieces_of}
 use Rattle.define_lines.specs.Numbers.{number_up_to, signed_up_to}
 use Rattle.define_lines.specs.Reading.{Reader, read_lines}
+use Rattle.define_bundles.specs.declared.Version.{Version}
+use Rattle.define_bundles.specs.declared.Version.TheVariants.{First, Second, Third}
 use Rattle.define_bundles.specs.PoolText.{version_line}
 use Rattle.define_bundles.specs.PoolReading as pools
 use Rattle.define_bundles.specs.Ranges.{is_weight, is_row, is_stage}
@@ -17,8 +19,8 @@ use Rattle.define_bundles.specs.BundleText.{Bundle, bundle_line}
 pub data Progress : Type 0 where
   -- before the first line
   Begun : Progress
-  -- after the first line, of version 2 if `second` is true, else 1: the progress of the pool's lines
-  InPool : (second : Bool) (progress : pools.Progress) → Progress
+  -- after the first line, of this version: the progress of the pool's lines
+  InPool : (version : Version) (progress : pools.Progress) → Progress
   -- after the line of the total: the pool, the total, and the rows of the panel lines so far
   InRows : (pool : Pool) (lottery : Lottery) → Progress
   -- after at least one stage line: the pool, its lottery, and the stages so far
@@ -106,11 +108,11 @@ total_of _ = None
 
 -- the kinds of fault of a line up to the total, given the progress of the pool's lines. 1: the pool's version isn't the bundle's; 14: the
 -- line after the pool's end isn't that of a total
-abbrev pub pool_kinds : Bool → pools.Progress → List ℕ → List (ℕ × Bool)
-pool_kinds second pools.Begun line = (1, not (bytes_eq line (version_line second))) ∷ []
-pool_kinds second (pools.Versioned version) line = pools.line_kinds (pools.Versioned version) line
-pool_kinds second (pools.Inside pool passed) line = pools.line_kinds (pools.Inside pool passed) line
-pool_kinds second (pools.Ended pool) line = (14, not (is_some (total_of (fields_of line)))) ∷ []
+abbrev pub pool_kinds : Version → pools.Progress → List ℕ → List (ℕ × Bool)
+pool_kinds version pools.Begun line = (1, not (bytes_eq line (version_line version))) ∷ []
+pool_kinds version (pools.Versioned said) line = pools.line_kinds (pools.Versioned said) line
+pool_kinds version (pools.Inside pool passed) line = pools.line_kinds (pools.Inside pool passed) line
+pool_kinds version (pools.Ended pool) line = (14, not (is_some (total_of (fields_of line)))) ∷ []
 
 -- the kind of fault of a line that follows the total or, if `behind` holds, a panel line. 15: neither a right panel line nor, after a
 -- panel line, a line that begins with `stage`; 16: after a panel line, a faulty stage line
@@ -133,11 +135,20 @@ stage_kinds Unknown = (16, true) ∷ []
 abbrev pub said_of : Pool → List ℕ → AnswerLine
 said_of pool line = answer_line (length pool.volunteers) (fields_of line)
 
+-- the line is the first one of a bundle's text of some version
+abbrev pub is_bundle_line : List ℕ → Bool
+is_bundle_line line = bytes_eq line (bundle_line First) || bytes_eq line (bundle_line Second) || bytes_eq line (bundle_line Third)
+
+-- the version that the first line says
+abbrev pub version_said : List ℕ → Version
+version_said line =
+    if bytes_eq line (bundle_line Second) then Second else if bytes_eq line (bundle_line Third) then Third else First
+
 -- the kinds of fault that a line may have, in rising order, each with whether it applies, given the progress before it. 13: the first line
 -- isn't a bundle's; 17: a line after the last
 abbrev pub line_kinds : Progress → List ℕ → List (ℕ × Bool)
-line_kinds Begun line = (13, not (bytes_eq line (bundle_line false) || bytes_eq line (bundle_line true))) ∷ []
-line_kinds (InPool second progress) line = pool_kinds second progress line
+line_kinds Begun line = (13, not (is_bundle_line line)) ∷ []
+line_kinds (InPool version progress) line = pool_kinds version progress line
 line_kinds (InRows pool lottery) line = row_kinds (nat_lt 0 (length lottery.rows)) (said_of pool line)
 line_kinds (InStages pool answer) line = stage_kinds (said_of pool line)
 line_kinds (Done bundle) line = (17, true) ∷ []
@@ -147,11 +158,11 @@ abbrev pub line_kind : Progress → List ℕ → Option ℕ
 line_kind progress line = lowest_kind (line_kinds progress line)
 
 -- the progress after a right line of the pool, or of the total
-abbrev pub after_pool : Bool → pools.Progress → List ℕ → Progress
-after_pool second pools.Begun line = InPool second (pools.after_line pools.Begun line)
-after_pool second (pools.Versioned version) line = InPool second (pools.after_line (pools.Versioned version) line)
-after_pool second (pools.Inside pool passed) line = InPool second (pools.after_line (pools.Inside pool passed) line)
-after_pool second (pools.Ended pool) line = InRows pool (record { total = unwrap_or (total_of (fields_of line)) 0; rows = [] })
+abbrev pub after_pool : Version → pools.Progress → List ℕ → Progress
+after_pool version pools.Begun line = InPool version (pools.after_line pools.Begun line)
+after_pool version (pools.Versioned said) line = InPool version (pools.after_line (pools.Versioned said) line)
+after_pool version (pools.Inside pool passed) line = InPool version (pools.after_line (pools.Inside pool passed) line)
+after_pool version (pools.Ended pool) line = InRows pool (record { total = unwrap_or (total_of (fields_of line)) 0; rows = [] })
 
 -- the progress after a right line that follows the total or a panel line
 abbrev pub after_row : Pool → Lottery → AnswerLine → Progress
@@ -171,8 +182,8 @@ after_stage pool answer Unknown = InStages pool answer
 
 -- the progress after a right line
 abbrev pub after_line : Progress → List ℕ → Progress
-after_line Begun line = InPool (bytes_eq line (bundle_line true)) pools.Begun
-after_line (InPool second progress) line = after_pool second progress line
+after_line Begun line = InPool (version_said line) pools.Begun
+after_line (InPool version progress) line = after_pool version progress line
 after_line (InRows pool lottery) line = after_row pool lottery (said_of pool line)
 after_line (InStages pool answer) line = after_stage pool answer (said_of pool line)
 after_line (Done bundle) line = Done bundle
@@ -180,10 +191,10 @@ after_line (Done bundle) line = Done bundle
 -- the kind of fault if the lines run out: 12 inside the pool's lines, else 17, also before the first line
 abbrev pub missing_kind : Progress → ℕ
 missing_kind Begun = 17
-missing_kind (InPool second pools.Begun) = 12
-missing_kind (InPool second (pools.Versioned version)) = 12
-missing_kind (InPool second (pools.Inside pool passed)) = 12
-missing_kind (InPool second (pools.Ended pool)) = 17
+missing_kind (InPool version pools.Begun) = 12
+missing_kind (InPool version (pools.Versioned said)) = 12
+missing_kind (InPool version (pools.Inside pool passed)) = 12
+missing_kind (InPool version (pools.Ended pool)) = 17
 missing_kind (InRows pool lottery) = 17
 missing_kind (InStages pool answer) = 17
 missing_kind (Done bundle) = 17

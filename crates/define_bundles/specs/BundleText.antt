@@ -1,12 +1,13 @@
 -- The text of a bundle: each bundle has one spelling, whose version is that of its pool's text. Builds on PoolText and Ranges.
 -- `bundle_text` writes it, and the text of a proof contains it.
-use Rattle.std.specs.Prelude.{ℕ, Bool, List, [], ◌∷◌, ◌++◌, map, codes}
+use Rattle.std.specs.Prelude.{ℕ, List, [], ◌∷◌, ◌++◌, map, codes}
 use Rattle.std.specs.Fmt.{decimal, signed_decimal}
-use Rattle.define_pools.specs.Pool.{Pool, IsPool, has_households}
+use Rattle.define_pools.specs.Pool.{Pool, IsPool}
 use Rattle.define_pools.specs.Lottery.{LotteryRow}
 use Rattle.define_pools.specs.Certificate.{Stage, Answer}
 use Rattle.define_lines.specs.Lines.{line_of, text_of}
-use Rattle.define_bundles.specs.PoolText.{version, lines_before_end, end_line}
+use Rattle.define_bundles.specs.declared.Version.{Version}
+use Rattle.define_bundles.specs.PoolText.{version_field, version_of, lines_before_end, end_line}
 use Rattle.define_bundles.specs.Ranges.{IsInRanges}
 
 -- a pool with its answer
@@ -19,9 +20,9 @@ pub record IsBundle (bundle : Bundle) : Type 0 where
   pub is_pool : IsPool bundle.pool
   pub in_ranges : IsInRanges bundle.pool bundle.answer
 
--- the first line, of version 2 if `second` is true, else of version 1
-abbrev pub bundle_line : Bool → List ℕ
-bundle_line second = line_of (codes "bundle" ∷ version second ∷ [])
+-- the first line, in this version
+abbrev pub bundle_line : Version → List ℕ
+bundle_line version = line_of (codes "bundle" ∷ version_field version ∷ [])
 
 -- the lines of a pool, with its end line
 abbrev pub pool_lines : Pool → List (List ℕ)
@@ -47,7 +48,7 @@ answer_lines answer = total_line answer.lottery.total ∷ (map panel_line answer
 
 -- the lines of a bundle, without the last line, `done`
 abbrev pub lines_before_done : Pool → Answer → List (List ℕ)
-lines_before_done pool answer = bundle_line (has_households pool) ∷ (pool_lines pool ++ answer_lines answer)
+lines_before_done pool answer = bundle_line (version_of pool) ∷ (pool_lines pool ++ answer_lines answer)
 
 -- the text of a pool with an answer
 abbrev pub bundle_text : Pool → Answer → List ℕ

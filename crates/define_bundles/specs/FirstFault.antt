@@ -1,9 +1,10 @@
 -- What the laws of this crate say about the first fault of a text: which lines begin the text of some pool, and which kind of fault is the
 -- lowest. Builds on PoolText and PoolReading. Only these laws use it.
-use Rattle.std.specs.Prelude.{◌≡◌, ℕ, ◌-◌, ◌==◌, ◌≤◌, Bool, true, false, ◌&&◌, IsTrue, List, [], ◌++◌, take, slice_index_or}
+use Rattle.std.specs.Prelude.{◌≡◌, ℕ, ◌-◌, ◌==◌, ◌≤◌, ◌⊎◌, Bool, true, false, ◌&&◌, IsTrue, List, [], ◌++◌, take, slice_index_or}
 use Rattle.std.specs.List.{fold, list_any}
-use Rattle.define_pools.specs.Pool.{Pool, IsPool, has_households}
+use Rattle.define_pools.specs.Pool.{Pool, IsPool, is_usual, has_households}
 use Rattle.define_lines.specs.Lines.{Fault, pieces_of, text_of}
+use Rattle.define_bundles.specs.declared.Version.TheVariants.{Second, Third}
 use Rattle.define_bundles.specs.PoolText.{spelling, lines_in}
 use Rattle.define_bundles.specs.PoolReading.{Progress, Begun, after_line, line_kinds}
 
@@ -18,7 +19,16 @@ BeginsPoolText lines = (pool : Pool) × (rest : List ℕ) × IsPool pool × (spe
 -- `lines` are the lines, before the end line, of a pool without households, in version 2. They are right so far, but a household line must
 -- come before the end
 abbrev pub AwaitsHousehold : List (List ℕ) → Type 0
-AwaitsHousehold lines = (pool : Pool) × IsPool pool × (has_households pool ≡ false) × (lines ≡ lines_in true pool)
+AwaitsHousehold lines = (pool : Pool) × IsPool pool × (has_households pool ≡ false) × (lines ≡ lines_in Second pool)
+
+-- `lines` are the lines, before the end line, of a pool within the usual limits, in version 3. They are right so far, but more volunteers
+-- must come before the end
+abbrev pub AwaitsVolunteers : List (List ℕ) → Type 0
+AwaitsVolunteers lines = (pool : Pool) × IsPool pool × (is_usual pool ≡ true) × (lines ≡ lines_in Third pool)
+
+-- `lines` are right so far, but lack a household line of version 2, or volunteers of version 3
+abbrev pub LacksLines : List (List ℕ) → Type 0
+LacksLines lines = AwaitsHousehold lines ⊎ AwaitsVolunteers lines
 
 -- the lines before the faulty one
 abbrev pub lines_before : Fault → List ℕ → List (List ℕ)

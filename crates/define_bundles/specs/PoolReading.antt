@@ -3,22 +3,26 @@
 -- proofs include this one.
 use Rattle.std.specs.Prelude.{ℕ, ◌+◌, ◌==◌, nat_lt, nat_le, if◌then◌else◌, Bool, true, false, not, ◌&&◌, ◌||◌, List, [], ◌∷◌, ◌++◌, bytes_eq, codes, Option, Some, None, Result, Ok, Err, unwrap_or, position}
 use Rattle.std.specs.Str.{is_utf8}
+use Rattle.define_pools.specs.declared.Limits.{Limits}
+use Rattle.define_pools.specs.declared.Limits.TheVariants.{Usual, Large}
 use Rattle.define_pools.specs.declared.Standing.{Standing}
 use Rattle.define_pools.specs.declared.Standing.TheVariants.{Seated, Gone}
-use Rattle.define_pools.specs.Pool.{Pool, BoundedValue, Volunteer}
+use Rattle.define_pools.specs.Pool.{Pool, BoundedValue, Volunteer, is_usual, most_members}
 use Rattle.define_pools.specs.Building.{lowest_kind, size_kinds, empty_pool, category_kinds, category_added, value_kinds, value_added, volunteer_kinds, volunteer_added, standing_set, household_set, household_kinds}
 use Rattle.define_lines.specs.Lines.{Fault, fields_of, pieces_of}
 use Rattle.define_lines.specs.Numbers.{number_up_to}
 use Rattle.define_lines.specs.Reading.{Reader, read_lines}
 use Rattle.define_bundles.specs.declared.Passed.{Passed}
+use Rattle.define_bundles.specs.declared.Version.{Version}
+use Rattle.define_bundles.specs.declared.Version.TheVariants.{First, Second, Third}
 use Rattle.define_bundles.specs.PoolText.{version_line}
 
 -- the progress of a text after lines without a fault
 pub data Progress : Type 0 where
   -- before the first line
   Begun : Progress
-  -- after the first line, which says whether the text is of version 2
-  Versioned : (second : Bool) → Progress
+  -- after the first line, which says the version
+  Versioned : (version : Version) → Progress
   -- after the size: the lines up to now make this pool
   Inside : (pool : Pool) (passed : Passed) → Progress
   -- after the end
@@ -86,42 +90,79 @@ abbrev pub is_ahead : ℕ → Option ℕ → Bool
 is_ahead passed None = false
 is_ahead passed (Some number) = nat_le passed number
 
+-- the limits of a pool whose text has this version
+abbrev pub limits_in : Version → Limits
+limits_in First = Usual
+limits_in Second = Usual
+limits_in Third = Large
+
+-- a text of this version may have household lines
+abbrev pub may_house : Version → Bool
+may_house First = false
+may_house Second = true
+may_house Third = true
+
+-- a text of this version has household lines
+abbrev pub must_house : Version → Bool
+must_house First = false
+must_house Second = true
+must_house Third = false
+
+-- a text of this version has a pool beyond the usual limits
+abbrev pub must_pass : Version → Bool
+must_pass First = false
+must_pass Second = false
+must_pass Third = true
+
 -- true in version 2 until the first household line: it must come before any standing line and before the end
 abbrev pub awaits_household : Passed → Bool
-awaits_household passed = passed.second && passed.households == 0
+awaits_household passed = must_house passed.version && passed.households == 0
+
+-- true in version 3 while the pool is within the usual limits: volunteers must pass them before any other line
+abbrev pub awaits_volunteers : Pool → Passed → Bool
+awaits_volunteers pool passed = must_pass passed.version && is_usual pool
 
 -- the kinds of fault that an entry may have, in rising order, each with whether it applies, given the pool so far and `passed`. They are
 -- those of building a pool (`category_kinds` and so on), and two more. Kind 1: the entry is unknown, or it isn't allowed here: a volunteer
--- after a household or standing line, a household in version 1 or after a standing line, or in version 2 a standing or the end before the
--- first household line. Kind 9: a household line has an unknown id, or its volunteer doesn't come after that of the household line before;
+-- after a household or standing line, a household in version 1 or after a standing line, in version 2 a standing or the end before the
+-- first household line, or in version 3 a household, a standing or the end while the pool is within the usual limits. Kind 9: a household line has an unknown id, or its volunteer doesn't come after that of the household line before;
 -- or a standing line has an unknown id, or its volunteer doesn't come after that of the standing line before
 abbrev pub entry_kinds : Pool → Passed → Entry → List (ℕ × Bool)
 entry_kinds pool passed (OfCategory name) = category_kinds pool name
 entry_kinds pool passed (OfValue value) = value_kinds pool value
-entry_kinds pool passed (OfVolunteer id names) = (1, nat_lt 0 passed.households || nat_lt 0 passed.standings) ∷ volunteer_kinds pool id names
+entry_kinds pool passed (OfVolunteer id names) = (1, nat_lt 0 passed.households || nat_lt 0 passed.standings) ∷ volunteer_kinds (limits_in passed.version) pool id names
 entry_kinds pool passed (OfHousehold id name) =
-    (1, not passed.second || nat_lt 0 passed.standings)
+    (1, not (may_house passed.version) || nat_lt 0 passed.standings || awaits_volunteers pool passed)
     ∷ (9, not (is_ahead passed.households (number_of pool.volunteers id)))
     ∷ household_kinds name
 entry_kinds pool passed (OfStanding standing id) =
-    (1, awaits_household passed) ∷ (9, not (is_ahead passed.standings (number_of pool.volunteers id))) ∷ []
-entry_kinds pool passed TheEnd = (1, awaits_household passed) ∷ []
+    (1, awaits_household passed || awaits_volunteers pool passed) ∷ (9, not (is_ahead passed.standings (number_of pool.volunteers id))) ∷ []
+entry_kinds pool passed TheEnd = (1, awaits_household passed || awaits_volunteers pool passed) ∷ []
 entry_kinds pool passed Unknown = (1, true) ∷ []
 
 abbrev pub entry_kind : Pool → Passed → Entry → Option ℕ
 entry_kind pool passed entry = lowest_kind (entry_kinds pool passed entry)
 
--- the size that the fields of the second line give, or 0, which is no size
-abbrev pub size_of : List (List ℕ) → ℕ
-size_of (first ∷ field ∷ []) = if bytes_eq first (codes "size") then unwrap_or (number_up_to 200 field) 0 else 0
-size_of _ = 0
+-- the size within these limits that the fields of the second line give, or 0, which is no size
+abbrev pub size_of : Limits → List (List ℕ) → ℕ
+size_of limits (first ∷ field ∷ []) = if bytes_eq first (codes "size") then unwrap_or (number_up_to (most_members limits) field) 0 else 0
+size_of limits _ = 0
+
+-- the line is the first one of a text of some version
+abbrev pub is_version_line : List ℕ → Bool
+is_version_line line = bytes_eq line (version_line First) || bytes_eq line (version_line Second) || bytes_eq line (version_line Third)
+
+-- the version that the first line says
+abbrev pub version_said : List ℕ → Version
+version_said line =
+    if bytes_eq line (version_line Second) then Second else if bytes_eq line (version_line Third) then Third else First
 
 -- the kinds of fault that a line may have, in rising order, each with whether it applies, given the progress before it. Kind 1: the first
 -- line isn't a version line, or a line follows the end. Kind 2: the line after the version has no size. Each later line up to the end may
 -- have the kinds of its entry, and kind 11: the line isn't UTF-8
 abbrev pub line_kinds : Progress → List ℕ → List (ℕ × Bool)
-line_kinds Begun line = (1, not (bytes_eq line (version_line false) || bytes_eq line (version_line true))) ∷ []
-line_kinds (Versioned second) line = size_kinds (size_of (fields_of line))
+line_kinds Begun line = (1, not (is_version_line line)) ∷ []
+line_kinds (Versioned version) line = size_kinds (limits_in version) (size_of (limits_in version) (fields_of line))
 line_kinds (Inside pool passed) line = entry_kinds pool passed (entry_of (fields_of line)) ++ (11, not (is_utf8 line)) ∷ []
 line_kinds (Ended pool) line = (1, true) ∷ []
 
@@ -148,13 +189,13 @@ after_entry pool passed TheEnd = Ended pool
 after_entry pool passed Unknown = Inside pool passed
 
 -- how far a text of this version has come before any household or standing line
-abbrev pub none_passed : Bool → Passed
-none_passed second = record { second = second; households = 0; standings = 0 }
+abbrev pub none_passed : Version → Passed
+none_passed version = record { version = version; households = 0; standings = 0 }
 
 -- the progress after a line without a fault
 abbrev pub after_line : Progress → List ℕ → Progress
-after_line Begun line = Versioned (bytes_eq line (version_line true))
-after_line (Versioned second) line = Inside (empty_pool (size_of (fields_of line))) (none_passed second)
+after_line Begun line = Versioned (version_said line)
+after_line (Versioned version) line = Inside (empty_pool (size_of (limits_in version) (fields_of line))) (none_passed version)
 after_line (Inside pool passed) line = after_entry pool passed (entry_of (fields_of line))
 after_line (Ended pool) line = Ended pool
 

@@ -1,21 +1,28 @@
--- The text of a pool: each pool has one spelling, of version 1 without households and of version 2 with them. Builds on Pool and Building
--- of `define_pools`, and on Lines of `define_lines`. `pool_text` writes it, and the texts of bundles and proofs contain it.
-use Rattle.std.specs.Prelude.{ℕ, Bool, true, false, List, [], ◌∷◌, ◌++◌, map, codes, slice_index_or, Option, Some, None}
+-- The text of a pool: each pool has one spelling. A pool beyond the usual limits has version 3; any other has version 2 if somebody has a
+-- household, else version 1. Builds on Pool and Building of `define_pools`, and on Lines of `define_lines`. `pool_text` writes it, and the texts of bundles and proofs contain it.
+use Rattle.std.specs.Prelude.{ℕ, if◌then◌else◌, List, [], ◌∷◌, ◌++◌, map, codes, slice_index_or, Option, Some, None}
 use Rattle.std.specs.List.{flat_map}
 use Rattle.std.specs.Fmt.{decimal}
 use Rattle.define_pools.specs.declared.Standing.{Standing}
 use Rattle.define_pools.specs.declared.Standing.TheVariants.{Open, Seated, Gone}
-use Rattle.define_pools.specs.Pool.{BoundedValue, Category, Volunteer, Pool, has_households}
+use Rattle.define_pools.specs.Pool.{BoundedValue, Category, Volunteer, Pool, is_usual, has_households}
 use Rattle.define_pools.specs.Building.{value_names}
 use Rattle.define_lines.specs.Lines.{line_of, text_of}
+use Rattle.define_bundles.specs.declared.Version.{Version}
+use Rattle.define_bundles.specs.declared.Version.TheVariants.{First, Second, Third}
 
--- the field of the version: "2" for true, "1" for false
-abbrev pub version : Bool → List ℕ
-version true = codes "2"
-version false = codes "1"
+-- the field of a version
+abbrev pub version_field : Version → List ℕ
+version_field First = codes "1"
+version_field Second = codes "2"
+version_field Third = codes "3"
 
-abbrev pub version_line : Bool → List ℕ
-version_line second = line_of (codes "pool" ∷ version second ∷ [])
+abbrev pub version_line : Version → List ℕ
+version_line version = line_of (codes "pool" ∷ version_field version ∷ [])
+
+-- the version of a pool's text
+abbrev pub version_of : Pool → Version
+version_of pool = if is_usual pool then (if has_households pool then Second else First) else Third
 
 abbrev pub size_line : ℕ → List ℕ
 size_line size = line_of (codes "size" ∷ decimal size ∷ [])
@@ -60,16 +67,16 @@ standing_lines volunteers = flat_map (λ volunteer. standing_line volunteer.stan
 abbrev pub end_line : List ℕ
 end_line = codes "end"
 
--- the lines of a pool before its end, in version 2 if `second` is true, else in version 1
-abbrev pub lines_in : Bool → Pool → List (List ℕ)
-lines_in second pool =
-    version_line second ∷ size_line pool.size
+-- the lines of a pool before its end, in this version
+abbrev pub lines_in : Version → Pool → List (List ℕ)
+lines_in version pool =
+    version_line version ∷ size_line pool.size
     ∷ (flat_map category_lines pool.categories ++ map (volunteer_line pool.categories) pool.volunteers
     ++ household_lines pool.volunteers ++ standing_lines pool.volunteers)
 
 -- the lines of a pool before its end, in its own version
 abbrev pub lines_before_end : Pool → List (List ℕ)
-lines_before_end pool = lines_in (has_households pool) pool
+lines_before_end pool = lines_in (version_of pool) pool
 
 -- the text of a pool
 abbrev pub spelling : Pool → List ℕ

@@ -10,23 +10,35 @@ ghost use Rattle.std.specs.Prelude.{true, false, ◌≡◌, ◌≢◌, ◌<◌, 
 ghost use Rattle.define_pools.specs.Pool.{Pool, IsPool};
 ghost use Rattle.define_pools.specs.WorkedExamples.{four, after_dropout, nobody, row, stage};
 ghost use Rattle.define_pools.specs.Lists.{is_increasing};
-ghost use Rattle.define_pools.specs.Building.{lowest_kind, household_set};
+ghost use Rattle.define_pools.specs.Building.{lowest_kind, household_set, empty_pool};
 ghost use Rattle.define_lines.specs.Lines.{Fault, line_of, text_of, pieces_of};
+ghost use Rattle.define_bundles.specs.declared.Version.TheVariants.{First, Second, Third};
 ghost use Rattle.define_bundles.specs.PoolText.{lines_before_end, lines_in, end_line, spelling};
 ghost use Rattle.define_bundles.specs.WorkedPoolTexts.{housed};
 ghost use Rattle.define_bundles.specs.PoolReading.{Progress, line_kinds, read};
-ghost use Rattle.define_bundles.specs.FirstFault.{IsPoolText, BeginsPoolText, AwaitsHousehold, lines_before, lines_up_to, IsLowest, kinds_at};
+ghost use Rattle.define_bundles.specs.FirstFault.{IsPoolText, BeginsPoolText, LacksLines, lines_before, lines_up_to, IsLowest, kinds_at};
 ghost use Rattle.std.specs.Fmt.{signed_decimal};
 ghost use Rattle.define_bundles.specs.Ranges.{IsInRanges, is_row, is_stage};
 ghost use Rattle.define_bundles.specs.BundleText.{Bundle, IsBundle, bundle_text, bundle_spelling, lines_before_done};
 ghost use Rattle.define_bundles.specs.BundleReading.{read_bundle};
 ghost use Rattle.define_bundles.specs.WorkedExamples.{four_answer, dropout_answer, widest_answer};
 
+/// The version of the text of a pool, and of a bundle.
+#[derive(Clone, Copy, Debug, PartialEq, Eq)]
+pub enum Version {
+    /// Version 1: nobody has a household.
+    First,
+    /// Version 2: somebody has a household.
+    Second,
+    /// Version 3: there are more than 400 volunteers, or panels have more than 200 members.
+    Third,
+}
+
 /// How far a text has come after its size: the version, and how many volunteers its household and standing lines have passed.
 #[derive(Clone, Copy, Debug, PartialEq, Eq)]
 pub struct Passed {
-    /// True if the text is of version 2.
-    pub second: bool,
+    /// The version of the text.
+    pub version: Version,
     /// How many volunteers household lines have passed: 0 before the first household line, else all up to the volunteer of the last one,
     /// this volunteer included.
     pub households: usize,
@@ -53,14 +65,15 @@ pub fn one_pool_per_text()
 
 /// The lines before the first faulty line begin the text of some pool. With the faulty line they begin none, unless the kind is 12: then
 /// all lines that end with LF are right, but the end line is missing. If the faulty line is the third or a later one, the lines before it
-/// are the text of a pool, or become one if the end line is added. There is one exception: right lines of version 2 that still lack a
-/// household line. They count as a beginning even if no household line can follow, as when nobody can be added since an earlier category
-/// has no values; and adding the end line doesn't make them a pool's text.
+/// are the text of a pool, or become one if the end line is added. There are two exceptions: right lines of version 2 that still lack a
+/// household line, and right lines of version 3 whose pool is still within the usual limits. They count as a beginning even if no such line
+/// can follow, as when nobody can be added since an earlier category has no values; and adding the end line doesn't make them a pool's
+/// text.
 pub fn first_fault_is_first()
     ensures before { (bytes : List ℕ) (fault : Fault) → read bytes ≡ Err fault →
-        BeginsPoolText (lines_before fault bytes) ⊎ AwaitsHousehold (lines_before fault bytes) }
+        BeginsPoolText (lines_before fault bytes) ⊎ LacksLines (lines_before fault bytes) }
     ensures closed { (bytes : List ℕ) (fault : Fault) → read bytes ≡ Err fault → 2 < fault.line →
-        IsPoolText (text_of (lines_before fault bytes)) ⊎ IsPoolText (text_of (lines_before fault bytes ++ end_line ∷ [])) ⊎ AwaitsHousehold (lines_before fault bytes) }
+        IsPoolText (text_of (lines_before fault bytes)) ⊎ IsPoolText (text_of (lines_before fault bytes ++ end_line ∷ [])) ⊎ LacksLines (lines_before fault bytes) }
     ensures up_to { (bytes : List ℕ) (fault : Fault) → read bytes ≡ Err fault → fault.kind ≢ 12 → ¬ BeginsPoolText (lines_up_to fault bytes) }
     ensures missing_end { (bytes : List ℕ) (fault : Fault) → read bytes ≡ Err fault → fault.kind ≡ 12 → length (pieces_of bytes) ≡ fault.line }
 {}
@@ -73,8 +86,8 @@ pub fn first_fault_is_lowest()
     ensures fault { (bytes : List ℕ) (fault : Fault) → read bytes ≡ Err fault → fault.kind ≢ 12 → IsLowest (kinds_at fault bytes) fault.kind }
 {}
 
-/// Worked examples: the texts of two women and two men, of the same four after a dropout, of the four with a and c in one household, and of
-/// a pool of nobody; and bytes that are no text.
+/// Worked examples: the texts of two women and two men, of the same four after a dropout, of the four with a and c in one household, of a
+/// pool of nobody, and of a large one of nobody; and bytes that are no text.
 pub fn worked_texts()
     ensures four_length { length (spelling four) ≡ 138 }
     ensures four { read (spelling four) ≡ Ok four }
@@ -83,11 +96,17 @@ pub fn worked_texts()
     ensures out_of_order { read (text_of (lines_before_end after_dropout ++ line_of (codes "gone" ∷ codes "b" ∷ []) ∷ [])) ≡ Err (record { line = 12; kind = 9 }) }
     ensures housed_length { length (spelling housed) ≡ 166 }
     ensures housed { read (spelling housed) ≡ Ok housed }
-    ensures housed_in_first { read (text_of (lines_in false housed ++ end_line ∷ [])) ≡ Err (record { line = 10; kind = 1 }) }
-    ensures nobody_housed { read (text_of (lines_in true four ++ end_line ∷ [])) ≡ Err (record { line = 10; kind = 1 }) }
-    ensures households_out_of_order { read (text_of (lines_in true (household_set four 2 (codes "h")) ++ line_of (codes "household" ∷ codes "a" ∷ codes "h" ∷ []) ∷ end_line ∷ []))
+    ensures housed_in_first { read (text_of (lines_in First housed ++ end_line ∷ [])) ≡ Err (record { line = 10; kind = 1 }) }
+    ensures nobody_housed { read (text_of (lines_in Second four ++ end_line ∷ [])) ≡ Err (record { line = 10; kind = 1 }) }
+    ensures households_out_of_order { read (text_of (lines_in Second (household_set four 2 (codes "h")) ++ line_of (codes "household" ∷ codes "a" ∷ codes "h" ∷ []) ∷ end_line ∷ []))
         ≡ Err (record { line = 11; kind = 9 }) }
     ensures nobody { read (spelling nobody) ≡ Ok nobody }
+    ensures large_length { length (spelling (empty_pool 201)) ≡ 20 }
+    ensures large { read (spelling (empty_pool 201)) ≡ Ok (empty_pool 201) }
+    ensures large_in_first { read (text_of (lines_in First (empty_pool 201) ++ end_line ∷ [])) ≡ Err (record { line = 2; kind = 2 }) }
+    ensures too_large { read (text_of (lines_in Third (empty_pool 1001) ++ end_line ∷ [])) ≡ Err (record { line = 2; kind = 2 }) }
+    ensures not_large { read (text_of (lines_in Third four ++ end_line ∷ [])) ≡ Err (record { line = 10; kind = 1 }) }
+    ensures housed_in_third { read (text_of (lines_in Third housed ++ end_line ∷ [])) ≡ Err (record { line = 10; kind = 1 }) }
     ensures empty { read [] ≡ Err (record { line = 1; kind = 12 }) }
     ensures cut { read (take 134 (spelling four)) ≡ Err (record { line = 10; kind = 12 }) }
 {}

@@ -4,9 +4,10 @@ use Rattle.std.specs.Prelude.{bytes_eq, codes}
 use Rattle.std.specs.Fmt.{decimal}
 use Rattle.std.specs.List.{AllByRecursion, list_all}
 use Rattle.std.specs.Option.{option_map}
-use Rattle.std.proofs.lemmas.Bool.{and_from, and_parts, cond_both, eqb-true, eq-eqb, leb-true, lt-ltb, ltb-true}
+use Rattle.std.proofs.lemmas.Bool.{and_from, and_parts, cond_both, eqb-true, eq-eqb, le-leb, leb-true, lt-ltb, ltb-true}
 use Rattle.define_pools.proofs.Each.{each_map}
-use Rattle.define_pools.specs.Pool.{Pool}
+use Rattle.define_pools.specs.Pool.{Pool, limits_for}
+use Rattle.define_pools.proofs.BuildingLemmas.{volunteers_are_few}
 use Rattle.define_lines.specs.Lines.{line_feed, tab, line_of, fields_of}
 use Rattle.define_lines.specs.Numbers.{number_up_to}
 use Rattle.define_lines.proofs.LineLemmas.{Lacks, fields_of-line_of, line_of-fields_of}
@@ -15,7 +16,7 @@ use Rattle.define_lines.proofs.NumberLemmas.{bytes_are, bytes_same, number_again
 use Rattle.define_bundles.specs.BundleReading.{numbers_up_to, with_number}
 use Rattle.define_proofs.specs.ProofText.{close_line, tree_line}
 use Rattle.define_covers.specs.Covers.{ByCap, ByClosed, ByHousehold, BySize, ByValue, Cause, FrontLine}
-use Rattle.define_covers.specs.CoverRanges.{is_cause, is_front_line, is_numbered, most_count, value_count}
+use Rattle.define_covers.specs.CoverRanges.{is_cause, is_front_line, is_numbered, greatest_count, most_count, value_count}
 use Rattle.define_cover_texts.specs.CoverText.{cause_fields, front_line, most_trees}
 use Rattle.define_cover_texts.specs.CoverReading.{LineInTree, NextTree, OfFront, TheClose, Unknown, cause_of, fields_said, front_of, front_said, line_in_tree, unnumbered}
 
@@ -29,17 +30,17 @@ IsSpelled pool number last line TheClose = (line ≡ close_line) × (number ≡ 
 IsSpelled pool number last line Unknown = Unit {0}
 
 -- if fields are read as counts, they are the counts' digits
-counts_spelled : (fields : List (List ℕ)) (counts : List ℕ) → numbers_up_to most_count fields ≡ Some counts → fields ≡ map decimal counts
+counts_spelled : (fields : List (List ℕ)) (counts : List ℕ) → numbers_up_to greatest_count fields ≡ Some counts → fields ≡ map decimal counts
 counts_spelled [] [] h = refl
 counts_spelled [] (count ∷ counts) h = cc
-counts_spelled (field ∷ fields) counts h = both (number_up_to most_count field) (numbers_up_to most_count fields) refl refl (counts_spelled fields) h
+counts_spelled (field ∷ fields) counts h = both (number_up_to greatest_count field) (numbers_up_to greatest_count fields) refl refl (counts_spelled fields) h
   where
-    both : (first : Option ℕ) (rest : Option (List ℕ)) → number_up_to most_count field ≡ first → numbers_up_to most_count fields ≡ rest →
-        ((others : List ℕ) → numbers_up_to most_count fields ≡ Some others → fields ≡ map decimal others) → with_number first rest ≡ Some counts → field ∷ fields ≡ map decimal counts
+    both : (first : Option ℕ) (rest : Option (List ℕ)) → number_up_to greatest_count field ≡ first → numbers_up_to greatest_count fields ≡ rest →
+        ((others : List ℕ) → numbers_up_to greatest_count fields ≡ Some others → fields ≡ map decimal others) → with_number first rest ≡ Some counts → field ∷ fields ≡ map decimal counts
     both None rest e f again k = cc
     both (Some count) None e f again k = cc
     both (Some count) (Some others) e f again k =
-        let here : decimal count ≡ field = (number_spelled most_count count field e).0 in
+        let here : decimal count ≡ field = (number_spelled greatest_count count field e).0 in
         let later = again others f in
         let same : count ∷ others ≡ counts = cc in
         subst (λ ns. field ∷ fields ≡ map decimal ns) same (ap (λ first. first ∷ fields) (sym here) ∙ ap (λ rest. decimal count ∷ rest) later)
@@ -87,9 +88,9 @@ module _ (pool : Pool) (number last : ℕ) where
   front_spelled : (first : List ℕ) (fields : List (List ℕ)) → first ≡ codes "front" → Spells (line_of (first ∷ fields)) (front_said pool number fields)
   front_spelled first [] e = tt
   front_spelled first (word ∷ []) e = tt
-  front_spelled first (word ∷ argument ∷ counts) e = by (cause_of pool number word argument) (numbers_up_to most_count counts) refl refl
+  front_spelled first (word ∷ argument ∷ counts) e = by (cause_of pool number word argument) (numbers_up_to greatest_count counts) refl refl
     where
-      by : (cause : Option Cause) (front : Option (List ℕ)) → cause_of pool number word argument ≡ cause → numbers_up_to most_count counts ≡ front →
+      by : (cause : Option Cause) (front : Option (List ℕ)) → cause_of pool number word argument ≡ cause → numbers_up_to greatest_count counts ≡ front →
           Spells (line_of (first ∷ word ∷ argument ∷ counts)) (front_of pool number cause front)
       by None front d f = tt
       by (Some cause) None d f = tt
@@ -125,27 +126,35 @@ module _ (pool : Pool) (number last : ℕ) where
 -- the properties of a front's line in its ranges
 record FrontParts (pool : Pool) (stage : ℕ) (line : FrontLine) : Type 0 where
   cause : is_cause pool stage line.cause ≡ true
-  counts : list_all (λ c. leb c most_count) line.front ≡ true
+  counts : list_all (λ c. leb c greatest_count) line.front ≡ true
 
 front_parts : (pool : Pool) (stage : ℕ) (line : FrontLine) → is_front_line pool stage line ≡ true → FrontParts pool stage line
 front_parts pool stage line is =
-    let A = is_cause pool stage line.cause in let B = leb (length line.front) (length pool.volunteers) in let C = list_all (λ c. leb c most_count) line.front in
+    let A = is_cause pool stage line.cause in let B = leb (length line.front) (length pool.volunteers) in let C = list_all (λ c. leb c (most_count (length pool.volunteers))) line.front in
     let parts = and_parts (A && B) C is in
-    record { cause = (and_parts A B parts.0).0; counts = parts.1 }
+    record { cause = (and_parts A B parts.0).0; counts = none_greater line.front parts.1 }
+  where
+    none_greater : (counts : List ℕ) → list_all (λ c. leb c (most_count (length pool.volunteers))) counts ≡ true → list_all (λ c. leb c greatest_count) counts ≡ true
+    none_greater [] h = refl
+    none_greater (count ∷ counts) h =
+        let parts = and_parts (leb count (most_count (length pool.volunteers))) (list_all (λ c. leb c (most_count (length pool.volunteers))) counts) h in
+        let few = leb-true count (most_count (length pool.volunteers)) parts.0 in
+        and_from (leb count greatest_count) (list_all (λ c. leb c greatest_count) counts)
+        (le-leb count greatest_count (omega (arith, few, volunteers_are_few (limits_for (length pool.volunteers))))) (none_greater counts parts.1)
 
-counts_are_fields : (counts : List ℕ) → list_all (λ c. leb c most_count) counts ≡ true → AllByRecursion IsField (map decimal counts)
+counts_are_fields : (counts : List ℕ) → list_all (λ c. leb c greatest_count) counts ≡ true → AllByRecursion IsField (map decimal counts)
 counts_are_fields [] h = tt
 counts_are_fields (count ∷ counts) h =
-    let parts = and_parts (leb count most_count) (list_all (λ c. leb c most_count) counts) h in
-    let few = leb-true count most_count parts.0 in
+    let parts = and_parts (leb count greatest_count) (list_all (λ c. leb c greatest_count) counts) h in
+    let few = leb-true count greatest_count parts.0 in
     (decimal_field count (omega arith), counts_are_fields counts parts.1)
 
-counts_again : (counts : List ℕ) → list_all (λ c. leb c most_count) counts ≡ true → numbers_up_to most_count (map decimal counts) ≡ Some counts
+counts_again : (counts : List ℕ) → list_all (λ c. leb c greatest_count) counts ≡ true → numbers_up_to greatest_count (map decimal counts) ≡ Some counts
 counts_again [] h = refl
 counts_again (count ∷ counts) h =
-    let parts = and_parts (leb count most_count) (list_all (λ c. leb c most_count) counts) h in
-    let few = leb-true count most_count parts.0 in
-    ap (λ o. with_number o (numbers_up_to most_count (map decimal counts))) (number_again most_count count (omega arith) few)
+    let parts = and_parts (leb count greatest_count) (list_all (λ c. leb c greatest_count) counts) h in
+    let few = leb-true count greatest_count parts.0 in
+    ap (λ o. with_number o (numbers_up_to greatest_count (map decimal counts))) (number_again greatest_count count (omega arith) few)
     ∙ ap (with_number (Some count)) (counts_again counts parts.1)
 
 numbered_at_most : (limit number : ℕ) → is_numbered limit number ≡ true → number ≤ limit
@@ -166,15 +175,15 @@ module _ (pool : Pool) (few : value_count pool ≤ 1000) (stage : ℕ) (small : 
   cause_then ByCap front is rest = (plain_field (codes "cap") refl, (plain_field (codes "0") refl, rest))
 
   -- the fields of a cause in its range are read as this cause
-  said_by_cause : (cause : Cause) (front : List ℕ) → is_cause pool stage cause ≡ true → front_said pool stage (fields_in cause front) ≡ front_of pool stage (Some cause) (numbers_up_to most_count (map decimal front))
+  said_by_cause : (cause : Cause) (front : List ℕ) → is_cause pool stage cause ≡ true → front_said pool stage (fields_in cause front) ≡ front_of pool stage (Some cause) (numbers_up_to greatest_count (map decimal front))
   said_by_cause BySize front is = refl
   said_by_cause (ByValue number) front is =
       let most = numbered_at_most (value_count pool) number is in
-      ap (λ o. front_of pool stage (option_map (λ n. ByValue n) o) (numbers_up_to most_count (map decimal front))) (number_again (value_count pool) number (omega arith) most)
+      ap (λ o. front_of pool stage (option_map (λ n. ByValue n) o) (numbers_up_to greatest_count (map decimal front))) (number_again (value_count pool) number (omega arith) most)
   said_by_cause ByHousehold front is = refl
   said_by_cause (ByClosed number) front is =
       let most = numbered_at_most (stage - 1) number is in
-      ap (λ o. front_of pool stage (option_map (λ n. ByClosed n) o) (numbers_up_to most_count (map decimal front))) (number_again (stage - 1) number (omega arith) most)
+      ap (λ o. front_of pool stage (option_map (λ n. ByClosed n) o) (numbers_up_to greatest_count (map decimal front))) (number_again (stage - 1) number (omega arith) most)
   said_by_cause ByCap front is = refl
 
   front_fields : (line : FrontLine) → is_front_line pool stage line ≡ true → AllByRecursion IsField (codes "front" ∷ fields_in line.cause line.front)

@@ -20,7 +20,7 @@ tree_line Unknown = refl
 pub line_kinds_rise : (progress : Progress) (line : List ℕ) → Rise (line_kinds progress line)
 line_kinds_rise Begun line = refl
 line_kinds_rise (InBundle bundles.Begun) line = refl
-line_kinds_rise (InBundle (bundles.InPool second progress)) line = proof_kinds.line_kinds_rise (proofs.InBundle (bundles.InPool second progress)) line
+line_kinds_rise (InBundle (bundles.InPool version progress)) line = proof_kinds.line_kinds_rise (proofs.InBundle (bundles.InPool version progress)) line
 line_kinds_rise (InBundle (bundles.InRows pool lottery)) line = proof_kinds.line_kinds_rise (proofs.InBundle (bundles.InRows pool lottery)) line
 line_kinds_rise (InBundle (bundles.InStages pool answer)) line = proof_kinds.line_kinds_rise (proofs.InBundle (bundles.InStages pool answer)) line
 line_kinds_rise (InBundle (bundles.Done bundle)) line = refl

@@ -31,7 +31,7 @@ Runs = reading.Runs reader
 bundle_inside : (progress : bundles.Progress) (lines : List (List ℕ)) (bundle : Bundle) → bundle_again.Runs progress lines (bundles.Done bundle) → Runs (InBundle progress) lines (InBundle (bundles.Done bundle))
 bundle_inside progress [] bundle h = ap InBundle h
 bundle_inside bundles.Begun (line ∷ lines) bundle h = (h.0, h.1, bundle_inside (bundles.after_line bundles.Begun line) lines bundle h.2)
-bundle_inside (bundles.InPool second progress) (line ∷ lines) bundle h = (h.0, h.1, bundle_inside (bundles.after_line (bundles.InPool second progress) line) lines bundle h.2)
+bundle_inside (bundles.InPool version progress) (line ∷ lines) bundle h = (h.0, h.1, bundle_inside (bundles.after_line (bundles.InPool version progress) line) lines bundle h.2)
 bundle_inside (bundles.InRows pool lottery) (line ∷ lines) bundle h = (h.0, h.1, bundle_inside (bundles.after_line (bundles.InRows pool lottery) line) lines bundle h.2)
 bundle_inside (bundles.InStages pool answer) (line ∷ lines) bundle h = (h.0, h.1, bundle_inside (bundles.after_line (bundles.InStages pool answer) line) lines bundle h.2)
 bundle_inside (bundles.Done other) (line ∷ lines) bundle h = let e = h.1 in cc

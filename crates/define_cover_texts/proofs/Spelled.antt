@@ -152,7 +152,7 @@ within_bundle progress line right h = let step = bundle_read.line_adds progress 
 
 bundle_adds : (progress : bundles.Progress) (line : List ℕ) → bundle_read.IsRight progress → line_kind (InBundle progress) line ≡ None → Adds (InBundle progress) line (after_line (InBundle progress) line)
 bundle_adds bundles.Begun line right h = within_bundle bundles.Begun line right h
-bundle_adds (bundles.InPool second progress) line right h = within_bundle (bundles.InPool second progress) line right h
+bundle_adds (bundles.InPool version progress) line right h = within_bundle (bundles.InPool version progress) line right h
 bundle_adds (bundles.InRows pool lottery) line right h = within_bundle (bundles.InRows pool lottery) line right h
 bundle_adds (bundles.InStages pool answer) line right h = within_bundle (bundles.InStages pool answer) line right h
 bundle_adds (bundles.Done bundle) line right h =

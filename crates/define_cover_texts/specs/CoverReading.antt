@@ -12,7 +12,7 @@ use Rattle.define_bundles.specs.BundleReading.{numbers_up_to}
 use Rattle.define_bundles.specs.BundleText.{Bundle}
 use Rattle.define_proofs.specs.ProofText.{close_line, tree_line}
 use Rattle.define_covers.specs.Covers.{ByCap, ByClosed, ByHousehold, BySize, ByValue, Cause, Cover, FrontLine}
-use Rattle.define_covers.specs.CoverRanges.{is_front_line, most_count, value_count}
+use Rattle.define_covers.specs.CoverRanges.{is_front_line, greatest_count, value_count}
 use Rattle.define_cover_texts.specs.CoverText.{cover_line, most_trees}
 
 -- the progress of a cover's text, after lines without a fault
@@ -58,7 +58,7 @@ front_of pool stage _ _ = Unknown
 
 -- what a line is, by the fields after `front`
 abbrev pub front_said : Pool → ℕ → List (List ℕ) → LineInTree
-front_said pool stage (word ∷ argument ∷ counts) = front_of pool stage (cause_of pool stage word argument) (numbers_up_to most_count counts)
+front_said pool stage (word ∷ argument ∷ counts) = front_of pool stage (cause_of pool stage word argument) (numbers_up_to greatest_count counts)
 front_said pool stage _ = Unknown
 
 -- what a line with these fields is: a front, or Unknown
@@ -81,7 +81,7 @@ said_in_tree bundle whole line = line_in_tree bundle.pool (length whole + 1) (le
 -- the kinds of fault that a line of the bundle may have. Kind 19: the line follows the bundle's end, and isn't the first line of tree 1
 abbrev pub bundle_kinds : bundles.Progress → List ℕ → List (ℕ × Bool)
 bundle_kinds bundles.Begun line = bundles.line_kinds bundles.Begun line
-bundle_kinds (bundles.InPool second progress) line = bundles.line_kinds (bundles.InPool second progress) line
+bundle_kinds (bundles.InPool version progress) line = bundles.line_kinds (bundles.InPool version progress) line
 bundle_kinds (bundles.InRows pool lottery) line = bundles.line_kinds (bundles.InRows pool lottery) line
 bundle_kinds (bundles.InStages pool answer) line = bundles.line_kinds (bundles.InStages pool answer) line
 bundle_kinds (bundles.Done bundle) line = (19, not (bytes_eq line (tree_line 1))) ∷ []
@@ -109,7 +109,7 @@ line_kind progress line = lowest_kind (line_kinds progress line)
 -- the progress after a line of the bundle without a fault, or after the line that begins the first tree
 abbrev pub after_bundle : bundles.Progress → List ℕ → Progress
 after_bundle bundles.Begun line = InBundle (bundles.after_line bundles.Begun line)
-after_bundle (bundles.InPool second progress) line = InBundle (bundles.after_line (bundles.InPool second progress) line)
+after_bundle (bundles.InPool version progress) line = InBundle (bundles.after_line (bundles.InPool version progress) line)
 after_bundle (bundles.InRows pool lottery) line = InBundle (bundles.after_line (bundles.InRows pool lottery) line)
 after_bundle (bundles.InStages pool answer) line = InBundle (bundles.after_line (bundles.InStages pool answer) line)
 after_bundle (bundles.Done bundle) line = InTrees bundle [] []
@@ -133,7 +133,7 @@ after_line (Closed cover) line = Closed cover
 abbrev pub missing_kind : Progress → ℕ
 missing_kind Begun = 20
 missing_kind (InBundle bundles.Begun) = bundles.missing_kind bundles.Begun
-missing_kind (InBundle (bundles.InPool second progress)) = bundles.missing_kind (bundles.InPool second progress)
+missing_kind (InBundle (bundles.InPool version progress)) = bundles.missing_kind (bundles.InPool version progress)
 missing_kind (InBundle (bundles.InRows pool lottery)) = bundles.missing_kind (bundles.InRows pool lottery)
 missing_kind (InBundle (bundles.InStages pool answer)) = bundles.missing_kind (bundles.InStages pool answer)
 missing_kind (InBundle (bundles.Done bundle)) = 20

@@ -2,12 +2,17 @@
 -- them.
 use Rattle.std.specs.Prelude.{ℕ, ◌-◌, nat_lt, nat_le, Bool, true, ◌&&◌, length, sum_by}
 use Rattle.std.specs.List.{list_all}
-use Rattle.define_pools.specs.Pool.{Pool}
+use Rattle.define_pools.specs.declared.Limits.TheVariants.{Large}
+use Rattle.define_pools.specs.Pool.{Pool, limits_for, most_volunteers}
 use Rattle.define_covers.specs.Covers.{ByCap, ByClosed, ByHousehold, BySize, ByValue, Cause, FrontLine}
 
--- the greatest count of a front: a pool has at most 400 volunteers
-abbrev pub most_count : ℕ
-most_count = 400
+-- the greatest count of a front in a pool of `volunteers`
+abbrev pub most_count : ℕ → ℕ
+most_count volunteers = most_volunteers (limits_for volunteers)
+
+-- the greatest count of a front in any pool
+abbrev pub greatest_count : ℕ
+greatest_count = most_volunteers Large
 
 -- how many values all categories have
 abbrev pub value_count : Pool → ℕ
@@ -29,4 +34,4 @@ is_cause pool stage ByCap = true
 -- the cause is in its range, and the front has at most one count per volunteer, each at most `most_count`
 abbrev pub is_front_line : Pool → ℕ → FrontLine → Bool
 is_front_line pool stage line =
-    is_cause pool stage line.cause && nat_le (length line.front) (length pool.volunteers) && list_all (λ c. nat_le c most_count) line.front
+    is_cause pool stage line.cause && nat_le (length line.front) (length pool.volunteers) && list_all (λ c. nat_le c (most_count (length pool.volunteers))) line.front

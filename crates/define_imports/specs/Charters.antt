@@ -4,6 +4,7 @@ use Rattle.std.specs.Prelude.{ℕ, ℤ, pos, negsuc, if◌then◌else◌, not, L
 use Rattle.std.specs.Str.{is_utf8}
 use Rattle.toml.specs.Data.{Members, as_integer, as_str, get_member}
 use Rattle.toml.specs.Parse.{parse_document}
+use Rattle.define_pools.specs.declared.Limits.TheVariants.{Usual}
 use Rattle.define_pools.specs.Pool.{is_name, is_size}
 use Rattle.define_offices.specs.Tables.{Charter}
 use Rattle.define_imports.specs.Cells.{Fault}
@@ -21,7 +22,7 @@ size_of (negsuc number) = 0
 abbrev pub judged : List ℕ → ℕ → Result Charter Fault
 judged title size =
     if not (is_name title) then fault 4
-    else if not (is_size size) then fault 6
+    else if not (is_size Usual size) then fault 6
     else Ok (record { title = title; size = size })
 
 -- the charter of the title and the size that were found, or its fault. 2: there is no title, or it isn't a string; 3: there is no size, or

@@ -7,7 +7,8 @@ use Rattle.std.proofs.lemmas.List.FromFn.{length-map-range_with_len, length-rang
 use Rattle.std.proofs.lemmas.List.Sums.{count_by-le-length}
 use Rattle.define_pools.proofs.Each.{each_range, list_all_from_each}
 use Rattle.define_pools.specs.Lists.{is_increasing}
-use Rattle.define_pools.specs.Pool.{Volunteer, IsPool, is_category, is_household, is_name, is_quota_panel, has_values, members_with, meets_quotas, volunteer}
+use Rattle.define_pools.specs.declared.Limits.TheVariants.{Large}
+use Rattle.define_pools.specs.Pool.{Volunteer, IsPool, most_members, most_volunteers, is_category, is_household, is_name, is_quota_panel, has_values, members_with, meets_quotas, volunteer}
 use Rattle.define_pools.proofs.AllPanels.{quota_from}
 use Rattle.define_made_pools.specs.MadePools.{made_categories, made_pool, made_size, made_volunteer, made_volunteers}
 use Rattle.define_made_pools.proofs.Volunteers.{each_volunteer, households_are_kept, id_is_name, ids_are_different, standings_are_kept, values_are_places}
@@ -35,11 +36,11 @@ is_pool seed n some few =
     let fits = size_fits n some few in
     let size = made_size n in
     record {
-      size = and_from (leb 1 size) (leb size 200) (le-leb 1 size fits.0) (le-leb size 200 (omega (arith, fits.1)));
+      size = and_from (leb 1 size) (leb size (most_members Large)) (le-leb 1 size fits.0) (le-leb size (most_members Large) (omega (arith, fits.1)));
       few_categories = refl;
       categories = categories_fit (made_volunteers seed n) size fits.1;
       different_categories = refl;
-      few_volunteers = le-leb (length (made_volunteers seed n)) 400 (omega (arith, length-map-range_with_len (made_volunteer seed) 0 n));
+      few_volunteers = le-leb (length (made_volunteers seed n)) (most_volunteers Large) (omega (arith, length-map-range_with_len (made_volunteer seed) 0 n));
       ids = each_volunteer (λ v. is_name v.id) seed n (λ i less. id_is_name i (omega arith));
       different_ids = ids_are_different seed n few;
       values = each_volunteer (λ v. has_values (made_categories (made_volunteers seed n) size) v.values) seed n

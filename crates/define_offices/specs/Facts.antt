@@ -5,6 +5,7 @@ use Rattle.define_pools.specs.Building.{category_names, ids}
 use Rattle.define_pools.specs.Certificate.{Certifies}
 use Rattle.define_pools.specs.Lists.{all_different, includes_list}
 use Rattle.define_pools.specs.Lottery.{TotalAgrees, LeximinGreatest}
+use Rattle.define_pools.specs.declared.Limits.TheVariants.{Usual}
 use Rattle.define_pools.specs.Pool.{Category, is_category, is_household, is_name, is_size}
 use Rattle.define_bundles.specs.BundleText.{Bundle, IsBundle}
 use Rattle.define_draws.specs.Dice.{name_ticket}
@@ -18,7 +19,7 @@ use Rattle.define_offices.specs.Deciding.{drawn_ids, fits_rules}
 
 -- the title is a name, and the size is in its range
 abbrev pub is_charter : Charter → Bool
-is_charter charter = is_name charter.title && is_size charter.size
+is_charter charter = is_name charter.title && is_size Usual charter.size
 
 -- the name is `id` or `key`. No category can have it, since each register has a column of this name
 abbrev pub is_reserved : List ℕ → Bool

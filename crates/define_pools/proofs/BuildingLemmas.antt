@@ -1,18 +1,20 @@
 -- If a step of building has no fault, the result is a pool again.
-use Rattle.std.proofs.Common.{◌≡◌, ℕ, zero, suc, ◌+◌, ◌<◌, Bool, true, false, cond, eqb, ltb, leb, not, ◌&&◌, ◌||◌, List, [], ◌∷◌, ◌++◌, length, Option, Some, None, option_map, unwrap_or, refl, sym, ap, ◌∙◌, arith, add-one, get_or}
+use Rattle.std.proofs.Common.{◌≡◌, ℕ, zero, suc, ◌+◌, ◌<◌, ◌≤◌, Bool, true, false, cond, eqb, ltb, leb, not, ◌&&◌, ◌||◌, List, [], ◌∷◌, ◌++◌, length, Option, Some, None, option_map, unwrap_or, refl, sym, ap, ◌∙◌, arith, add-one, get_or}
 use Rattle.std.specs.List.{list_all}
 use Rattle.std.specs.Str.{is_utf8, bytes_eq}
-use Rattle.std.proofs.lemmas.Bool.{false≢true, and_parts, and_from, or_parts, or_from, not-true, not-false, not_from_false, ltb-false, leb-false, eqb-true, eqb-false, le-leb, lt-ltb}
+use Rattle.std.proofs.lemmas.Bool.{cond_both, false≢true, and_parts, and_from, or_parts, or_from, not-true, not-false, not_from_false, ltb-false, leb-false, leb-true, eqb-true, eqb-false, eq-eqb, le-leb, lt-leb, lt-ltb}
 use Rattle.std.proofs.lemmas.Bool.Decides.{same_from_decides}
 use Rattle.std.proofs.lemmas.Slice.Eq.{bytes_eq-Decides}
 use Rattle.std.proofs.lemmas.List.{length_push, map_push, nil_from_length}
 use Rattle.std.proofs.lemmas.List.Folds.{list_any-append}
+use Rattle.define_pools.specs.declared.Limits.{Limits}
+use Rattle.define_pools.specs.declared.Limits.TheVariants.{Usual, Large}
 use Rattle.define_pools.specs.declared.Standing.{Standing}
 use Rattle.define_pools.specs.declared.Standing.TheVariants.{Open}
 pub use Rattle.define_pools.proofs.Each.{list_all-push as list_all_push}
 use Rattle.define_pools.proofs.Each.{list_all-push}
 use Rattle.define_pools.specs.Lists.{includes_list, all_different}
-use Rattle.define_pools.specs.Pool.{BoundedValue, Category, Volunteer, Pool, keeps_name_limits, is_name, is_size, are_bounds, is_value, is_category, has_values, is_household, IsPool}
+use Rattle.define_pools.specs.Pool.{BoundedValue, Category, Volunteer, Pool, limits_for, most_members, most_volunteers, keeps_name_limits, is_name, is_size, are_bounds, is_value, is_category, has_values, is_household, IsPool}
 use Rattle.define_pools.specs.Building.{category_names, value_names, ids, last_values, with_value, place_of, places_of, are_known, empty_pool, size_kind, category_added, category_kind, value_added, value_kind, volunteer_added, volunteer_kind, with_standing, standing_set, with_household, household_set, household_kind}
 
 -- If `if test then Some kind else rest` is None, `test` is false and `rest` is None.
@@ -42,10 +44,31 @@ limits_and_room name limit count h =
     let parts = or_parts (not (keeps_name_limits name)) (leb limit count) h in
     (not-false (keeps_name_limits name) parts.0, leb-false limit count parts.1)
 
+-- all limits are at most those of every pool
+pub members_are_few : (limits : Limits) → most_members limits ≤ most_members Large
+members_are_few Usual = omega arith
+members_are_few Large = omega arith
+
+pub volunteers_are_few : (limits : Limits) → most_volunteers limits ≤ most_volunteers Large
+volunteers_are_few Usual = omega arith
+volunteers_are_few Large = omega arith
+
+-- as many volunteers as a pool can have are within the limits for them
+pub within_limits_for : (volunteers : ℕ) → volunteers ≤ most_volunteers Large → volunteers ≤ most_volunteers (limits_for volunteers)
+within_limits_for volunteers few =
+    cond_both (leb volunteers (most_volunteers Usual)) Usual Large (λ limits. volunteers ≤ most_volunteers limits) (λ usual. leb-true volunteers (most_volunteers Usual) usual) (λ _. few)
+
+-- a size within any limits is a size within those of every pool
+pub is_size_of_pool : (limits : Limits) (size : ℕ) → is_size limits size ≡ true → is_size Large size ≡ true
+is_size_of_pool limits size h =
+    let parts = and_parts (leb 1 size) (leb size (most_members limits)) h in
+    let most = leb-true size (most_members limits) parts.1 in
+    and_from (leb 1 size) (leb size (most_members Large)) parts.0 (le-leb size (most_members Large) (omega (arith, most, members_are_few limits)))
+
 -- If the size has no fault, the empty pool of this size is a pool.
-pub IsPool-empty_pool : (size : ℕ) → size_kind size ≡ None → IsPool (empty_pool size)
-IsPool-empty_pool size h = record {
-  size = not-false (is_size size) (no_kind _ _ _ h).0;
+pub IsPool-empty_pool : (limits : Limits) (size : ℕ) → size_kind limits size ≡ None → IsPool (empty_pool size)
+IsPool-empty_pool limits size h = record {
+  size = is_size_of_pool limits size (not-false (is_size limits size) (no_kind _ _ _ h).0);
   few_categories = refl;
   categories = refl;
   different_categories = refl;
@@ -195,20 +218,20 @@ has_values_places (category ∷ categories) (name ∷ names) h k =
     and_from (ltb (unwrap_or (place_of category.values name) 0) (length category.values)) (has_values categories (places_of categories names)) here (has_values_places categories names parts.1 (omega arith))
 
 -- the properties of a volunteer without a fault
-pub record VolunteerFits (pool : Pool) (id : List ℕ) (names : List (List ℕ)) : Type 0 where
+pub record VolunteerFits (limit : Limits) (pool : Pool) (id : List ℕ) (names : List (List ℕ)) : Type 0 where
   pub known : are_known pool.categories names ≡ true
   pub each : length names ≡ length pool.categories
   pub new : includes_list (ids pool.volunteers) id ≡ false
   pub limits : keeps_name_limits id ≡ true
-  pub room : length pool.volunteers < 400
+  pub room : length pool.volunteers < most_volunteers limit
 
-pub volunteer_fits : (pool : Pool) (id : List ℕ) (names : List (List ℕ)) → volunteer_kind pool id names ≡ None → VolunteerFits pool id names
-volunteer_fits pool id names h =
+pub volunteer_fits : (limits : Limits) (pool : Pool) (id : List ℕ) (names : List (List ℕ)) → volunteer_kind limits pool id names ≡ None → VolunteerFits limits pool id names
+volunteer_fits limits pool id names h =
     let first = no_kind _ _ _ h in
     let second = no_kind _ _ _ first.1 in
     let third = no_kind _ _ _ second.1 in
     let fourth = no_kind _ _ _ third.1 in
-    let last = limits_and_room id 400 (length pool.volunteers) fourth.0 in
+    let last = limits_and_room id (most_volunteers limits) (length pool.volunteers) fourth.0 in
     record {
       known = not-false (are_known pool.categories names) first.0;
       each = eqb-true (length names) (length pool.categories) (not-false (eqb (length names) (length pool.categories)) second.0);
@@ -217,16 +240,26 @@ volunteer_fits pool id names h =
       room = last.1;
     }
 
-pub IsPool-volunteer_added : (pool : Pool) (id : List ℕ) (names : List (List ℕ)) → IsPool pool → volunteer_kind pool id names ≡ None → is_utf8 id ≡ true → IsPool (volunteer_added pool id names)
-IsPool-volunteer_added pool id names p kind utf8 =
-    let fits = volunteer_fits pool id names kind in
+-- a volunteer without a fault within any limits has none within those of every pool
+pub none_in_large : (limits : Limits) (pool : Pool) (id : List ℕ) (names : List (List ℕ)) → volunteer_kind limits pool id names ≡ None → volunteer_kind Large pool id names ≡ None
+none_in_large limits pool id names h =
+    let fits = volunteer_fits limits pool id names h in
+    let each : eqb (length names) (length pool.categories) ≡ true = eq-eqb (length names) (length pool.categories) fits.each in
+    let room : leb (most_volunteers Large) (length pool.volunteers) ≡ false =
+    lt-leb (most_volunteers Large) (length pool.volunteers) (omega (arith, fits.room, volunteers_are_few limits)) in
+    rw (fits.known, each, fits.new, fits.limits, room) refl
+
+pub IsPool-volunteer_added : (limits : Limits) (pool : Pool) (id : List ℕ) (names : List (List ℕ)) → IsPool pool → volunteer_kind limits pool id names ≡ None → is_utf8 id ≡ true →
+    IsPool (volunteer_added pool id names)
+IsPool-volunteer_added limits pool id names p kind utf8 =
+    let fits = volunteer_fits limits pool id names kind in
     let volunteer : Volunteer = record { id = id; values = places_of pool.categories names; standing = Open; household = None } in
     record {
       size = p.size;
       few_categories = p.few_categories;
       categories = p.categories;
       different_categories = p.different_categories;
-      few_volunteers = le-leb (length (pool.volunteers ++ volunteer ∷ [])) 400 (omega (arith, length_push pool.volunteers volunteer, fits.room));
+      few_volunteers = le-leb (length (pool.volunteers ++ volunteer ∷ [])) (most_volunteers Large) (omega (arith, length_push pool.volunteers volunteer, fits.room, volunteers_are_few limits));
       ids = list_all-push (λ (v : Volunteer). is_name v.id) pool.volunteers volunteer p.ids (and_from (keeps_name_limits id) (is_utf8 id) fits.limits utf8);
       different_ids = rw (map_push (λ (v : Volunteer). v.id) pool.volunteers volunteer) (all_different_push (ids pool.volunteers) id p.different_ids fits.new);
       values = list_all-push (λ (v : Volunteer). has_values pool.categories v.values) pool.volunteers volunteer p.values (has_values_places pool.categories names fits.known fits.each);

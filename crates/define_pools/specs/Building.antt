@@ -2,10 +2,11 @@
 -- If several kinds apply, the fault has the lowest. Builds on Lists and Pool. `pool_model` builds pools this way, and `define_bundles`
 -- uses the kinds. The definitions of bundles, proofs, imports and offices use parts of it, as `lowest_kind` and `category_names`.
 use Rattle.std.specs.Prelude.{ℕ, zero, suc, ◌+◌, ◌==◌, nat_lt, nat_le, if◌then◌else◌, Bool, true, not, ◌&&◌, ◌||◌, List, [], ◌∷◌, ◌++◌, map, length, bytes_eq, Option, Some, None, unwrap_or, option_map}
+use Rattle.define_pools.specs.declared.Limits.{Limits}
 use Rattle.define_pools.specs.declared.Standing.{Standing}
 use Rattle.define_pools.specs.declared.Standing.TheVariants.{Open}
 use Rattle.define_pools.specs.Lists.{includes_list}
-use Rattle.define_pools.specs.Pool.{Pool, Category, BoundedValue, Volunteer, is_size, are_bounds, keeps_name_limits}
+use Rattle.define_pools.specs.Pool.{Pool, Category, BoundedValue, Volunteer, most_volunteers, is_size, are_bounds, keeps_name_limits}
 
 -- the first kind of the list that applies, or None. The list is in rising order; each kind comes with whether it applies
 abbrev pub lowest_kind : List (ℕ × Bool) → Option ℕ
@@ -56,11 +57,11 @@ abbrev pub empty_pool : ℕ → Pool
 empty_pool size = record { size = size; categories = []; volunteers = [] }
 
 -- the kinds of fault of a size. Kind 2: the size is out of range
-abbrev pub size_kinds : ℕ → List (ℕ × Bool)
-size_kinds size = (2, not (is_size size)) ∷ []
+abbrev pub size_kinds : Limits → ℕ → List (ℕ × Bool)
+size_kinds limits size = (2, not (is_size limits size)) ∷ []
 
-abbrev pub size_kind : ℕ → Option ℕ
-size_kind size = lowest_kind (size_kinds size)
+abbrev pub size_kind : Limits → ℕ → Option ℕ
+size_kind limits size = lowest_kind (size_kinds limits size)
 
 abbrev pub category_added : Pool → List ℕ → Pool
 category_added pool name = record pool { categories = pool.categories ++ record { name = name; values = [] } ∷ [] }
@@ -100,17 +101,18 @@ volunteer_added pool id names =
     record pool { volunteers = pool.volunteers ++ record { id = id; values = places_of pool.categories names; standing = Open; household = None } ∷ [] }
 
 -- the kinds of fault of a new volunteer. Kind 6: a name given for a category is none of its values. Kind 7: there isn't one name per
--- category. Kind 8: an earlier volunteer has this id. Kind 10: the id isn't allowed, or there are 400 volunteers already
-abbrev pub volunteer_kinds : Pool → List ℕ → List (List ℕ) → List (ℕ × Bool)
-volunteer_kinds pool id names =
+-- category. Kind 8: an earlier volunteer has this id. Kind 10: the id isn't allowed, or there are as many volunteers already as the limits
+-- allow
+abbrev pub volunteer_kinds : Limits → Pool → List ℕ → List (List ℕ) → List (ℕ × Bool)
+volunteer_kinds limits pool id names =
     (6, not (are_known pool.categories names))
     ∷ (7, not (length names == length pool.categories))
     ∷ (8, includes_list (ids pool.volunteers) id)
-    ∷ (10, not (keeps_name_limits id) || nat_le 400 (length pool.volunteers))
+    ∷ (10, not (keeps_name_limits id) || nat_le (most_volunteers limits) (length pool.volunteers))
     ∷ []
 
-abbrev pub volunteer_kind : Pool → List ℕ → List (List ℕ) → Option ℕ
-volunteer_kind pool id names = lowest_kind (volunteer_kinds pool id names)
+abbrev pub volunteer_kind : Limits → Pool → List ℕ → List (List ℕ) → Option ℕ
+volunteer_kind limits pool id names = lowest_kind (volunteer_kinds limits pool id names)
 
 -- the same volunteers, but the one at place `number`, counted from 0, has the standing `standing`
 abbrev pub with_standing : List Volunteer → ℕ → Standing → List Volunteer

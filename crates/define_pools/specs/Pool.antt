@@ -1,7 +1,9 @@
 -- Pools, quota panels, and the list of a pool's quota panels. Builds on Lists. Every other file about pools builds on this one.
-use Rattle.std.specs.Prelude.{ℕ, ◌==◌, nat_lt, nat_le, Bool, true, false, not, ◌&&◌, IsTrue, List, [], ◌∷◌, map, length, count_by, filter, slice_index, slice_index_or, Option, Some, None, is_some, bytes_eq}
+use Rattle.std.specs.Prelude.{ℕ, ◌==◌, nat_lt, nat_le, if◌then◌else◌, Bool, true, false, not, ◌&&◌, IsTrue, List, [], ◌∷◌, map, length, count_by, filter, slice_index, slice_index_or, Option, Some, None, is_some, bytes_eq}
 use Rattle.std.specs.List.{list_all, list_any, enumerate_from, range_with_len}
 use Rattle.std.specs.Str.{is_utf8}
+use Rattle.define_pools.specs.declared.Limits.{Limits}
+use Rattle.define_pools.specs.declared.Limits.TheVariants.{Usual, Large}
 use Rattle.define_pools.specs.declared.Standing.{Standing}
 use Rattle.define_pools.specs.declared.Standing.TheVariants.{Open, Seated, Gone}
 use Rattle.define_pools.specs.Lists.{choices, includes, is_increasing, all_different}
@@ -44,9 +46,23 @@ abbrev pub is_household : Option (List ℕ) → Bool
 is_household None = true
 is_household (Some name) = is_name name
 
--- a panel has 1 to 200 members
-abbrev pub is_size : ℕ → Bool
-is_size size = nat_le 1 size && nat_le size 200
+-- the greatest number of a panel's members
+abbrev pub most_members : Limits → ℕ
+most_members Usual = 200
+most_members Large = 1000
+
+-- the greatest number of volunteers
+abbrev pub most_volunteers : Limits → ℕ
+most_volunteers Usual = 400
+most_volunteers Large = 4000
+
+-- the limits that a pool with this many volunteers needs
+abbrev pub limits_for : ℕ → Limits
+limits_for volunteers = if nat_le volunteers (most_volunteers Usual) then Usual else Large
+
+-- a panel has at least one member, and at most as many as the limits say
+abbrev pub is_size : Limits → ℕ → Bool
+is_size limits size = nat_le 1 size && nat_le size (most_members limits)
 
 -- the lower bound is at most the upper one, which is at most 999
 abbrev pub are_bounds : ℕ → ℕ → Bool
@@ -72,15 +88,19 @@ has_values (category ∷ categories) (place ∷ places) = nat_lt place (length c
 -- the pool's numbers, names and bounds are within the limits. Its categories have different names, and its volunteers different ids. Each
 -- volunteer has a value of each category
 pub record IsPool (pool : Pool) : Type 0 where
-  pub size : IsTrue (is_size pool.size)
+  pub size : IsTrue (is_size Large pool.size)
   pub few_categories : IsTrue (nat_le (length pool.categories) 20)
   pub categories : IsTrue (list_all is_category pool.categories)
   pub different_categories : IsTrue (all_different (map (λ category. category.name) pool.categories))
-  pub few_volunteers : IsTrue (nat_le (length pool.volunteers) 400)
+  pub few_volunteers : IsTrue (nat_le (length pool.volunteers) (most_volunteers Large))
   pub ids : IsTrue (list_all (λ volunteer. is_name volunteer.id) pool.volunteers)
   pub different_ids : IsTrue (all_different (map (λ volunteer. volunteer.id) pool.volunteers))
   pub values : IsTrue (list_all (λ volunteer. has_values pool.categories volunteer.values) pool.volunteers)
   pub households : IsTrue (list_all (λ volunteer. is_household volunteer.household) pool.volunteers)
+
+-- the pool is within the usual limits
+abbrev pub is_usual : Pool → Bool
+is_usual pool = nat_le pool.size (most_members Usual) && nat_le (length pool.volunteers) (most_volunteers Usual)
 
 -- some volunteer has a household
 abbrev pub has_households : Pool → Bool

@@ -11,7 +11,7 @@
 
 ghost use Rattle.std.specs.Prelude.{◌≡◌, ◌↔◌, ◌*◌, [], ◌∷◌, List, ℕ, Contains, IsTrue, sum};
 ghost use Rattle.std.specs.List.{list_all};
-ghost use Rattle.define_pools.specs.Pool.{is_of_size, is_quota_panel, Pool, IsPool, panels};
+ghost use Rattle.define_pools.specs.Pool.{is_of_size, is_quota_panel, Pool, IsPool, panels, limits_for, most_members, most_volunteers};
 ghost use Rattle.define_pools.specs.Lottery.{Lottery, IsLottery, TotalAgrees, LeximinGreatest, counts};
 ghost use Rattle.define_pools.specs.Certificate.{Stage, Certifies};
 
@@ -24,6 +24,48 @@ pub enum Standing {
     Seated,
     /// Can't be chosen any more.
     Gone,
+}
+
+/// The limits of a pool's size.
+#[derive(Clone, Copy)]
+pub enum Limits {
+    /// Those of most pools: panels of at most 200 members, and at most 400 volunteers.
+    Usual,
+    /// Those of every pool: panels of at most 1,000 members, and at most 4,000 volunteers.
+    Large,
+}
+
+impl Limits {
+    /// Returns the limits that a pool with this many volunteers needs.
+    pub fn of(volunteers: usize) -> Limits
+        ensures { result ≡ limits_for volunteers }
+    {
+        if volunteers <= Limits::Usual.volunteers() {
+            Limits::Usual
+        } else {
+            Limits::Large
+        }
+    }
+
+    /// Returns the greatest number of a panel's members.
+    pub fn members(self) -> usize
+        ensures { result ≡ most_members self }
+    {
+        match self {
+            Limits::Usual => 200,
+            Limits::Large => 1000,
+        }
+    }
+
+    /// Returns the greatest number of volunteers.
+    pub fn volunteers(self) -> usize
+        ensures { result ≡ most_volunteers self }
+    {
+        match self {
+            Limits::Usual => 400,
+            Limits::Large => 4000,
+        }
+    }
 }
 
 /// A lottery that stages certify is leximin greatest: no lottery over the pool's quota panels is above it.

@@ -3,6 +3,7 @@ use Rattle.std.proofs.Common.{◌≡◌, ℕ, Bool, true, ltb, List, length, map
 use Rattle.define_pools.specs.Lists.{is_increasing}
 use Rattle.define_bundles.specs.PoolReading as pools
 use Rattle.define_bundles.proofs.LowestKinds as pool_kinds
+use Rattle.define_bundles.specs.declared.Version.{Version}
 use Rattle.define_bundles.specs.BundleReading as bundles
 use Rattle.define_proofs.specs.ProofReading.{Begun, Closed, InBundle, InNoPanel, InPool, InTrees, LineInTree, NextTree, OfNode, Opened, Progress, TheClose, Unknown, WithoutPanel, line_kinds, said_in_no_panel, said_in_trees, tree_kinds}
 
@@ -10,11 +11,11 @@ use Rattle.define_proofs.specs.ProofReading.{Begun, Closed, InBundle, InNoPanel,
 abbrev Rise : List (ℕ × Bool) → Type 0
 Rise kinds = is_increasing (map (λ kind. kind.0) kinds) ≡ true
 
-pool_line : (second : Bool) (progress : pools.Progress) (line : List ℕ) → Rise (bundles.pool_kinds second progress line)
-pool_line second pools.Begun line = refl
-pool_line second (pools.Versioned version) line = pool_kinds.line_kinds_rise (pools.Versioned version) line
-pool_line second (pools.Inside pool passed) line = pool_kinds.line_kinds_rise (pools.Inside pool passed) line
-pool_line second (pools.Ended pool) line = refl
+pool_line : (version : Version) (progress : pools.Progress) (line : List ℕ) → Rise (bundles.pool_kinds version progress line)
+pool_line version pools.Begun line = refl
+pool_line version (pools.Versioned said) line = pool_kinds.line_kinds_rise (pools.Versioned said) line
+pool_line version (pools.Inside pool passed) line = pool_kinds.line_kinds_rise (pools.Inside pool passed) line
+pool_line version (pools.Ended pool) line = refl
 
 row_line : (behind : Bool) (said : bundles.AnswerLine) → Rise (bundles.row_kinds behind said)
 row_line behind (bundles.OfRow row) = refl
@@ -40,12 +41,12 @@ pub line_kinds_rise : (progress : Progress) (line : List ℕ) → Rise (line_kin
 line_kinds_rise Begun line = refl
 line_kinds_rise Opened line = refl
 line_kinds_rise (InBundle bundles.Begun) line = refl
-line_kinds_rise (InBundle (bundles.InPool second progress)) line = pool_line second progress line
+line_kinds_rise (InBundle (bundles.InPool version progress)) line = pool_line version progress line
 line_kinds_rise (InBundle (bundles.InRows pool lottery)) line = row_line (ltb 0 (length lottery.rows)) (bundles.said_of pool line)
 line_kinds_rise (InBundle (bundles.InStages pool answer)) line = stage_line (bundles.said_of pool line)
 line_kinds_rise (InBundle (bundles.Done bundle)) line = refl
 line_kinds_rise (InPool pools.Begun) line = refl
-line_kinds_rise (InPool (pools.Versioned second)) line = pool_kinds.line_kinds_rise (pools.Versioned second) line
+line_kinds_rise (InPool (pools.Versioned version)) line = pool_kinds.line_kinds_rise (pools.Versioned version) line
 line_kinds_rise (InPool (pools.Inside pool passed)) line = pool_kinds.line_kinds_rise (pools.Inside pool passed) line
 line_kinds_rise (InPool (pools.Ended pool)) line = refl
 line_kinds_rise (WithoutPanel pool) line = refl

@@ -16,7 +16,7 @@ use Rattle.define_pools.specs.declared.Standing.TheVariants.{Open, Seated, Gone}
 use Rattle.define_proofs.specs.Constraints.{Constraint, coefficient, constraint_at, signed_sum}
 use Rattle.define_proofs.specs.LeafSums.{charges_and_rests, first_charges, first_multipliers, is_in_reach, is_problem_in_reach, is_stage_in_reach}
 use Rattle.define_proofs.specs.Leaves.{Leaf, Multiplier, Problem, charge, multiplied, rest, rest_charge}
-use Rattle.define_proofs.specs.TreeRanges.{is_leaf, is_multiplier, last_constraint, number_limit}
+use Rattle.define_proofs.specs.TreeRanges.{is_leaf, is_multiplier, greatest_constraint, number_limit}
 use Rattle.define_proofs.proofs.SignedSums.{sum-is-total, total}
 
 -- ---- sums and absolute values
@@ -120,7 +120,7 @@ IsSmall multiplier = unsigned_abs multiplier.factor ≤ number_limit
 record LeafParts (leaf : Leaf) : Type 0 where
   scale : leaf.scale ≤ number_limit
   factors : AllByRecursion IsSmall leaf.multipliers
-  few : length leaf.multipliers ≤ 1801
+  few : length leaf.multipliers ≤ 9001
 
 module _ (leaf : Leaf) (is : is_leaf leaf ≡ true) where
   leaf_parts : LeafParts leaf
@@ -131,21 +131,21 @@ module _ (leaf : Leaf) (is : is_leaf leaf ≡ true) where
       let parts = and_parts (A && B) (is_increasing numbers) is in let first = and_parts A B parts.0 in
       let each = each_from_list_all is_multiplier ms first.1 in
       let most = low ms each in
-      let rise = few_rising 0 last_constraint numbers parts.1 (each_everywhere (λ x. 0 ≤ x) (λ x. omega arith) numbers) most in
+      let rise = few_rising 0 greatest_constraint numbers parts.1 (each_everywhere (λ x. 0 ≤ x) (λ x. omega arith) numbers) most in
       let many = same_length ms in
       record { scale = leb-true leaf.scale number_limit first.0; factors = each_map (λ m. is_multiplier m ≡ true) IsSmall small ms each; few = omega (arith, rise, many) }
     where
-      parts_of : (m : Multiplier) → is_multiplier m ≡ true → (leb m.number last_constraint ≡ true) × (leb (unsigned_abs m.factor) number_limit ≡ true)
+      parts_of : (m : Multiplier) → is_multiplier m ≡ true → (leb m.number greatest_constraint ≡ true) × (leb (unsigned_abs m.factor) number_limit ≡ true)
       parts_of m h =
-          let A = leb m.number last_constraint in let B = ltb 0 (unsigned_abs m.factor) in let C = leb (unsigned_abs m.factor) number_limit in
+          let A = leb m.number greatest_constraint in let B = ltb 0 (unsigned_abs m.factor) in let C = leb (unsigned_abs m.factor) number_limit in
           let two = and_parts (A && B) C h in ((and_parts A B two.0).0, two.1)
 
       small : (m : Multiplier) → is_multiplier m ≡ true → IsSmall m
       small m h = leb-true (unsigned_abs m.factor) number_limit (parts_of m h).1
 
-      low : (ms : List Multiplier) → AllByRecursion (λ m. is_multiplier m ≡ true) ms → AllByRecursion (λ x. x ≤ last_constraint) (map (λ (multiplier : Multiplier). multiplier.number) ms)
+      low : (ms : List Multiplier) → AllByRecursion (λ m. is_multiplier m ≡ true) ms → AllByRecursion (λ x. x ≤ greatest_constraint) (map (λ (multiplier : Multiplier). multiplier.number) ms)
       low [] h = tt
-      low (m ∷ ms) h = (leb-true m.number last_constraint (parts_of m h.0).0, low ms h.1)
+      low (m ∷ ms) h = (leb-true m.number greatest_constraint (parts_of m h.0).0, low ms h.1)
 
       same_length : (ms : List Multiplier) → length (map (λ (multiplier : Multiplier). multiplier.number) ms) ≡ length ms
       same_length [] = refl
@@ -190,7 +190,7 @@ module _ (problem : Problem) (near : is_problem_in_reach problem ≡ true) (leaf
       by true = (at m.number).upper
       by false = (at m.number).lower
 
-  charges_within : (k : ℕ) → unsigned_abs (signed_sum (charge all) (take k ms)) ≤ 1801 * square
+  charges_within : (k : ℕ) → unsigned_abs (signed_sum (charge all) (take k ms)) ≤ 9001 * square
   charges_within k =
       let size : Multiplier → ℕ = λ m. unsigned_abs (charge all m) in
       let same = ap unsigned_abs (sum-is-total (charge all) (take k ms)) in
@@ -219,7 +219,7 @@ module _ (problem : Problem) (near : is_problem_in_reach problem ≡ true) (leaf
       let product = unsigned_abs-mul (pos leaf.scale) (weight_of problem.stage i) in
       omega (arith, same, apart, part, two, product)
 
-  rest_within : (k i : ℕ) → unsigned_abs (rest problem (first_multipliers k leaf) i) ≤ 1802 * square
+  rest_within : (k i : ℕ) → unsigned_abs (rest problem (first_multipliers k leaf) i) ≤ 9002 * square
   rest_within k i =
       let apart = rest_apart k i in
       let weight = weight_within i in
@@ -261,7 +261,7 @@ module _ (problem : Problem) (near : is_problem_in_reach problem ≡ true) (leaf
         let product = product_within (naturals.total (λ pair. unsigned_abs (weight_of problem.stage pair.0)) places) leaf.scale (omega (arith, sum, within)) known.scale in
         omega (arith, scaled, each, product)
 
-    all_rests : naturals.total (λ pair. unsigned_abs (rest problem leaf pair.0)) places ≤ 1802 * square
+    all_rests : naturals.total (λ pair. unsigned_abs (rest problem leaf pair.0)) places ≤ 9002 * square
     all_rests =
         let weights : ℕ × Standing → ℕ = λ pair. leaf.scale * unsigned_abs (weight_of problem.stage pair.0) in
         let products : ℕ × Standing → ℕ = λ pair. naturals.total (λ m. unsigned_abs (multiplied all pair.0 m)) ms in
@@ -278,7 +278,7 @@ module _ (problem : Problem) (near : is_problem_in_reach problem ≡ true) (leaf
         whole_rest i = subst (λ those. unsigned_abs (rest problem (record leaf { multipliers = those }) i) ≤ leaf.scale * unsigned_abs (weight_of problem.stage i) + naturals.total (λ m. unsigned_abs (multiplied all i m)) ms)
             (take-length ms) (rest_apart (length ms) i)
 
-    total_within : (k : ℕ) → unsigned_abs (charges_and_rests problem standings k leaf) ≤ 3603 * square
+    total_within : (k : ℕ) → unsigned_abs (charges_and_rests problem standings k leaf) ≤ 18003 * square
     total_within k =
         let f : ℕ × Standing → ℤ = λ pair. rest_charge pair.1 (rest problem leaf pair.0) in
         let charges = charges_whole in
@@ -290,12 +290,12 @@ module _ (problem : Problem) (near : is_problem_in_reach problem ≡ true) (leaf
         (each_everywhere (λ pair. unsigned_abs (f pair) ≤ unsigned_abs (rest problem leaf pair.0)) (λ pair. charge_of_rest pair.1 (rest problem leaf pair.0)) places) in
         let rests = all_rests in omega (arith, charges, two, same, apart, part, each, rests)
       where
-        charges_whole : unsigned_abs (signed_sum (charge all) ms) ≤ 1801 * square
-        charges_whole = subst (λ those. unsigned_abs (signed_sum (charge all) those) ≤ 1801 * square) (take-length ms) (charges_within (length ms))
+        charges_whole : unsigned_abs (signed_sum (charge all) ms) ≤ 9001 * square
+        charges_whole = subst (λ those. unsigned_abs (signed_sum (charge all) those) ≤ 9001 * square) (take-length ms) (charges_within (length ms))
 
   -- ---- all these sums are below 2^127
 
-  wide : 3603 * square < 2 ^ 127
+  wide : 18003 * square < 2 ^ 127
   wide = lit< tt
 
   pub rest_narrow : (k i : ℕ) → unsigned_abs (rest problem (first_multipliers k leaf) i) < 2 ^ 127

@@ -17,7 +17,7 @@ use Rattle.define_bundles.specs.Ranges.{reach}
 use Rattle.define_bundles.proofs.AnswerLines.{stage_fields}
 use Rattle.define_proofs.specs.Leaves.{Leaf, Multiplier}
 use Rattle.define_proofs.specs.TreeLines.{OfLeaf, OfSplit, TreeLine}
-use Rattle.define_proofs.specs.TreeRanges.{is_leaf, is_multiplier, is_tree_line, last_constraint, number_limit}
+use Rattle.define_proofs.specs.TreeRanges.{is_leaf, is_multiplier, are_constraints, is_tree_line, greatest_constraint, number_limit}
 use Rattle.define_proofs.specs.ProofText.{close_line, most_trees, multiplier_fields, node_line, tree_line}
 use Rattle.define_proofs.specs.ProofReading.{LineInTree, NextTree, OfNode, TheClose, Unknown, leaf_of, leaf_said, line_in_tree, multiplier_of, multipliers_of, node_in_range, node_said, split_of, split_said}
 
@@ -26,20 +26,20 @@ use Rattle.define_proofs.specs.ProofReading.{LineInTree, NextTree, OfNode, TheCl
 -- inside tree `number` of `last`, the line is the spelling of `said`, and the numbers in `said` are in range
 abbrev pub IsSpelled : ℕ → ℕ → ℕ → List ℕ → LineInTree → Type 0
 IsSpelled volunteers number last line (OfNode node) = (line ≡ node_line node) × (is_tree_line volunteers node ≡ true)
-IsSpelled volunteers number last line NextTree = (line ≡ tree_line (number + 1)) × (number < last) × (number < most_trees)
+IsSpelled volunteers number last line NextTree = (line ≡ tree_line (number + 1)) × (number < last) × (number < most_trees volunteers)
 IsSpelled volunteers number last line TheClose = (line ≡ close_line) × (number ≡ last)
 IsSpelled volunteers number last line Unknown = Unit {0}
 
 -- if two fields are read as a multiplier, they are the multiplier's fields
-pair_spelled : (number factor : List ℕ) (multiplier : Multiplier) → multiplier_of (number_up_to last_constraint number) (signed_up_to number_limit factor) ≡ Some multiplier →
+pair_spelled : (number factor : List ℕ) (multiplier : Multiplier) → multiplier_of (number_up_to greatest_constraint number) (signed_up_to number_limit factor) ≡ Some multiplier →
     number ∷ factor ∷ [] ≡ multiplier_fields multiplier
-pair_spelled number factor multiplier h = by (number_up_to last_constraint number) (signed_up_to number_limit factor) refl refl h
+pair_spelled number factor multiplier h = by (number_up_to greatest_constraint number) (signed_up_to number_limit factor) refl refl h
   where
-    by : (n : Option ℕ) (f : Option ℤ) → number_up_to last_constraint number ≡ n → signed_up_to number_limit factor ≡ f → multiplier_of n f ≡ Some multiplier → number ∷ factor ∷ [] ≡ multiplier_fields multiplier
+    by : (n : Option ℕ) (f : Option ℤ) → number_up_to greatest_constraint number ≡ n → signed_up_to number_limit factor ≡ f → multiplier_of n f ≡ Some multiplier → number ∷ factor ∷ [] ≡ multiplier_fields multiplier
     by None f d e k = cc
     by (Some n) None d e k = cc
     by (Some n) (Some f) d e k =
-        let one : decimal n ≡ number = (number_spelled last_constraint n number d).0 in
+        let one : decimal n ≡ number = (number_spelled greatest_constraint n number d).0 in
         let other : signed_decimal f ≡ factor = (signed_spelled number_limit f factor e).0 in
         let made : Multiplier = record { number = n; factor = f } in
         let same : made ≡ multiplier = cc in
@@ -50,9 +50,9 @@ multipliers_spelled [] [] h = refl
 multipliers_spelled [] (multiplier ∷ multipliers) h = cc
 multipliers_spelled (number ∷ []) multipliers h = cc
 multipliers_spelled (number ∷ factor ∷ fields) multipliers h =
-    both (multiplier_of (number_up_to last_constraint number) (signed_up_to number_limit factor)) (multipliers_of fields) refl refl (multipliers_spelled fields) h
+    both (multiplier_of (number_up_to greatest_constraint number) (signed_up_to number_limit factor)) (multipliers_of fields) refl refl (multipliers_spelled fields) h
   where
-    both : (first : Option Multiplier) (rest : Option (List Multiplier)) → multiplier_of (number_up_to last_constraint number) (signed_up_to number_limit factor) ≡ first → multipliers_of fields ≡ rest →
+    both : (first : Option Multiplier) (rest : Option (List Multiplier)) → multiplier_of (number_up_to greatest_constraint number) (signed_up_to number_limit factor) ≡ first → multipliers_of fields ≡ rest →
         ((others : List Multiplier) → multipliers_of fields ≡ Some others → fields ≡ flat_map multiplier_fields others) → with_number first rest ≡ Some multipliers →
         number ∷ factor ∷ fields ≡ flat_map multiplier_fields multipliers
     both None rest d e again k = cc
@@ -105,13 +105,13 @@ module _ (volunteers number last : ℕ) where
   pub line_spelled : (line : List ℕ) → Spells line (line_in_tree volunteers number last line)
   line_spelled line =
       let node = node_said volunteers (fields_of line) in
-      let next = cond (ltb number last && ltb number most_trees) NextTree Unknown in
+      let next = cond (ltb number last && ltb number (most_trees volunteers)) NextTree Unknown in
       cond_both (bytes_eq line close_line) (cond (eqb number last) TheClose Unknown) (cond (bytes_eq line (tree_line (number + 1))) next node) (Spells line)
       (λ e. cond_both (eqb number last) TheClose Unknown (Spells line) (λ f. (bytes_are line close_line e, eqb-true number last f)) (λ _. tt))
       (λ _. cond_both (bytes_eq line (tree_line (number + 1))) next node (Spells line)
-      (λ e. cond_both (ltb number last && ltb number most_trees) NextTree Unknown (Spells line)
-      (λ f. let parts = and_parts (ltb number last) (ltb number most_trees) f in
-      (bytes_are line (tree_line (number + 1)) e, ltb-true number last parts.0, ltb-true number most_trees parts.1)) (λ _. tt))
+      (λ e. cond_both (ltb number last && ltb number (most_trees volunteers)) NextTree Unknown (Spells line)
+      (λ f. let parts = and_parts (ltb number last) (ltb number (most_trees volunteers)) f in
+      (bytes_are line (tree_line (number + 1)) e, ltb-true number last parts.0, ltb-true number (most_trees volunteers) parts.1)) (λ _. tt))
       (λ _. subst (λ l. Spells l node) (line_of-fields_of line) (node_spelled (fields_of line))))
 
 -- ---- the spelling of a value is read as this value
@@ -131,15 +131,15 @@ signed_field z small =
 
 -- the properties of a multiplier in its ranges
 record MultiplierParts (multiplier : Multiplier) : Type 0 where
-  number : multiplier.number ≤ last_constraint
+  number : multiplier.number ≤ greatest_constraint
   factor : unsigned_abs multiplier.factor ≤ number_limit
 
 multiplier_parts : (multiplier : Multiplier) → is_multiplier multiplier ≡ true → MultiplierParts multiplier
 multiplier_parts multiplier is =
-    let A = leb multiplier.number last_constraint in let B = ltb 0 (unsigned_abs multiplier.factor) in
+    let A = leb multiplier.number greatest_constraint in let B = ltb 0 (unsigned_abs multiplier.factor) in
     let parts = and_parts (A && B) (leb (unsigned_abs multiplier.factor) number_limit) is in
     record {
-      number = leb-true multiplier.number last_constraint (and_parts A B parts.0).0;
+      number = leb-true multiplier.number greatest_constraint (and_parts A B parts.0).0;
       factor = leb-true (unsigned_abs multiplier.factor) number_limit parts.1;
     }
 
@@ -158,7 +158,7 @@ multipliers_again (multiplier ∷ multipliers) h =
     let known = multiplier_parts multiplier parts.0 in
     let few = known.number in let small = known.factor in let wide = limit_small in
     let rest = multipliers_of (flat_map multiplier_fields multipliers) in
-    ap (λ o. with_number (multiplier_of o (signed_up_to number_limit (signed_decimal multiplier.factor))) rest) (number_again last_constraint multiplier.number (omega arith) few)
+    ap (λ o. with_number (multiplier_of o (signed_up_to number_limit (signed_decimal multiplier.factor))) rest) (number_again greatest_constraint multiplier.number (omega arith) few)
     ∙ ap (λ o. with_number (multiplier_of (Some multiplier.number) o) rest) (signed_again number_limit multiplier.factor (omega arith) small)
     ∙ ap (with_number (Some multiplier)) (multipliers_again multipliers parts.1)
 
@@ -173,9 +173,13 @@ leaf_parts leaf is =
     let parts = and_parts (A && B) (is_increasing (map (λ (multiplier : Multiplier). multiplier.number) leaf.multipliers)) is in
     let two = and_parts A B parts.0 in record { scale = leb-true leaf.scale number_limit two.0; multipliers = two.1 }
 
-module _ (volunteers : ℕ) (small : volunteers ≤ 400) where
+module _ (volunteers : ℕ) (small : volunteers ≤ 4000) where
   split_fields : (i : ℕ) → ltb i volunteers ≡ true → AllByRecursion IsField (codes "split" ∷ decimal i ∷ [])
   split_fields i is = let below = ltb-true i volunteers is in (plain_field (codes "split") refl, (decimal_field i (omega arith), tt))
+
+  -- a leaf in its ranges for this pool is a leaf
+  leaf_of_line : (leaf : Leaf) → is_tree_line volunteers (OfLeaf leaf) ≡ true → is_leaf leaf ≡ true
+  leaf_of_line leaf is = (and_parts (is_leaf leaf) (are_constraints volunteers leaf.multipliers) is).0
 
   leaf_fields : (leaf : Leaf) → is_leaf leaf ≡ true → AllByRecursion IsField (codes "bound" ∷ decimal leaf.scale ∷ flat_map multiplier_fields leaf.multipliers)
   leaf_fields leaf is =
@@ -185,7 +189,7 @@ module _ (volunteers : ℕ) (small : volunteers ≤ 400) where
   -- the line of a node in its ranges has no LF
   pub node_lacks_feed : (node : TreeLine) → is_tree_line volunteers node ≡ true → Lacks line_feed (node_line node)
   node_lacks_feed (OfSplit i) is = line_lacks_feed (codes "split" ∷ decimal i ∷ []) (split_fields i is)
-  node_lacks_feed (OfLeaf leaf) is = line_lacks_feed (codes "bound" ∷ decimal leaf.scale ∷ flat_map multiplier_fields leaf.multipliers) (leaf_fields leaf is)
+  node_lacks_feed (OfLeaf leaf) is = line_lacks_feed (codes "bound" ∷ decimal leaf.scale ∷ flat_map multiplier_fields leaf.multipliers) (leaf_fields leaf (leaf_of_line leaf is))
 
   said_again : (node : TreeLine) → is_tree_line volunteers node ≡ true → node_said volunteers (fields_of (node_line node)) ≡ OfNode node
   said_again (OfSplit i) is =
@@ -195,8 +199,9 @@ module _ (volunteers : ℕ) (small : volunteers ≤ 400) where
       ∙ ap (λ test. cond test (OfNode (OfSplit i)) Unknown) is
   said_again (OfLeaf leaf) is =
       let fields = decimal leaf.scale ∷ flat_map multiplier_fields leaf.multipliers in
-      let parts = leaf_parts leaf is in let most = parts.scale in let wide = limit_small in
-      ap (node_said volunteers) (fields_of-line_of (codes "bound") fields (each_map IsField (Lacks tab) (λ f it. it.no_tab) (codes "bound" ∷ fields) (leaf_fields leaf is)))
+      let leaf_is = leaf_of_line leaf is in
+      let parts = leaf_parts leaf leaf_is in let most = parts.scale in let wide = limit_small in
+      ap (node_said volunteers) (fields_of-line_of (codes "bound") fields (each_map IsField (Lacks tab) (λ f it. it.no_tab) (codes "bound" ∷ fields) (leaf_fields leaf leaf_is)))
       ∙ ap (λ n. leaf_of volunteers n (multipliers_of (flat_map multiplier_fields leaf.multipliers))) (number_again number_limit leaf.scale (omega arith) most)
       ∙ ap (leaf_of volunteers (Some leaf.scale)) (multipliers_again leaf.multipliers parts.multipliers)
       ∙ ap (λ test. cond test (OfNode (OfLeaf leaf)) Unknown) is
@@ -207,16 +212,16 @@ module _ (volunteers : ℕ) (small : volunteers ≤ 400) where
   node_again number last (OfLeaf leaf) is = said_again (OfLeaf leaf) is
 
 -- inside tree `number`, if `number` is below `last` and `most_trees`, the line that begins the next tree is read as `NextTree`
-pub next_again : (volunteers number last : ℕ) → number < last → number < most_trees → line_in_tree volunteers number last (tree_line (number + 1)) ≡ NextTree
+pub next_again : (volunteers number last : ℕ) → number < last → number < most_trees volunteers → line_in_tree volunteers number last (tree_line (number + 1)) ≡ NextTree
 next_again volunteers number last l m =
     let node = node_said volunteers (fields_of (tree_line (number + 1))) in
-    let both = and_from (ltb number last) (ltb number most_trees) (lt-ltb number last l) (lt-ltb number most_trees m) in
-    ap (λ test. cond test (cond (ltb number last && ltb number most_trees) NextTree Unknown) node) (bytes_same (tree_line (number + 1)) (tree_line (number + 1)) refl)
+    let both = and_from (ltb number last) (ltb number (most_trees volunteers)) (lt-ltb number last l) (lt-ltb number (most_trees volunteers) m) in
+    ap (λ test. cond test (cond (ltb number last && ltb number (most_trees volunteers)) NextTree Unknown) node) (bytes_same (tree_line (number + 1)) (tree_line (number + 1)) refl)
     ∙ ap (λ test. cond test NextTree Unknown) both
 
 -- inside the last tree, the last line is read as `TheClose`
 pub close_again : (volunteers last : ℕ) → line_in_tree volunteers last last close_line ≡ TheClose
 close_again volunteers last = ap (λ test. cond test TheClose Unknown) (eq-eqb last last refl)
 
-pub tree_lacks_feed : (number : ℕ) → number ≤ most_trees → Lacks line_feed (tree_line number)
+pub tree_lacks_feed : (number : ℕ) → number ≤ 4000 → Lacks line_feed (tree_line number)
 tree_lacks_feed number few = line_lacks_feed (codes "tree" ∷ decimal number ∷ []) (plain_field (codes "tree") refl, (decimal_field number (omega arith), tt))

@@ -9,7 +9,8 @@ use Rattle.define_pools.proofs.Sums.{sum_by-is-total, total}
 use Rattle.define_bundles.specs.Ranges.{reach}
 use Rattle.define_pools.specs.Certificate.{Stage}
 use Rattle.define_pools.specs.Lists.{all_different}
-use Rattle.define_pools.specs.Pool.{BoundedValue, Category, IsPool, Pool, Volunteer, are_bounds, everybody, is_category, is_name, is_value, volunteer}
+use Rattle.define_pools.specs.declared.Limits.TheVariants.{Large}
+use Rattle.define_pools.specs.Pool.{BoundedValue, Category, IsPool, Pool, Volunteer, most_members, most_volunteers, are_bounds, everybody, is_category, is_name, is_value, volunteer}
 use Rattle.define_searches.specs.Classes.{shared_household}
 use Rattle.define_searches.specs.Compositions.{is_of_household}
 use Rattle.define_proofs.specs.Constraints.{Constraint, category_constraints, constraints, counting, first_members, household_constraint, stage_constraint, value_constraint}
@@ -18,8 +19,8 @@ use Rattle.define_proofs.specs.Leaves.{no_panel}
 use Rattle.define_proofs.specs.TreeRanges.{number_limit}
 use Rattle.define_proofs.proofs.MetConstraints.{each_reversed}
 
-thousand_small : 1000 < number_limit
-thousand_small = lit< tt
+thousands_small : 4000 < number_limit
+thousands_small = lit< tt
 
 -- if the sum of the absolute coefficients and both bounds keep the limit, the constraint is within reach
 in_reach : (constraint : Constraint) → sum_by unsigned_abs constraint.coefficients ≤ number_limit → unsigned_abs constraint.lower ≤ number_limit → unsigned_abs constraint.upper ≤ number_limit → is_in_reach constraint ≡ true
@@ -42,13 +43,13 @@ each_numbered P first [] h = tt
 each_numbered P first (x ∷ xs) h = (h.0, each_numbered P (first + 1) xs h.1)
 
 module _ (pool : Pool) (is : IsPool pool) where
-  counting_in_reach : (passes : ℕ → Bool) (lower upper : ℕ) → lower ≤ 999 → upper ≤ 999 → is_in_reach (counting pool passes lower upper) ≡ true
+  counting_in_reach : (passes : ℕ → Bool) (lower upper : ℕ) → lower ≤ 1000 → upper ≤ 1000 → is_in_reach (counting pool passes lower upper) ≡ true
   counting_in_reach passes lower upper l m =
-      let few = leb-true (length pool.volunteers) 400 is.few_volunteers in
+      let few = leb-true (length pool.volunteers) (most_volunteers Large) is.few_volunteers in
       let ones = ones_few passes (everybody pool) in
       let many = length-range_with_len 0 (length pool.volunteers) in
       let sum = sum_by-is-total unsigned_abs (counting pool passes lower upper).coefficients in
-      let small = thousand_small in
+      let small = thousands_small in
       in_reach (counting pool passes lower upper) (omega (arith, few, ones, many, sum, small)) (omega (arith, l, small)) (omega (arith, m, small))
 
   value_in_reach : (category_place : ℕ) (value : ℕ × BoundedValue) → is_value value.1 ≡ true → is_in_reach (value_constraint pool category_place value) ≡ true
@@ -56,7 +57,7 @@ module _ (pool : Pool) (is : IsPool pool) where
       let bounds = and_parts (is_name value.1.name) (are_bounds value.1.lower value.1.upper) h in
       let order = and_parts (leb value.1.lower value.1.upper) (leb value.1.upper 999) bounds.1 in
       let l = leb-true value.1.lower value.1.upper order.0 in let m = leb-true value.1.upper 999 order.1 in
-      counting_in_reach (λ i. eqb (slice_index (volunteer pool.volunteers i).values category_place) value.0) value.1.lower value.1.upper (omega (arith, l, m)) m
+      counting_in_reach (λ i. eqb (slice_index (volunteer pool.volunteers i).values category_place) value.0) value.1.lower value.1.upper (omega (arith, l, m)) (omega (arith, m))
 
   category_in_reach : (category : ℕ × Category) → is_category category.1 ≡ true → AllByRecursion (λ it. is_in_reach it ≡ true) (category_constraints pool category)
   category_in_reach category h =
@@ -91,7 +92,7 @@ module _ (pool : Pool) (is : IsPool pool) where
       let values = flat_map (category_constraints pool) (enumerate_from 0 pool.categories) in
       let stages = map stage_constraint (reverse earlier) in
       let households = map (household_constraint pool) (first_members pool) in
-      let few = leb-true pool.size 200 (and_parts (leb 1 pool.size) (leb pool.size 200) is.size).1 in
+      let few = leb-true pool.size (most_members Large) (and_parts (leb 1 pool.size) (leb pool.size (most_members Large)) is.size).1 in
       let size = counting_in_reach (λ i. true) pool.size pool.size (omega (arith, few)) (omega (arith, few)) in
       let of_stages = each_mapped P stage_constraint (reverse earlier) (each_reversed (λ stage. is_in_reach (stage_constraint stage) ≡ true) earlier
       (each_map (λ stage. is_stage_in_reach stage ≡ true) (λ stage. is_in_reach (stage_constraint stage) ≡ true) stage_in_reach earlier (each_from_list_all is_stage_in_reach earlier near))) in
@@ -102,7 +103,7 @@ module _ (pool : Pool) (is : IsPool pool) where
 pub no_panel_in_reach : (pool : Pool) → is_stage_in_reach (no_panel pool) ≡ true
 no_panel_in_reach pool =
     let none = nothing pool.volunteers in
-    let small = thousand_small in
+    let small = thousands_small in
     let sum = sum_by-is-total unsigned_abs (no_panel pool).weights in
     le-leb (reach (no_panel pool)) number_limit (omega (arith, sum, none, small))
   where

@@ -6,13 +6,17 @@ use Rattle.std.proofs.lemmas.Bool.{and_parts, leb-true, ltb-true}
 use Rattle.std.proofs.lemmas.List.{append-nil}
 use Rattle.define_pools.specs.Building.{lowest_kind}
 use Rattle.define_pools.specs.Certificate.{Answer}
-use Rattle.define_pools.specs.Pool.{IsPool, Pool, has_households}
+use Rattle.define_pools.specs.declared.Limits.TheVariants.{Large}
+use Rattle.define_pools.specs.Pool.{IsPool, Pool, limits_for, most_volunteers}
+use Rattle.define_pools.proofs.BuildingLemmas.{volunteers_are_few}
+use Rattle.define_bundles.specs.declared.Version.{Version}
+use Rattle.define_bundles.specs.declared.Version.TheVariants.{First, Second, Third}
 use Rattle.define_lines.specs.Lines.{line_feed, text_of}
 use Rattle.define_lines.proofs.LineByLine as reading
 use Rattle.define_lines.proofs.LineLemmas.{Lacks}
 use Rattle.define_lines.proofs.FieldLemmas.{line_lacks_feed, plain_field}
 use Rattle.define_lines.proofs.NumberLemmas.{bytes_same}
-use Rattle.define_bundles.specs.PoolText.{version_line}
+use Rattle.define_bundles.specs.PoolText.{version_line, version_of}
 use Rattle.define_bundles.specs.PoolReading as pools
 use Rattle.define_bundles.proofs.PoolReadAgain as pool_again
 use Rattle.define_bundles.specs.BundleReading as bundles
@@ -36,27 +40,29 @@ Runs = reading.Runs reader
 pool_inside : (progress : pools.Progress) (lines : List (List ℕ)) (pool : Pool) → pool_again.Runs progress lines (pools.Ended pool) → Runs (InPool progress) lines (InPool (pools.Ended pool))
 pool_inside progress [] pool h = ap InPool h
 pool_inside pools.Begun (line ∷ lines) pool h = (h.0, h.1, pool_inside (pools.after_line pools.Begun line) lines pool h.2)
-pool_inside (pools.Versioned second) (line ∷ lines) pool h = (h.0, h.1, pool_inside (pools.after_line (pools.Versioned second) line) lines pool h.2)
+pool_inside (pools.Versioned version) (line ∷ lines) pool h = (h.0, h.1, pool_inside (pools.after_line (pools.Versioned version) line) lines pool h.2)
 pool_inside (pools.Inside other passed) (line ∷ lines) pool h = (h.0, h.1, pool_inside (pools.after_line (pools.Inside other passed) line) lines pool h.2)
 pool_inside (pools.Ended other) (line ∷ lines) pool h = let e = h.1 in cc
 
 -- after the first line of a proof, a pool's first line has no fault
-pool_begins : (second : Bool) → line_kind Opened (version_line second) ≡ None
-pool_begins true = refl
-pool_begins false = refl
+pool_begins : (version : Version) → line_kind Opened (version_line version) ≡ None
+pool_begins First = refl
+pool_begins Second = refl
+pool_begins Third = refl
 
 -- after the first line of a proof, a pool's first line leads into the pool's lines, and not into a bundle's
-pool_goes : (second : Bool) → after_line Opened (version_line second) ≡ InPool (pools.after_line pools.Begun (version_line second))
-pool_goes true = refl
-pool_goes false = refl
+pool_goes : (version : Version) → after_line Opened (version_line version) ≡ InPool (pools.after_line pools.Begun (version_line version))
+pool_goes First = refl
+pool_goes Second = refl
+pool_goes Third = refl
 
 pool_runs : (pool : Pool) → IsPool pool → Runs Opened (pool_lines pool) (InPool (pools.Ended pool))
 pool_runs pool is =
-    let second = has_households pool in
+    let version = version_of pool in
     let runs = pool_inside pools.Begun (pool_lines pool) pool (pool_again.pool_runs pool is) in (
       runs.0,
-      pool_begins second,
-      subst (λ progress. Runs progress (drop 1 (pool_lines pool)) (InPool (pools.Ended pool))) (sym (pool_goes second)) runs.2,
+      pool_begins version,
+      subst (λ progress. Runs progress (drop 1 (pool_lines pool)) (InPool (pools.Ended pool))) (sym (pool_goes version)) runs.2,
     )
 
 -- ---- the lines of a bundle
@@ -65,7 +71,7 @@ pool_runs pool is =
 bundle_inside : (progress : bundles.Progress) (lines : List (List ℕ)) (bundle : Bundle) → bundle_again.Runs progress lines (bundles.Done bundle) → Runs (InBundle progress) lines (InBundle (bundles.Done bundle))
 bundle_inside progress [] bundle h = ap InBundle h
 bundle_inside bundles.Begun (line ∷ lines) bundle h = (h.0, h.1, bundle_inside (bundles.after_line bundles.Begun line) lines bundle h.2)
-bundle_inside (bundles.InPool second progress) (line ∷ lines) bundle h = (h.0, h.1, bundle_inside (bundles.after_line (bundles.InPool second progress) line) lines bundle h.2)
+bundle_inside (bundles.InPool version progress) (line ∷ lines) bundle h = (h.0, h.1, bundle_inside (bundles.after_line (bundles.InPool version progress) line) lines bundle h.2)
 bundle_inside (bundles.InRows pool lottery) (line ∷ lines) bundle h = (h.0, h.1, bundle_inside (bundles.after_line (bundles.InRows pool lottery) line) lines bundle h.2)
 bundle_inside (bundles.InStages pool answer) (line ∷ lines) bundle h = (h.0, h.1, bundle_inside (bundles.after_line (bundles.InStages pool answer) line) lines bundle h.2)
 bundle_inside (bundles.Done other) (line ∷ lines) bundle h = let e = h.1 in cc
@@ -88,7 +94,11 @@ bundle_runs (line ∷ lines) bundle h =
 expected : (line : List ℕ) → lowest_kind ((22, not (bytes_eq line line)) ∷ []) ≡ None
 expected line = ap (λ b. cond (not b) (Some 22) None) (bytes_same line line refl)
 
-module _ (bundle : Bundle) (small : length bundle.pool.volunteers ≤ 400) where
+-- a proof has at most 4,000 trees
+trees_are_few : (volunteers : ℕ) → most_trees volunteers ≤ 4000
+trees_are_few volunteers = volunteers_are_few (limits_for volunteers)
+
+module _ (bundle : Bundle) (small : length bundle.pool.volunteers ≤ 4000) where
   abbrev n : ℕ
   n = length bundle.pool.volunteers
 
@@ -110,7 +120,7 @@ module _ (bundle : Bundle) (small : length bundle.pool.volunteers ≤ 400) where
 
   -- let the later trees be in their ranges, and all trees together be as many as the stages and at most `most_trees`. After the lines of
   -- one tree, the lines of the later trees and the last line lead to the text's end
-  later_run : (whole : List (List TreeLine)) (lines : List TreeLine) (later : List (List TreeLine)) → (length whole + 1) + length later ≡ length bundle.answer.stages → (length whole + 1) + length later ≤ most_trees →
+  later_run : (whole : List (List TreeLine)) (lines : List TreeLine) (later : List (List TreeLine)) → (length whole + 1) + length later ≡ length bundle.answer.stages → (length whole + 1) + length later ≤ most_trees n →
       keep_ranges n later ≡ true →
       Runs (InTrees bundle whole lines) (trees_from ((length whole + 1) + 1) later ++ close_line ∷ []) (Closed (OfLottery bundle.pool bundle.answer (whole ++ lines ∷ later)))
   later_run whole lines [] many few are =
@@ -129,12 +139,12 @@ module _ (bundle : Bundle) (small : length bundle.pool.volunteers ≤ 400) where
       (map node_line tree) (trees_from (number + 1) later ++ close_line ∷ []) (nodes_run more [] tree parts.0) numbered in
       let regrouped = subst (λ ls. Runs (InTrees bundle more []) ls (Closed (OfLottery bundle.pool bundle.answer (more ++ tree ∷ later)))) (sym (append_assoc (map node_line tree) (trees_from (number + 1) later) (close_line ∷ []))) all in
       run_tree whole lines (tree_line number) NextTree ((map node_line tree ++ trees_from (number + 1) later) ++ close_line ∷ []) (Closed (OfLottery bundle.pool bundle.answer (whole ++ lines ∷ tree ∷ later)))
-      (tree_lacks_feed number (omega (arith, few))) (next_again n (length whole + 1) (length bundle.answer.stages) (omega (arith, many)) (omega (arith, few))) refl
+      (tree_lacks_feed number (omega (arith, few, trees_are_few n))) (next_again n (length whole + 1) (length bundle.answer.stages) (omega (arith, many)) (omega (arith, few))) refl
       (subst (λ trees. Runs (InTrees bundle more []) ((map node_line tree ++ trees_from (number + 1) later) ++ close_line ∷ []) (Closed (OfLottery bundle.pool bundle.answer trees))) (append_assoc whole (lines ∷ []) (tree ∷ later)) regrouped)
 
   -- if the trees are in their ranges, as many as the stages, and from 1 to `most_trees`, then after a bundle, the lines of the trees and
   -- the last line lead to the text's end
-  trees_run : (trees : List (List TreeLine)) → ltb 0 (length bundle.answer.stages) ≡ true → length trees ≡ length bundle.answer.stages → length trees ≤ most_trees → keep_ranges n trees ≡ true →
+  trees_run : (trees : List (List TreeLine)) → ltb 0 (length bundle.answer.stages) ≡ true → length trees ≡ length bundle.answer.stages → length trees ≤ most_trees n → keep_ranges n trees ≡ true →
       Runs (InBundle (bundles.Done bundle)) (trees_from 1 trees ++ close_line ∷ []) (Closed (OfLottery bundle.pool bundle.answer trees))
   trees_run [] some many few are = let l = ltb-true 0 (length bundle.answer.stages) some in absurd (omega arith)
   trees_run (tree ∷ later) some many few are =
@@ -147,7 +157,7 @@ module _ (bundle : Bundle) (small : length bundle.pool.volunteers ≤ 400) where
         subst (λ ls. Runs (InTrees bundle [] []) ls closed) (sym (append_assoc (map node_line tree) (trees_from 2 later) (close_line ∷ []))) all,
       )
 
-module _ (pool : Pool) (small : length pool.volunteers ≤ 400) where
+module _ (pool : Pool) (small : length pool.volunteers ≤ 4000) where
   no_panel_nodes : (done todo : List TreeLine) → list_all (is_tree_line (length pool.volunteers)) todo ≡ true → Runs (InNoPanel pool done) (map node_line todo ++ close_line ∷ []) (Closed (OfNoPanel pool (done ++ todo)))
   no_panel_nodes done [] are = (
     (plain_field (codes "close") refl).no_feed,
@@ -188,8 +198,8 @@ lottery_is_read pool answer trees is =
     let bundle : Bundle = record { pool = pool; answer = answer } in
     let proof = OfLottery pool answer trees in
     let lines = bundle_lines pool answer in
-    let small = leb-true (length pool.volunteers) 400 is.is_bundle.is_pool.few_volunteers in
-    let few = leb-true (length trees) most_trees is.few_trees in
+    let small = leb-true (length pool.volunteers) (most_volunteers Large) is.is_bundle.is_pool.few_volunteers in
+    let few = leb-true (length trees) (most_trees (length pool.volunteers)) is.few_trees in
     let rest = trees_from 1 trees ++ close_line ∷ [] in
     let behind = trees_run bundle small trees is.is_bundle.in_ranges.some_stage is.one_each few is.in_ranges in
     let all = reading.Runs-append reader Opened (InBundle (bundles.Done bundle)) (Closed proof) lines rest (bundle_runs lines bundle (bundle_again.runs bundle is.is_bundle)) behind in
@@ -200,7 +210,7 @@ lottery_is_read pool answer trees is =
 no_panel_is_read : (pool : Pool) (lines : List TreeLine) → IsNoPanelProof pool lines → read_proof (proof_spelling (OfNoPanel pool lines)) ≡ Ok (OfNoPanel pool lines)
 no_panel_is_read pool lines is =
     let proof = OfNoPanel pool lines in
-    let small = leb-true (length pool.volunteers) 400 is.is_pool.few_volunteers in
+    let small = leb-true (length pool.volunteers) (most_volunteers Large) is.is_pool.few_volunteers in
     let rest = (none_line ∷ tree_lines 0 lines) ++ close_line ∷ [] in
     let all = reading.Runs-append reader Opened (InPool (pools.Ended pool)) (Closed proof) (pool_lines pool) rest (pool_runs pool is.is_pool) (no_panel_runs pool small lines is.in_ranges) in
     let regrouped : proof_line ∷ (pool_lines pool ++ rest) ≡ lines_before_close proof ++ close_line ∷ [] =

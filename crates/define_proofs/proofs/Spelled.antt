@@ -6,7 +6,9 @@ use Rattle.std.proofs.lemmas.Bool.{false≢true, le-leb, ltb-true, not-false}
 use Rattle.std.proofs.lemmas.List.{append-nil, map-append}
 use Rattle.define_pools.proofs.Each.{list_all-push}
 use Rattle.define_pools.specs.Building.{lowest_kind}
-use Rattle.define_pools.specs.Pool.{IsPool, Pool}
+use Rattle.define_pools.specs.declared.Limits.{Limits}
+use Rattle.define_pools.specs.declared.Limits.TheVariants.{Usual, Large}
+use Rattle.define_pools.specs.Pool.{IsPool, Pool, limits_for, most_volunteers}
 use Rattle.define_pools.specs.Certificate.{Answer}
 use Rattle.define_pools.proofs.BuildingLemmas.{no_kind}
 use Rattle.define_lines.specs.Lines.{text_of}
@@ -32,7 +34,7 @@ keep_ranges volunteers trees = list_all (λ lines. list_all (is_tree_line volunt
 pub record AreRightTrees (bundle : Bundle) (whole : List (List TreeLine)) (lines : List TreeLine) : Type 0 where
   pub is_bundle : IsBundle bundle
   pub one_left : length whole < length bundle.answer.stages
-  pub few : length whole < most_trees
+  pub few : length whole < most_trees (length bundle.pool.volunteers)
   pub whole_in_ranges : keep_ranges (length bundle.pool.volunteers) whole ≡ true
   pub in_ranges : list_all (is_tree_line (length bundle.pool.volunteers)) lines ≡ true
 
@@ -142,7 +144,7 @@ module _ (bundle : Bundle) (whole : List (List TreeLine)) (lines : List TreeLine
         record {
           is_bundle = right.is_bundle;
           one_each = omega (arith, many, e);
-          few_trees = le-leb (length (whole ++ lines ∷ [])) most_trees (omega (arith, many, few));
+          few_trees = le-leb (length (whole ++ lines ∷ [])) (most_trees n) (omega (arith, many, few));
           in_ranges = all_whole;
         },
         ap (λ l. lines_before_close proof ++ l ∷ []) (sym spelled.0),
@@ -165,15 +167,23 @@ no_panel_adds pool lines line Unknown right spelled h = cc
 within_bundle : (progress : bundles.Progress) (line : List ℕ) → bundle_read.IsRight progress → bundles.line_kind progress line ≡ None → Adds (InBundle progress) line (InBundle (bundles.after_line progress line))
 within_bundle progress line right h = let step = bundle_read.line_adds progress line right h in (step.0, ap (λ lines. proof_line ∷ lines) step.1)
 
+-- a proof may have a tree
+some_tree : (volunteers : ℕ) → 0 < most_trees volunteers
+some_tree volunteers = by (limits_for volunteers)
+  where
+    by : (limits : Limits) → 0 < most_volunteers limits
+    by Usual = omega arith
+    by Large = omega arith
+
 bundle_adds : (progress : bundles.Progress) (line : List ℕ) → bundle_read.IsRight progress → line_kind (InBundle progress) line ≡ None → Adds (InBundle progress) line (after_line (InBundle progress) line)
 bundle_adds bundles.Begun line right h = within_bundle bundles.Begun line right h
-bundle_adds (bundles.InPool second progress) line right h = within_bundle (bundles.InPool second progress) line right h
+bundle_adds (bundles.InPool version progress) line right h = within_bundle (bundles.InPool version progress) line right h
 bundle_adds (bundles.InRows pool lottery) line right h = within_bundle (bundles.InRows pool lottery) line right h
 bundle_adds (bundles.InStages pool answer) line right h = within_bundle (bundles.InStages pool answer) line right h
 bundle_adds (bundles.Done bundle) line right h =
     let same = bytes_are line (tree_line 1) (passed (bytes_eq line (tree_line 1)) 22 h) in
     let some = ltb-true 0 (length bundle.answer.stages) right.in_ranges.some_stage in (
-      record { is_bundle = right; one_left = some; few = omega arith; whole_in_ranges = refl; in_ranges = refl },
+      record { is_bundle = right; one_left = some; few = some_tree (length bundle.pool.volunteers); whole_in_ranges = refl; in_ranges = refl },
       ap (λ l. proof_line ∷ (bundle_lines bundle.pool bundle.answer ++ l ∷ [])) (sym same),
     )
 
@@ -183,7 +193,7 @@ within_pool progress line right h = let step = pool_read.line_adds progress line
 
 pool_adds : (progress : pools.Progress) (line : List ℕ) → pool_read.IsRight progress → line_kind (InPool progress) line ≡ None → Adds (InPool progress) line (after_line (InPool progress) line)
 pool_adds pools.Begun line right h = within_pool pools.Begun line right h
-pool_adds (pools.Versioned second) line right h = within_pool (pools.Versioned second) line right h
+pool_adds (pools.Versioned version) line right h = within_pool (pools.Versioned version) line right h
 pool_adds (pools.Inside pool passed) line right h = within_pool (pools.Inside pool passed) line right h
 pool_adds (pools.Ended pool) line right h =
     (right, ap (λ l. proof_line ∷ (pool_lines pool ++ l ∷ [])) (sym (bytes_are line none_line (passed (bytes_eq line none_line) 22 h))))

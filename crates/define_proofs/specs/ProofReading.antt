@@ -13,7 +13,7 @@ use Rattle.define_bundles.specs.BundleText.{Bundle}
 use Rattle.define_proofs.specs.Leaves.{Multiplier}
 use Rattle.define_proofs.specs.ProofVerdict.{OfLottery, OfNoPanel, Proof}
 use Rattle.define_proofs.specs.TreeLines.{OfLeaf, OfSplit, TreeLine}
-use Rattle.define_proofs.specs.TreeRanges.{is_tree_line, last_constraint, number_limit}
+use Rattle.define_proofs.specs.TreeRanges.{is_tree_line, greatest_constraint, number_limit}
 use Rattle.define_proofs.specs.ProofText.{close_line, most_trees, none_line, proof_line, tree_line}
 
 -- the progress of a proof's text, after lines without a fault
@@ -52,7 +52,7 @@ abbrev pub multipliers_of : List (List ℕ) → Option (List Multiplier)
 multipliers_of [] = Some []
 multipliers_of (number ∷ []) = None
 multipliers_of (number ∷ factor ∷ fields) =
-    with_number (multiplier_of (number_up_to last_constraint number) (signed_up_to number_limit factor)) (multipliers_of fields)
+    with_number (multiplier_of (number_up_to greatest_constraint number) (signed_up_to number_limit factor)) (multipliers_of fields)
 
 -- the node, if its numbers are in their ranges for a pool of `volunteers`; else Unknown
 abbrev pub node_in_range : ℕ → TreeLine → LineInTree
@@ -91,7 +91,7 @@ node_said volunteers (first ∷ fields) =
 abbrev pub line_in_tree : ℕ → ℕ → ℕ → List ℕ → LineInTree
 line_in_tree volunteers number last line =
     (if bytes_eq line close_line then (if number == last then TheClose else Unknown)
-    else if bytes_eq line (tree_line (number + 1)) then (if nat_lt number last && nat_lt number most_trees then NextTree else Unknown)
+    else if bytes_eq line (tree_line (number + 1)) then (if nat_lt number last && nat_lt number (most_trees volunteers) then NextTree else Unknown)
     else node_said volunteers (fields_of line))
 
 -- what a line is inside the tree that follows a bundle and the trees `whole`
@@ -114,7 +114,7 @@ begins_pool line = is_none (pools.line_kind pools.Begun line)
 -- the first line of tree 1
 abbrev pub bundle_kinds : bundles.Progress → List ℕ → List (ℕ × Bool)
 bundle_kinds bundles.Begun line = bundles.line_kinds bundles.Begun line
-bundle_kinds (bundles.InPool second progress) line = bundles.line_kinds (bundles.InPool second progress) line
+bundle_kinds (bundles.InPool version progress) line = bundles.line_kinds (bundles.InPool version progress) line
 bundle_kinds (bundles.InRows pool lottery) line = bundles.line_kinds (bundles.InRows pool lottery) line
 bundle_kinds (bundles.InStages pool answer) line = bundles.line_kinds (bundles.InStages pool answer) line
 bundle_kinds (bundles.Done bundle) line = (22, not (bytes_eq line (tree_line 1))) ∷ []
@@ -123,7 +123,7 @@ bundle_kinds (bundles.Done bundle) line = (22, not (bytes_eq line (tree_line 1))
 -- `none`
 abbrev pub pool_kinds : pools.Progress → List ℕ → List (ℕ × Bool)
 pool_kinds pools.Begun line = pools.line_kinds pools.Begun line
-pool_kinds (pools.Versioned second) line = pools.line_kinds (pools.Versioned second) line
+pool_kinds (pools.Versioned version) line = pools.line_kinds (pools.Versioned version) line
 pool_kinds (pools.Inside pool passed) line = pools.line_kinds (pools.Inside pool passed) line
 pool_kinds (pools.Ended pool) line = (22, not (bytes_eq line none_line)) ∷ []
 
@@ -154,7 +154,7 @@ line_kind progress line = lowest_kind (line_kinds progress line)
 -- the progress after a line of the bundle without a fault, or after the line that begins the first tree
 abbrev pub after_bundle : bundles.Progress → List ℕ → Progress
 after_bundle bundles.Begun line = InBundle (bundles.after_line bundles.Begun line)
-after_bundle (bundles.InPool second progress) line = InBundle (bundles.after_line (bundles.InPool second progress) line)
+after_bundle (bundles.InPool version progress) line = InBundle (bundles.after_line (bundles.InPool version progress) line)
 after_bundle (bundles.InRows pool lottery) line = InBundle (bundles.after_line (bundles.InRows pool lottery) line)
 after_bundle (bundles.InStages pool answer) line = InBundle (bundles.after_line (bundles.InStages pool answer) line)
 after_bundle (bundles.Done bundle) line = InTrees bundle [] []
@@ -162,7 +162,7 @@ after_bundle (bundles.Done bundle) line = InTrees bundle [] []
 -- the progress after a line of the pool without a fault, or after the line `none`
 abbrev pub after_pool : pools.Progress → List ℕ → Progress
 after_pool pools.Begun line = InPool (pools.after_line pools.Begun line)
-after_pool (pools.Versioned second) line = InPool (pools.after_line (pools.Versioned second) line)
+after_pool (pools.Versioned version) line = InPool (pools.after_line (pools.Versioned version) line)
 after_pool (pools.Inside pool passed) line = InPool (pools.after_line (pools.Inside pool passed) line)
 after_pool (pools.Ended pool) line = WithoutPanel pool
 
@@ -197,12 +197,12 @@ abbrev pub missing_kind : Progress → ℕ
 missing_kind Begun = 23
 missing_kind Opened = 23
 missing_kind (InBundle bundles.Begun) = 17
-missing_kind (InBundle (bundles.InPool second progress)) = bundles.missing_kind (bundles.InPool second progress)
+missing_kind (InBundle (bundles.InPool version progress)) = bundles.missing_kind (bundles.InPool version progress)
 missing_kind (InBundle (bundles.InRows pool lottery)) = 17
 missing_kind (InBundle (bundles.InStages pool answer)) = 17
 missing_kind (InBundle (bundles.Done bundle)) = 23
 missing_kind (InPool pools.Begun) = 12
-missing_kind (InPool (pools.Versioned second)) = 12
+missing_kind (InPool (pools.Versioned version)) = 12
 missing_kind (InPool (pools.Inside pool passed)) = 12
 missing_kind (InPool (pools.Ended pool)) = 23
 missing_kind (WithoutPanel pool) = 23

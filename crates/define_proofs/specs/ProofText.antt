@@ -4,7 +4,7 @@ use Rattle.std.specs.Prelude.{◌≡◌, ℕ, ◌+◌, nat_le, IsTrue, List, [],
 use Rattle.std.specs.Fmt.{decimal, signed_decimal}
 use Rattle.std.specs.List.{flat_map, list_all}
 use Rattle.define_pools.specs.Certificate.{Answer}
-use Rattle.define_pools.specs.Pool.{IsPool, Pool}
+use Rattle.define_pools.specs.Pool.{IsPool, Pool, limits_for, most_volunteers}
 use Rattle.define_lines.specs.Lines.{line_of, text_of}
 use Rattle.define_bundles.specs.BundleText.{IsBundle, done_line, lines_before_done, pool_lines}
 use Rattle.define_proofs.specs.Leaves.{Leaf, Multiplier}
@@ -12,17 +12,17 @@ use Rattle.define_proofs.specs.ProofVerdict.{OfLottery, OfNoPanel, Proof}
 use Rattle.define_proofs.specs.TreeLines.{OfLeaf, OfSplit, TreeLine}
 use Rattle.define_proofs.specs.TreeRanges.{is_tree_line}
 
--- the most trees that a proof can have: it has one for each stage, each stage settles at least one volunteer, and there are at most 400
--- volunteers
-abbrev pub most_trees : ℕ
-most_trees = 400
+-- the most trees that a proof over a pool of `volunteers` can have: it has one for each stage, and each stage settles at least one
+-- volunteer
+abbrev pub most_trees : ℕ → ℕ
+most_trees volunteers = most_volunteers (limits_for volunteers)
 
 -- what makes a proof of a lottery: pool and answer are a bundle; each stage has a tree, whose lines are in their ranges; and there are at
 -- most `most_trees` trees
 pub record IsLotteryProof (pool : Pool) (answer : Answer) (trees : List (List TreeLine)) : Type 0 where
   pub is_bundle : IsBundle (record { pool = pool; answer = answer })
   pub one_each : length trees ≡ length answer.stages
-  pub few_trees : IsTrue (nat_le (length trees) most_trees)
+  pub few_trees : IsTrue (nat_le (length trees) (most_trees (length pool.volunteers)))
   pub in_ranges : IsTrue (list_all (λ lines. list_all (is_tree_line (length pool.volunteers)) lines) trees)
 
 -- what makes a proof that there is no quota panel: the pool satisfies `IsPool`, and the tree's lines are in their ranges

@@ -1,9 +1,10 @@
 -- Small texts of proofs, for the worked examples.
-use Rattle.std.specs.Prelude.{ℕ, false, List, [], ◌∷◌, ◌++◌, codes, Result, Err}
+use Rattle.std.specs.Prelude.{ℕ, List, [], ◌∷◌, ◌++◌, codes, Result, Err}
 use Rattle.define_bundles.specs.BundleText.{lines_before_done}
 use Rattle.define_bundles.specs.WorkedExamples.{four_answer}
 use Rattle.define_lines.specs.Lines.{Fault, line_of, text_of}
 use Rattle.define_pools.specs.WorkedExamples.{four}
+use Rattle.define_bundles.specs.declared.Version.TheVariants.{First}
 use Rattle.define_bundles.specs.PoolText.{version_line}
 use Rattle.define_proofs.specs.ProofVerdict.{Proof}
 use Rattle.define_proofs.specs.TreeLines.{OfLeaf, TreeLine}
@@ -33,11 +34,11 @@ without_pool = proof_line ∷ none_line ∷ []
 
 -- a proof whose pool has the size 0, which isn't allowed
 abbrev pub without_size : List (List ℕ)
-without_size = proof_line ∷ version_line false ∷ line_of (codes "size" ∷ codes "0" ∷ []) ∷ []
+without_size = proof_line ∷ version_line First ∷ line_of (codes "size" ∷ codes "0" ∷ []) ∷ []
 
 -- a proof that ends after the first line of its pool
 abbrev pub without_end : List (List ℕ)
-without_end = proof_line ∷ version_line false ∷ []
+without_end = proof_line ∷ version_line First ∷ []
 
 -- a proof whose bundle lacks its last line
 abbrev pub without_done : List (List ℕ)

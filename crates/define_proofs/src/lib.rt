@@ -256,6 +256,8 @@ pub fn worked_lines()
     ensures leaves { map (λ fields. line_in_tree 4 1 2 (line_of (codes "bound" ∷ fields)))
         ((codes "72057594037927936" ∷ []) ∷ (codes "0" ∷ codes "0" ∷ codes "72057594037927936" ∷ codes "1800" ∷ codes "-72057594037927936" ∷ []) ∷ [])
         ≡ OfNode (OfLeaf (leaf (2 ^ 56) [])) ∷ OfNode (OfLeaf (leaf 0 (times 0 (pos (2 ^ 56)) ∷ times 1800 (negsuc (2 ^ 56 - 1)) ∷ []))) ∷ [] }
+    ensures large { map (λ volunteers. line_in_tree volunteers 1 2 (line_of (codes "bound" ∷ codes "0" ∷ codes "9000" ∷ codes "1" ∷ []))) (4 ∷ 400 ∷ 401 ∷ [])
+        ≡ Unknown ∷ Unknown ∷ OfNode (OfLeaf (leaf 0 (times 9000 (pos 1) ∷ []))) ∷ [] }
     ensures no_leaves { map (λ fields. line_in_tree 4 1 2 (line_of (codes "bound" ∷ fields)))
         ([] ∷ (codes "72057594037927937" ∷ []) ∷ (codes "-1" ∷ []) ∷ (codes "1" ∷ codes "0" ∷ []) ∷ (codes "1" ∷ codes "0" ∷ codes "0" ∷ []) ∷ (codes "1" ∷ codes "1801" ∷ codes "1" ∷ [])
         ∷ (codes "1" ∷ codes "0" ∷ codes "72057594037927937" ∷ []) ∷ (codes "1" ∷ codes "0" ∷ codes "-72057594037927937" ∷ [])

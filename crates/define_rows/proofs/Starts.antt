@@ -46,7 +46,7 @@ length_le (x ∷ xs) h = omega (arith, sum_by-cons (λ x. x) x xs, length_le xs 
 pub length-le-sum : (xs : List ℕ) → All (λ x. 1 ≤ x) xs → length xs ≤ sum xs
 length-le-sum xs h = length_le xs (recursion_from_All (λ x. 1 ≤ x) xs h)
 
-module _ (sizes first : List ℕ) (bits : ℕ) (some : 0 < length sizes) (each : All (λ size. 1 ≤ size) sizes) (few : sum sizes ≤ 400) (long : length first ≡ length sizes)
+module _ (sizes first : List ℕ) (bits : ℕ) (some : 0 < length sizes) (each : All (λ size. 1 ≤ size) sizes) (few : sum sizes ≤ 4000) (long : length first ≡ length sizes)
     (bound : (t : ℕ) → t < length sizes → slice_index first t ≤ slice_index sizes t) (some_bits : 1 ≤ bits) (few_bits : bits ≤ 127) where
   table : Table
   table = first_table sizes first bits

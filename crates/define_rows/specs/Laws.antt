@@ -11,10 +11,10 @@ use Rattle.define_rows.specs.InOrder.{IsInOrder, settled_count}
 
 -- a table may start with class sizes `sizes`, column `first` and a width of `bits`
 pub record MayStart (sizes first : List ℕ) (bits : ℕ) : Type 0 where
-  -- there is at least one class, each size is at least 1, and the sizes sum to at most 400
+  -- there is at least one class, each size is at least 1, and the sizes sum to at most 4,000
   pub some_class : 0 < length sizes
   pub sizes_each : All (λ size. 1 ≤ size) sizes
-  pub few : sum sizes ≤ 400
+  pub few : sum sizes ≤ 4000
   -- the column has a count for each class, from 0 to its size
   pub counts : length first ≡ length sizes
   pub bounds : (t : ℕ) → t < length sizes → slice_index first t ≤ slice_index sizes t

@@ -151,7 +151,7 @@ some_taken p (class ∷ classes) counts l = omega arith
 pub record MayBegin (all : Classes) (first : List ℕ) : Type 0 where
   pub some : 0 < length (sizes_of all)
   pub each : All (λ size. 1 ≤ size) (sizes_of all)
-  pub few : sum (sizes_of all) ≤ 400
+  pub few : sum (sizes_of all) ≤ 4000
   pub fits : FitsSizes all first
 
 pub may_begin : (all : Classes) → KeepsLimits all → (first : List ℕ) → Contains (compositions all) first → MayBegin all first

@@ -7,10 +7,11 @@ use Rattle.std.proofs.lemmas.List.{length-map}
 use Rattle.std.proofs.lemmas.List.Elements.{All-from_recursion}
 use Rattle.define_pools.proofs.Each.{each_map, each_from_list_all, each_mapped, each_range, each_filter}
 use Rattle.define_pools.proofs.Sums.{total, sum_by-is-total, length-filter-total}
+use Rattle.define_pools.specs.declared.Limits.TheVariants.{Large}
 use Rattle.define_pools.specs.declared.Standing.{Standing}
 use Rattle.define_pools.specs.declared.Standing.TheVariants.{Open, Seated, Gone}
 use Rattle.define_pools.specs.Lists.{all_different}
-use Rattle.define_pools.specs.Pool.{Pool, IsPool, Category, BoundedValue, volunteer, is_name, are_bounds, is_value, is_category, has_values}
+use Rattle.define_pools.specs.Pool.{Pool, IsPool, Category, BoundedValue, most_members, most_volunteers, volunteer, is_name, are_bounds, is_value, is_category, has_values}
 use Rattle.define_searches.specs.declared.Bounds.{Bounds}
 use Rattle.define_searches.specs.Classes.{Class, HasPlaces, IsKnownHousehold, KeepsLimits, MakesClasses, leaders, class_of, class_by, classes_by, bounds_of, most_taken, shared_household, volunteer_count}
 use Rattle.define_searches.proofs.FirstPanel.{rank_below}
@@ -92,8 +93,8 @@ module _ (pool : Pool) (alike : ℕ → ℕ → Bool) (is_pool : IsPool pool) (m
   each_some : AllByRecursion (λ class. 1 ≤ length class.members) (classes_by alike pool).classes
   each_some = of_leaders (λ class. 1 ≤ length class.members) some_member
 
-  few_in_all : sum_by (λ class. length class.members) (classes_by alike pool).classes ≤ 400
-  few_in_all = let n = members_in_all pool alike makes in let few = leb-true many 400 is_pool.few_volunteers in omega arith
+  few_in_all : sum_by (λ class. length class.members) (classes_by alike pool).classes ≤ 4000
+  few_in_all = let n = members_in_all pool alike makes in let few = leb-true many (most_volunteers Large) is_pool.few_volunteers in omega arith
 
   values_at : (l : ℕ) → l < many → has_values pool.categories (volunteer pool.volunteers l).values ≡ true
   values_at l below = All-from_recursion (λ v. has_values pool.categories v.values ≡ true) pool.volunteers (each_from_list_all (λ v. has_values pool.categories v.values) pool.volunteers is_pool.values) l
@@ -101,12 +102,12 @@ module _ (pool : Pool) (alike : ℕ → ℕ → Bool) (is_pool : IsPool pool) (m
 
   pub limits_kept : KeepsLimits (classes_by alike pool)
   limits_kept =
-      let size = and_parts (leb 1 pool.size) (leb pool.size 200) is_pool.size in
+      let size = and_parts (leb 1 pool.size) (leb pool.size (most_members Large)) is_pool.size in
       let categories = each_map (λ category. is_category category ≡ true) (λ category. (length category.values ≤ 50) × (list_all is_value category.values ≡ true)) category_parts pool.categories
       (each_from_list_all is_category pool.categories is_pool.categories) in
       let few = leb-true (length pool.categories) 20 is_pool.few_categories in
       record {
-        size = (leb-true 1 pool.size size.0, leb-true pool.size 200 size.1);
+        size = (leb-true 1 pool.size size.0, leb-true pool.size (most_members Large) size.1);
         few_categories = omega (arith, length-map pool.categories (λ category. map bound_of category.values));
         few_values = All-from_recursion (λ values. length values ≤ 50) (bounds_of pool.categories)
             (each_mapped (λ values. length values ≤ 50) (λ category. map bound_of category.values) pool.categories

@@ -58,18 +58,18 @@ IsKnownHousehold count (Some h) = h < count
 
 -- the limits that the classes of each pool keep, so that sums over them stay small
 pub record KeepsLimits (all : Classes) : Type 0 where
-  -- a panel has 1 to 200 members
-  pub size : (1 ≤ all.size) × (all.size ≤ 200)
+  -- a panel has 1 to 1,000 members
+  pub size : (1 ≤ all.size) × (all.size ≤ 1000)
   -- at most 20 categories
   pub few_categories : length all.bounds ≤ 20
   -- at most 50 values a category
   pub few_values : All (λ values. length values ≤ 50) all.bounds
   -- each value's lower bound is at most its upper bound, which is at most 999
   pub bounds : All (λ values. All (λ bound. (bound.lower ≤ bound.upper) × (bound.upper ≤ 999)) values) all.bounds
-  -- at most 400 classes
-  pub few_classes : length all.classes ≤ 400
-  -- at most 400 members in all
-  pub few_members : volunteer_count all ≤ 400
+  -- at most 4,000 classes
+  pub few_classes : length all.classes ≤ 4000
+  -- at most 4,000 members in all
+  pub few_members : volunteer_count all ≤ 4000
   -- each class has a member
   pub members : All (λ class. 1 ≤ length class.members) all.classes
   -- the `most` of a class is at most the number of its members

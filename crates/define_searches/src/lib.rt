@@ -42,8 +42,8 @@ pub fn classes_are_searchable()
     ensures { (pool : Pool) (alike : ℕ → ℕ → Bool) → IsSearchable (classes_by alike pool) }
 {}
 
-/// The classes of each pool keep the limits of `KeepsLimits`, among them: a panel of at most 200 members; at most 20 categories, each of at
-/// most 50 values; at most 400 classes, with at most 400 members in all.
+/// The classes of each pool keep the limits of `KeepsLimits`, among them: a panel of at most 1,000 members; at most 20 categories, each of at
+/// most 50 values; at most 4,000 classes, with at most 4,000 members in all.
 pub fn classes_keep_limits()
     ensures { (pool : Pool) (alike : ℕ → ℕ → Bool) → IsPool pool → MakesClasses pool alike → KeepsLimits (classes_by alike pool) }
 {}

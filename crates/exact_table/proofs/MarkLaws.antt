@@ -23,43 +23,43 @@ abbrev IsMark : ℕ → ℕ → Type 0
 IsMark stages at = at ≢ never → at < stages
 
 -- a class is unsettled before the next stage exactly if it is unsettled now
-one_now : (stages at : ℕ) → stages ≤ 400 → IsMark stages at → leb stages at ≡ not (ltb at never)
+one_now : (stages at : ℕ) → stages ≤ 4000 → IsMark stages at → leb stages at ≡ not (ltb at never)
 one_now stages at few h = by (cases_eq at never)
   where
     by : (at ≡ never) ⊎ (at ≢ never) → leb stages at ≡ not (ltb at never)
     by (inl e) = le-leb stages at (omega arith) ∙ sym (ap not (le-ltb at never (omega arith)))
     by (inr n) = let l = h n in lt-leb stages at l ∙ sym (ap not (lt-ltb at never (omega arith)))
 
-now : (stages : ℕ) (marks : List ℕ) → stages ≤ 400 → AllByRecursion (IsMark stages) marks → unsettled_before marks stages ≡ map not (settled_of marks)
+now : (stages : ℕ) (marks : List ℕ) → stages ≤ 4000 → AllByRecursion (IsMark stages) marks → unsettled_before marks stages ≡ map not (settled_of marks)
 now stages [] few h = refl
 now stages (at ∷ marks) few h = ap₂ (λ b bs. b ∷ bs) (one_now stages at few h.0) (now stages marks few h.1)
 
-pub marks_of-more : (stages : ℕ) (marks : List ℕ) → stages ≤ 400 → AreMarks marks stages → marks_of marks (stages + 1) ≡ marks_of marks stages ++ map not (settled_of marks) ∷ []
+pub marks_of-more : (stages : ℕ) (marks : List ℕ) → stages ≤ 4000 → AreMarks marks stages → marks_of marks (stages + 1) ≡ marks_of marks stages ++ map not (settled_of marks) ∷ []
 marks_of-more stages marks few h =
     map-range_with_len_more (unsettled_before marks) 0 stages stages (omega arith)
     ∙ ap (λ bs. marks_of marks stages ++ bs ∷ []) (now stages marks few (recursion_from_All (IsMark stages) marks h))
 
 -- closing a stage doesn't change which classes were unsettled before it and before each earlier stage
-one_kept : (r stage at : ℕ) (b : Bool) → r ≤ stage → stage < 400 → leb r (cond (eqb at never && b) stage at) ≡ leb r at
+one_kept : (r stage at : ℕ) (b : Bool) → r ≤ stage → stage < 4000 → leb r (cond (eqb at never && b) stage at) ≡ leb r at
 one_kept r stage at b l few = by (mark_is stage at b)
   where
     by : ((cond (eqb at never && b) stage at ≡ stage) × (at ≡ never) × (b ≡ true)) ⊎ ((cond (eqb at never && b) stage at ≡ at) × ((at ≢ never) ⊎ (b ≡ false))) → leb r (cond (eqb at never && b) stage at) ≡ leb r at
     by (inl (e, f, _)) = ap (leb r) e ∙ le-leb r stage l ∙ sym (le-leb r at (omega arith))
     by (inr (e, _)) = ap (leb r) e
 
-kept : (r stage : ℕ) (xs : List ℤ) (marks : List ℕ) → r ≤ stage → stage < 400 → unsettled_before (settled_marks stage xs marks) r ≡ unsettled_before marks r
+kept : (r stage : ℕ) (xs : List ℤ) (marks : List ℕ) → r ≤ stage → stage < 4000 → unsettled_before (settled_marks stage xs marks) r ≡ unsettled_before marks r
 kept r stage [] marks l few = refl
 kept r stage (x ∷ xs) [] l few = refl
 kept r stage (x ∷ xs) (at ∷ marks) l few = ap₂ (λ b bs. b ∷ bs) (one_kept r stage at (int_lt (pos 0) x) l few) (kept r stage xs marks l few)
 
-kept_from : (a n stage : ℕ) (xs : List ℤ) (marks : List ℕ) → a + n ≤ stage + 1 → stage < 400 → map (unsettled_before (settled_marks stage xs marks)) (range_with_len a n) ≡ map (unsettled_before marks) (range_with_len a n)
+kept_from : (a n stage : ℕ) (xs : List ℤ) (marks : List ℕ) → a + n ≤ stage + 1 → stage < 4000 → map (unsettled_before (settled_marks stage xs marks)) (range_with_len a n) ≡ map (unsettled_before marks) (range_with_len a n)
 kept_from a zero stage xs marks l few = refl
 kept_from a (suc n) stage xs marks l few = ap₂ (λ b bs. b ∷ bs) (kept a stage xs marks (omega arith) few) (kept_from (a + 1) n stage xs marks (omega arith) few)
 
-pub marks_of-settled_marks : (stages : ℕ) (xs : List ℤ) (marks : List ℕ) → 0 < stages → stages ≤ 400 → marks_of (settled_marks (stages - 1) xs marks) stages ≡ marks_of marks stages
+pub marks_of-settled_marks : (stages : ℕ) (xs : List ℤ) (marks : List ℕ) → 0 < stages → stages ≤ 4000 → marks_of (settled_marks (stages - 1) xs marks) stages ≡ marks_of marks stages
 marks_of-settled_marks stages xs marks some few = kept_from 0 stages (stages - 1) xs marks (omega arith) (omega arith)
 
-one_settled : (stages stage at : ℕ) (b : Bool) → stages ≤ 400 → stage < 400 → IsMark stages at → ltb (cond (eqb at never && b) stage at) never ≡ (ltb at never || b)
+one_settled : (stages stage at : ℕ) (b : Bool) → stages ≤ 4000 → stage < 4000 → IsMark stages at → ltb (cond (eqb at never && b) stage at) never ≡ (ltb at never || b)
 one_settled stages stage at b few l h = by (mark_is stage at b)
   where
     unmarked : (at ≢ never) ⊎ (b ≡ false) → ltb at never ≡ (ltb at never || b)
@@ -70,13 +70,13 @@ one_settled stages stage at b few l h = by (mark_is stage at b)
     by (inl (e, f, g)) = ap (λ n. ltb n never) e ∙ lt-ltb stage never (omega arith) ∙ (elim (ltb at never) as (λ t. true ≡ (t || true)) [ true ↦ refl | false ↦ refl ]) ∙ ap (λ t. ltb at never || t) (sym g)
     by (inr (e, u)) = ap (λ n. ltb n never) e ∙ unmarked u
 
-settled_more : (stages stage : ℕ) (xs : List ℤ) (marks : List ℕ) → stages ≤ 400 → stage < 400 → AllByRecursion (IsMark stages) marks → settled_of (settled_marks stage xs marks) ≡ settled_by xs (settled_of marks)
+settled_more : (stages stage : ℕ) (xs : List ℤ) (marks : List ℕ) → stages ≤ 4000 → stage < 4000 → AllByRecursion (IsMark stages) marks → settled_of (settled_marks stage xs marks) ≡ settled_by xs (settled_of marks)
 settled_more stages stage [] [] few l h = refl
 settled_more stages stage [] (at ∷ marks) few l h = refl
 settled_more stages stage (x ∷ xs) [] few l h = refl
 settled_more stages stage (x ∷ xs) (at ∷ marks) few l h = ap₂ (λ b bs. b ∷ bs) (one_settled stages stage at (int_lt (pos 0) x) few l h.0) (settled_more stages stage xs marks few l h.1)
 
-pub settled_of-settled_marks : (stages stage : ℕ) (xs : List ℤ) (marks : List ℕ) → stages ≤ 400 → stage < stages → AreMarks marks stages → settled_of (settled_marks stage xs marks) ≡ settled_by xs (settled_of marks)
+pub settled_of-settled_marks : (stages stage : ℕ) (xs : List ℤ) (marks : List ℕ) → stages ≤ 4000 → stage < stages → AreMarks marks stages → settled_of (settled_marks stage xs marks) ≡ settled_by xs (settled_of marks)
 settled_of-settled_marks stages stage xs marks few l h = settled_more stages stage xs marks few (omega arith) (recursion_from_All (IsMark stages) marks h)
 
 one_marked : (stages stage at : ℕ) (b : Bool) → stage < stages → IsMark stages at → IsMark stages (cond (eqb at never && b) stage at)

@@ -38,7 +38,7 @@ pub record IsFrame (sizes settled_at : List ℕ) (stages : ℕ) (columns : List 
   pub some_each : All (λ size. 1 ≤ size) sizes
   pub marks_each : length settled_at ≡ length sizes
   pub marks : AreMarks settled_at stages
-  pub few : stages ≤ 400
+  pub few : stages ≤ 4000
   pub entered : in_stage ≡ true → 0 < stages
   pub room : length closed ≡ length sizes
   pub closed_few : closed_count stages in_stage ≤ length sizes

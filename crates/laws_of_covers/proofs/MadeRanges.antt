@@ -86,15 +86,15 @@ module _ (pool : Pool) (all : Classes) (closed : List Row) (row : Row) (stage : 
             ),
       )
 
-  counts_in_range : (front : List ℕ) → Fits all.classes front → list_all (λ c. leb c most_count) front ≡ true
+  counts_in_range : (front : List ℕ) → Fits all.classes front → list_all (λ c. leb c (most_count (length pool.volunteers))) front ≡ true
   counts_in_range front fits =
-      list_all_from_each (λ c. leb c most_count) front
-      (recursion_from_All (λ c. leb c most_count ≡ true) front
-      (λ t d l. le-leb (get_or front t d) most_count (omega (arith, count_few all front t limits (fits_within all front fits) l, get_or_default front t d 0 l))))
+      list_all_from_each (λ c. leb c (most_count (length pool.volunteers))) front
+      (recursion_from_All (λ c. leb c (most_count (length pool.volunteers)) ≡ true) front
+      (λ t d l. le-leb (get_or front t d) (most_count (length pool.volunteers)) (omega (arith, count_few all front t limits (fits_within all front fits) l, get_or_default front t d 0 l))))
 
   line_in_range : (line : FrontLine) → Fits all.classes line.front → first_cause all closed row line.front ≡ Some line.cause → is_front_line pool stage line ≡ true
   line_in_range line fits first =
-      and_from (is_cause pool stage line.cause && leb (length line.front) (length pool.volunteers)) (list_all (λ c. leb c most_count) line.front)
+      and_from (is_cause pool stage line.cause && leb (length line.front) (length pool.volunteers)) (list_all (λ c. leb c (most_count (length pool.volunteers))) line.front)
       (and_from (is_cause pool stage line.cause) (leb (length line.front) (length pool.volunteers))
       (find-each (applies all closed row line.front) (λ cause. is_cause pool stage cause ≡ true) (causes all closed) line.cause causes_in_range first)
       (le-leb (length line.front) (length pool.volunteers) (omega (arith, fits_few all.classes line.front fits))))

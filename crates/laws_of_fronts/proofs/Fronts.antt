@@ -72,7 +72,7 @@ place_is all depth class stands = slice_get-get_or all.classes depth class stand
 pub same_class : (all : Classes) (depth : ℕ) (class other : Class) → Stands all depth class → slice_get all.classes depth ≡ Some other → other ≡ class
 same_class all depth class other stands e = let here = place_is all depth class stands in cc
 
-pub class_limits : (all : Classes) (depth : ℕ) (class : Class) → KeepsLimits all → Stands all depth class → (class.least ≤ class.most) × (class.most ≤ length class.members) × (length class.members ≤ 400)
+pub class_limits : (all : Classes) (depth : ℕ) (class : Class) → KeepsLimits all → Stands all depth class → (class.least ≤ class.most) × (class.most ≤ length class.members) × (length class.members ≤ 4000)
 class_limits all depth class limits stands =
     let here = stands.is in let sum = limits.few_members in
     let low = All-get_or (λ (class : Class). class.least ≤ class.most) all.classes depth class stands.below (All-from_recursion (λ (class : Class). class.least ≤ class.most) all.classes limits.searchable.in_order) in

@@ -22,7 +22,7 @@ use Rattle.laws_of_fronts.specs.Homes.{HasMoreAt}
 pub comes_next : (all : Classes) (i : ℕ) (class : Class) → Stands all i class → drop i all.classes ≡ class ∷ drop (i + 1) all.classes
 comes_next all i class stands = drop_more all.classes i class stands.below ∙ ap (λ (c : Class). c ∷ drop (i + 1) all.classes) (sym stands.is)
 
-pub most_of_class : (all : Classes) (i : ℕ) (class : Class) → KeepsLimits all → Stands all i class → class.most ≤ 400
+pub most_of_class : (all : Classes) (i : ℕ) (class : Class) → KeepsLimits all → Stands all i class → class.most ≤ 4000
 most_of_class all i class limits stands =
     let few = All-get_or (λ (class : Class). class.most ≤ length class.members) all.classes i class stands.below limits.most in
     let one = get_or-le-sum_by (λ (class : Class). length class.members) all.classes i class stands.below in
@@ -74,8 +74,8 @@ taken_within_all p (class ∷ classes) (c ∷ counts) =
       | false ↦ omega arith
     ]
 
--- If a front is reachable, it takes at most 200 members of classes that satisfy `p`.
-pub few_taken : (all : Classes) (front : List ℕ) (p : Class → Bool) → KeepsLimits all → is_reachable all front ≡ true → taken_of p all.classes front ≤ 200
+-- If a front is reachable, it takes at most 1,000 members of classes that satisfy `p`.
+pub few_taken : (all : Classes) (front : List ℕ) (p : Class → Bool) → KeepsLimits all → is_reachable all front ≡ true → taken_of p all.classes front ≤ 1000
 few_taken all front p limits live =
     let both = and_parts (size_reachable all front && values_reachable all front) (takes_one_a_household all.classes front) live in
     let parts = and_parts (size_reachable all front) (values_reachable all front) both.0 in
@@ -164,14 +164,14 @@ given_back all front class count rest before after places stands tracks e f g mo
 
 -- ---- what the calls on the tallies require
 
-pub most_small : (all : Classes) (i : ℕ) (p : Class → Bool) → KeepsLimits all → most_given p (drop i all.classes) ≤ 400
+pub most_small : (all : Classes) (i : ℕ) (p : Class → Bool) → KeepsLimits all → most_given p (drop i all.classes) ≤ 4000
 most_small all i p limits =
     let parts = sum_by-take-drop (λ class. cond (p class) class.most 0) all.classes i in
     let whole = most_of_members p all.classes (recursion_from_All (λ (class : Class). class.most ≤ length class.members) all.classes limits.most) in
     omega (arith, limits.few_members)
 
--- The first `i` classes together give at most 400 members.
-pub first_small : (all : Classes) (i : ℕ) (p : Class → Bool) → KeepsLimits all → most_given p (take i all.classes) ≤ 400
+-- The first `i` classes together give at most 4,000 members.
+pub first_small : (all : Classes) (i : ℕ) (p : Class → Bool) → KeepsLimits all → most_given p (take i all.classes) ≤ 4000
 first_small all i p limits =
     let part = sum_by-take-le (λ class. cond (p class) class.most 0) all.classes i in
     let whole = most_of_members p all.classes (recursion_from_All (λ (class : Class). class.most ≤ length class.members) all.classes limits.most) in

@@ -224,7 +224,7 @@ units_count (class ∷ classes) [] = omega arith
 units_count (class ∷ classes) (x ∷ entries) =
     omega (arith, length-replicate class.most x (units classes entries), units_count classes entries, most_more (λ class. true) class classes)
 
-pub units_few : (all : Classes) (entries : List ℤ) (place : ℕ) → KeepsLimits all → length (units_from all entries place) ≤ 400
+pub units_few : (all : Classes) (entries : List ℤ) (place : ℕ) → KeepsLimits all → length (units_from all entries place) ≤ 4000
 units_few all entries place limits = omega (arith, units_count (drop place all.classes) (drop place entries), most_small all place (λ class. true) limits)
 
 -- ---- the table of greatest sums

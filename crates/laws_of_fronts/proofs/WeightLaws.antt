@@ -206,10 +206,10 @@ size_few (class ∷ classes) (suc t) =
     let a = sum_by-is-total (λ (class : Class). length class.members) (class ∷ classes) in let b = sum_by-is-total (λ (class : Class). length class.members) classes in
     omega arith
 
-pub count_few : (all : Classes) (front : List ℕ) (t : ℕ) → KeepsLimits all → AreWithin all front → t < length front → slice_index front t ≤ 400
+pub count_few : (all : Classes) (front : List ℕ) (t : ℕ) → KeepsLimits all → AreWithin all front → t < length front → slice_index front t ≤ 4000
 count_few all front t limits within l = omega (arith, within t l, size_few all.classes t, limits.few_members)
 
-pub within_few : (all : Classes) (front : List ℕ) → KeepsLimits all → AreWithin all front → taken_by all front ≤ 400
+pub within_few : (all : Classes) (front : List ℕ) → KeepsLimits all → AreWithin all front → taken_by all front ≤ 4000
 within_few all front limits within = let sum = within_members all.classes front within in omega (arith, limits.few_members)
 
 -- ---- live fronts

@@ -1,12 +1,13 @@
 -- The pool of a round satisfies `IsPool`, and has the register's ids.
 use Rattle.std.proofs.Common.{◌≡◌, ℕ, zero, suc, ◌+◌, Bool, true, ltb, eqb, List, [], ◌∷◌, map, length, Option, Some, None, Ok, unwrap_or, refl, sym, ap, ◌∙◌, arith, subst}
 use Rattle.std.specs.List.{list_all}
-use Rattle.std.proofs.lemmas.Bool.{and_from, and_parts, eqb-true, lt-ltb}
+use Rattle.std.proofs.lemmas.Bool.{and_from, and_parts, eqb-true, le-leb, leb-true, lt-ltb}
+use Rattle.define_pools.specs.declared.Limits.TheVariants.{Usual, Large}
 use Rattle.define_pools.specs.declared.Standing.{Standing}
 use Rattle.define_pools.specs.Building.{are_known, ids, place_of, places_of, value_names}
 use Rattle.define_pools.specs.Lists.{includes_list}
-use Rattle.define_pools.specs.Pool.{Category, IsPool, Pool, Volunteer, has_values, is_household, is_name, is_size}
-use Rattle.define_pools.proofs.BuildingLemmas.{place_at}
+use Rattle.define_pools.specs.Pool.{Category, IsPool, Pool, Volunteer, has_values, is_household, is_name, is_size, most_volunteers}
+use Rattle.define_pools.proofs.BuildingLemmas.{is_size_of_pool, place_at}
 use Rattle.define_offices.specs.Tables.{Charter, Entry, Round, Open, Solved, Sealed, Drawn, Tables, round_at}
 use Rattle.define_offices.specs.Deciding.{fits_rules}
 use Rattle.define_offices.specs.Facts.{IsTables, entry_ids, is_entry}
@@ -101,11 +102,11 @@ module _ (tables : Tables) (keeps : IsTables tables) (charter : Charter) (catego
       let fit : list_all (λ (entry : Entry). fits_rules categories entry.values) register ≡ true = rw has_rules at keeps.fit in
       record {
         is_pool = record {
-          size = (and_parts (is_name charter.title) (is_size charter.size) (keeps.charter charter has_charter)).1;
+          size = is_size_of_pool Usual charter.size (and_parts (is_name charter.title) (is_size Usual charter.size) (keeps.charter charter has_charter)).1;
           few_categories = rules.few;
           categories = rules.each;
           different_categories = rules.different;
-          few_volunteers = rw (length-rows categories register) keeps.few_rows;
+          few_volunteers = le-leb (length (map (volunteer_of categories) register)) (most_volunteers Large) (let few = leb-true (length register) 400 keeps.few_rows in omega (arith, few, length-rows categories register));
           ids = names-rows categories register keeps.rows;
           different_ids = rw (ids-rows categories register) keeps.different_ids;
           values = values-rows categories register fit;

@@ -42,7 +42,7 @@ weight_ranges weight some low = and_from (leb 1 weight) (leb weight (10 ^ 38)) (
 quota_group : (pool : Pool) (panel : List ℕ) → IsPool pool → is_quota_panel pool panel ≡ true → is_group (length pool.volunteers) panel ≡ true
 quota_group pool panel is_pool quota =
     let parts = quota_parts pool panel quota in
-    let some : 1 ≤ pool.size = leb-true 1 pool.size (and_parts (leb 1 pool.size) (leb pool.size 200) is_pool.size).0 in
+    let some : 1 ≤ pool.size = leb-true 1 pool.size (and_parts (leb 1 pool.size) (leb pool.size 1000) is_pool.size).0 in
     and_from (ltb 0 (length panel) && is_increasing panel) (list_all (λ i. ltb i (length pool.volunteers)) panel)
     (and_from (ltb 0 (length panel)) (is_increasing panel) (lt-ltb 0 (length panel) (omega (arith, parts.size))) parts.up) parts.below
 

@@ -11,7 +11,7 @@ use proof_program::Program;
 use proof_table::Table;
 use std::alloc::{AllocError, Global};
 
-/// The greatest number by which a bound may be missed in the table. It is never reached: no pool has more than 400 volunteers, and no bound
+/// The greatest number by which a bound may be missed in the table. It is never reached: no pool has more than 4,000 volunteers, and no bound
 /// passes 999.
 const MOST_MISSES: u32 = 1000000;
 

@@ -3,6 +3,7 @@
 ghost use Rattle.std.specs.Prelude.{◌≡◌, nat_le, not, ◌&&◌, length, if◌then◌else◌, Some, None, IfOk, IsTrue};
 ghost use Rattle.std.specs.List.{list_all};
 ghost use Rattle.define_pools.specs.Pool.{is_size as is_panel_size};
+ghost use Rattle.define_pools.specs.declared.Limits.TheVariants.{Usual};
 ghost use Rattle.define_offices.specs.Facts.{AreRules, are_rules as make_rules, is_charter, is_reserved as is_taken};
 
 use crate::names::is_name;
@@ -78,7 +79,7 @@ impl Charter {
 
 /// True if a panel may have `size` members: from 1 to 200.
 fn is_size(size: usize) -> bool
-    ensures { result ≡ is_panel_size size }
+    ensures { result ≡ is_panel_size Usual size }
 {
     1 <= size && size <= MAX_SIZE
 }

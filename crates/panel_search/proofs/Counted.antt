@@ -23,7 +23,7 @@ taken_more_of all front place class p stands below =
     ∙ taken_more all (take place front) class (get_or front place 0) (subst (λ n. Stands all n class) (sym long) stands) p
 
 -- The first counts of a front take few members.
-pub taken_small : (all : Classes) (front : List ℕ) (place : ℕ) (p : Class → Bool) → KeepsLimits all → AreWithin all front → place ≤ length front → taken_of p all.classes (take place front) ≤ 400
+pub taken_small : (all : Classes) (front : List ℕ) (place : ℕ) (p : Class → Bool) → KeepsLimits all → AreWithin all front → place ≤ length front → taken_of p all.classes (take place front) ≤ 4000
 taken_small all front place p limits within few =
     omega (arith, taken_within_all p all.classes (take place front), within_few all (take place front) limits (within_first all front place within few))
 

@@ -41,20 +41,20 @@ lists_next all depth class stands =
     taken (y ∷ ys) (suc n) x l e = let same : suc n + 1 ≡ suc (n + 1) = omega arith in rw same (ap (λ (zs : List Class). y ∷ zs) (taken ys n x (omega arith) e))
 
 -- if the first `k` classes have fewer than 64 lists of counts, for each `k` up to `depth`, then the first `depth + 1` classes have `next`
--- lists, at most 30000
+-- lists, at most 300000
 pub few_next : (all : Classes) (depth lists next : ℕ) (class : Class) → KeepsLimits all → Stands all depth class → lists ≡ lists_of (take depth all.classes) → lists < 64 → ((k : ℕ) → k < depth → lists_of (take k all.classes) < 64) →
     next ≡ lists * (class.most - class.least + 1) →
-    (next ≡ lists_of (take (depth + 1) all.classes)) × (next ≤ 30000) × ((k : ℕ) → k < depth + 1 → lists_of (take k all.classes) < 64)
+    (next ≡ lists_of (take (depth + 1) all.classes)) × (next ≤ 300000) × ((k : ℕ) → k < depth + 1 → lists_of (take k all.classes) < 64)
 few_next all depth lists next class limits stands e few earlier f =
     let bounds = class_limits all depth class limits stands in
-    let ways : class.most - class.least + 1 ≤ 401 = omega (arith, bounds.0, bounds.1, bounds.2) in (
+    let ways : class.most - class.least + 1 ≤ 4001 = omega (arith, bounds.0, bounds.1, bounds.2) in (
       f ∙ ap (λ n. n * (class.most - class.least + 1)) e ∙ sym (lists_next all depth class stands),
       omega (arith, f, product lists (class.most - class.least + 1) few ways),
       λ k l. by k l,
     )
   where
-    product : (m n : ℕ) → m < 64 → n ≤ 401 → m * n ≤ 30000
-    product m n l k = omega (arith, mul-le m n 63 401 (omega arith) k)
+    product : (m n : ℕ) → m < 64 → n ≤ 4001 → m * n ≤ 300000
+    product m n l k = omega (arith, mul-le m n 63 4001 (omega arith) k)
 
     by : (k : ℕ) → k < depth + 1 → lists_of (take k all.classes) < 64
     by k l = (elim (ltb k depth) as (λ b. ltb k depth ≡ b → lists_of (take k all.classes) < 64) [

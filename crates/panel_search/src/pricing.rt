@@ -313,7 +313,7 @@ impl BestSearch {
         requires front { take (length front.now) self.old.counts.items ≡ front.now }
         requires live { is_reachable terms.now.classes.now front.now ≡ true }
         requires begins { BeginsAt terms.now.classes.now terms.now.closed.now terms.now.row.now (length front.now) self.old }
-        ensures end { result.1 ≤ 401 }
+        ensures end { result.1 ≤ 4001 }
         ensures can_take { CanTakeWithin terms.now.classes.now (length front.now) result.0 result.1 }
         ensures live { LiveWithin terms.now.classes.now front.now result.0 result.1 }
         ensures all { live_among terms.now.classes.now terms.now.closed.now terms.now.row.now terms.now.row.now.b front.now (counts_below result.0 result.1)
@@ -427,7 +427,7 @@ impl BestSearch {
         requires few { self.old.visits ≤ self.old.nodes }
         requires below { depth < length terms.now.classes.now.classes }
         requires can_take { CanTakeWithin terms.now.classes.now depth low end }
-        requires end { end ≤ 401 }
+        requires end { end ≤ 4001 }
         requires live { LiveWithin terms.now.classes.now (take depth self.old.counts.items) low end }
         requires stands { StandsAt terms.now.classes.now terms.now.closed.now terms.now.row.now depth (drop (depth + 1) terms.now.classes.now.classes) self.old }
         ensures { Moves terms.now.classes.now terms.now.closed.now terms.now.row.now depth (drop (depth + 1) terms.now.classes.now.classes)
@@ -453,7 +453,7 @@ impl BestSearch {
         requires few { self.old.visits ≤ self.old.nodes }
         requires below { depth < length terms.now.classes.now.classes }
         requires can_take { CanTake terms.now.classes.now depth count }
-        requires count { count ≤ 400 }
+        requires count { count ≤ 4000 }
         requires live { is_reachable terms.now.classes.now (take depth self.old.counts.items ++ count ∷ []) ≡ true }
         requires stands { StandsAt terms.now.classes.now terms.now.closed.now terms.now.row.now depth (drop (depth + 1) terms.now.classes.now.classes) self.old }
         ensures { Moves terms.now.classes.now terms.now.closed.now terms.now.row.now depth (drop (depth + 1) terms.now.classes.now.classes)

@@ -165,7 +165,7 @@ impl Search {
         end: usize,
     ) -> Result<bool, BudgetSpent>
         requires below { depth < length classes.now.classes }
-        requires few { end ≤ 401 }
+        requires few { end ≤ 4001 }
         requires live { LiveWithin classes.now (take depth self.old.counts.items) low end }
         requires stands { StandsAt classes.now depth (drop (depth + 1) classes.now.classes) self.old }
         ensures { Steps classes.now depth (drop (depth + 1) classes.now.classes)
@@ -190,7 +190,7 @@ impl Search {
         count: usize,
     ) -> Result<bool, BudgetSpent>
         requires below { depth < length classes.now.classes }
-        requires few { count ≤ 400 }
+        requires few { count ≤ 4000 }
         requires live { is_reachable classes.now (take depth self.old.counts.items ++ count ∷ []) ≡ true }
         requires stands { StandsAt classes.now depth (drop (depth + 1) classes.now.classes) self.old }
         ensures { Steps classes.now depth (drop (depth + 1) classes.now.classes)

@@ -177,7 +177,7 @@ impl SharingSearch {
         requires few { self.old.search.visits ≤ self.old.search.nodes }
         requires below { depth < length terms.now.classes.now.classes }
         requires can_take { CanTakeWithin terms.now.classes.now depth low end }
-        requires end { end ≤ 401 }
+        requires end { end ≤ 4001 }
         requires live { LiveWithin terms.now.classes.now (take depth self.old.search.counts.items) low end }
         requires fronts { FrontsWithin terms.now.classes.now (take depth self.old.search.counts.items) low end }
         requires stands { StandsAt terms.now.classes.now terms.now.closed.now terms.now.row.now depth (drop (depth + 1) terms.now.classes.now.classes) self.old.search }
@@ -209,7 +209,7 @@ impl SharingSearch {
         requires few { self.old.search.visits ≤ self.old.search.nodes }
         requires below { depth < length terms.now.classes.now.classes }
         requires can_take { CanTake terms.now.classes.now depth count }
-        requires count { count ≤ 400 }
+        requires count { count ≤ 4000 }
         requires live { is_reachable terms.now.classes.now (take depth self.old.search.counts.items ++ count ∷ []) ≡ true }
         requires front { IsFront terms.now.classes.now (take depth self.old.search.counts.items ++ count ∷ []) }
         requires stands { StandsAt terms.now.classes.now terms.now.closed.now terms.now.row.now depth (drop (depth + 1) terms.now.classes.now.classes) self.old.search }

@@ -21,7 +21,7 @@ mod quotas;
 pub use building::BuildStop;
 pub use certificates::{Answer, Certificate, Stage, panel_weight};
 pub use counting::chances;
-pub use define_pools::Standing;
+pub use define_pools::{Limits, Standing};
 pub use households::{has_households, share_household};
 pub use lotteries::{Lottery, LotteryRow};
 pub use names::{are_named, places_named};

@@ -3,7 +3,8 @@
 
 ghost use Rattle.std.specs.Prelude.{◌≡◌, ◌≢◌, ◌<◌, ◌==◌, ◌||◌, nat_le, not, [], ◌∷◌, length, map, None, Err, OnOk, OnErr, IfOk, vec_len};
 ghost use Rattle.define_pools.specs.Lists.{includes_list};
-ghost use Rattle.define_pools.specs.Pool.{IsPool, keeps_name_limits as keeps_limits};
+ghost use Rattle.define_pools.specs.Pool.{IsPool, is_usual, most_volunteers, keeps_name_limits as keeps_limits};
+ghost use Rattle.define_pools.specs.declared.Limits.TheVariants.{Usual, Large};
 ghost use Rattle.define_pools.specs.Building.{lowest_kind, ids, size_kind, category_kind, value_kind, volunteer_kind, empty_pool, category_added, value_added, volunteer_added, with_value, last_values as values_of_last, with_standing, standing_set, with_household, household_set, household_kind};
 ghost use Rattle.pool_model.specs.Answers.{Answers};
 ghost use Rattle.pool_model.specs.declared.building.BuildStop.TheVariants.{OutOfMemory};
@@ -13,11 +14,9 @@ use crate::names::{
     are_known, are_named, bytes_of, is_category, is_value, is_volunteer, keeps_name_limits, places,
 };
 use crate::parts::{Bound, BoundedValue, Category, Name, Volunteer};
-use define_pools::Standing;
+use define_pools::{Limits, Standing};
 use std::alloc::{AllocError, Global};
 use std::marker::Model;
-
-const MAX_SIZE: usize = 200;
 
 const MAX_CATEGORIES: usize = 20;
 
@@ -25,10 +24,8 @@ const MAX_VALUES: usize = 50;
 
 const MAX_BOUND: usize = 999;
 
-const MAX_VOLUNTEERS: usize = 400;
-
 /// A pool: the size of its panels, its categories and its volunteers, who are numbered from 0. It is always within these limits. The size
-/// is from 1 to 200. There are at most 20 categories, 50 values a category and 400 volunteers. A lower bound is at most its upper bound,
+/// is from 1 to 1,000. There are at most 20 categories, 50 values a category and 4,000 volunteers. A lower bound is at most its upper bound,
 /// which is at most 999. Each id and each name, also of a household, has 1 to 200 bytes of UTF-8, none of which is below 32 or is 127. No
 /// two categories have the same name, no two values of a category, and no two volunteers the same id. Each volunteer has one value of each
 /// category.
@@ -71,6 +68,14 @@ impl Pool {
         &self.volunteers
     }
 
+    /// True if the pool is within the usual limits: its panels have at most 200 members, and it has at most 400 volunteers.
+    pub fn is_usual(&self) -> bool
+        ensures { result ≡ is_usual self.now }
+    {
+        self.size <= Limits::Usual.members()
+            && self.volunteers.len() <= Limits::Usual.volunteers()
+    }
+
     /// Does nothing. Its contract says that the pool is within its limits.
     pub fn facts(&self)
         ensures { IsPool self.now }
@@ -109,11 +114,22 @@ impl Pool {
     ///
     /// Stops with kind 2 exactly if the size is not from 1 to 200, and never for want of memory.
     pub fn new(alloc: Global, size: usize) -> Result<Pool, BuildStop>
-        ensures kind { Answers (size_kind size) result }
+        ensures kind { Answers (size_kind Usual size) result }
         ensures memory { result ≢ Err OutOfMemory }
         ensures ok { IfOk result (λ pool. pool ≡ empty_pool size) }
     {
-        if let Some(kind) = size_kind(size) {
+        Pool::new_within(alloc, Limits::Usual, size)
+    }
+
+    /// Returns a pool with no category and no volunteer, whose panels have `size` members, as `new` does for a pool of usual size.
+    ///
+    /// Stops with kind 2 exactly if the size is not from 1 to the greatest one that `limits` allow, and never for want of memory.
+    pub fn new_within(alloc: Global, limits: Limits, size: usize) -> Result<Pool, BuildStop>
+        ensures kind { Answers (size_kind limits size) result }
+        ensures memory { result ≢ Err OutOfMemory }
+        ensures ok { IfOk result (λ pool. pool ≡ empty_pool size) }
+    {
+        if let Some(kind) = size_kind(limits, size) {
             return Err(BuildStop::Kind(kind));
         }
         Ok(Pool {
@@ -216,22 +232,28 @@ impl Pool {
 
     /// Returns the lowest kind of fault that a volunteer with this id and these names of values has, or None: 6 if a name isn't that of a
     /// value of its category, 7 if there aren't as many names as categories, 8 if an earlier volunteer has this id, 10 if the id isn't
-    /// allowed or the pool has 400 volunteers already.
-    pub fn volunteer_kind(&self, id: &[u8], values: &[&[u8]]) -> Option<u8>
-        ensures { result ≡ volunteer_kind self.now id.now (map (λ name. name.now) values.now) }
+    /// allowed or the pool has as many volunteers already as `limits` allow.
+    pub fn volunteer_kind(&self, limits: Limits, id: &[u8], values: &[&[u8]]) -> Option<u8>
+        ensures { result ≡ volunteer_kind limits self.now id.now (map (λ name. name.now) values.now) }
     {
         let known = are_known(&self.categories, values);
-        self.volunteer_fault(id, known, values.len())
+        self.volunteer_fault(limits, id, known, values.len())
     }
 
     // Returns the kind that `volunteer_kind` returns. `known` says whether each name is that of a value of its category, and `count` is the
     // number of names.
-    fn volunteer_fault(&self, id: &[u8], known: bool, count: usize) -> Option<u8>
+    fn volunteer_fault(
+        &self,
+        limits: Limits,
+        id: &[u8],
+        known: bool,
+        count: usize,
+    ) -> Option<u8>
         ensures { result ≡ lowest_kind (
             (6, not known) ∷
             (7, not (count == length self.now.categories)) ∷
             (8, includes_list (ids self.now.volunteers) id.now) ∷
-            (10, not (keeps_limits id.now) || nat_le 400 (length self.now.volunteers)) ∷ []) }
+            (10, not (keeps_limits id.now) || nat_le (most_volunteers limits) (length self.now.volunteers)) ∷ []) }
     {
         if !known {
             Some(6)
@@ -239,22 +261,36 @@ impl Pool {
             Some(7)
         } else if is_volunteer(&self.volunteers, id) {
             Some(8)
-        } else if !keeps_name_limits(id) || MAX_VOLUNTEERS <= self.volunteers.len() {
+        } else if !keeps_name_limits(id) || limits.volunteers() <= self.volunteers.len() {
             Some(10)
         } else {
             None
         }
     }
 
-    /// Appends an open volunteer, given the name of a value for each category. Stops with the kind that `volunteer_kind` returns; the
-    /// pool is then unchanged.
+    /// Appends an open volunteer, given the name of a value for each category. Stops with the kind that `volunteer_kind` returns within
+    /// the usual limits; the pool is then unchanged.
     pub fn add_volunteer(&mut self, id: &str, values: &[Name]) -> Result<(), BuildStop>
-        ensures kind { Answers (volunteer_kind self.old id.now values.now) result }
+        ensures kind { Answers (volunteer_kind Usual self.old id.now values.now) result }
+        ensures ok { OnOk result (self.new ≡ volunteer_added self.old id.now values.now) }
+        ensures err { OnErr result (self.new ≡ self.old) }
+    {
+        self.add_volunteer_within(Limits::Usual, id, values)
+    }
+
+    /// Appends an open volunteer as `add_volunteer` does, within these limits.
+    pub fn add_volunteer_within(
+        &mut self,
+        limits: Limits,
+        id: &str,
+        values: &[Name],
+    ) -> Result<(), BuildStop>
+        ensures kind { Answers (volunteer_kind limits self.old id.now values.now) result }
         ensures ok { OnOk result (self.new ≡ volunteer_added self.old id.now values.now) }
         ensures err { OnErr result (self.new ≡ self.old) }
     {
         let known = are_named(&self.categories, values);
-        if let Some(kind) = self.volunteer_fault(id.as_bytes(), known, values.len()) {
+        if let Some(kind) = self.volunteer_fault(limits, id.as_bytes(), known, values.len()) {
             return Err(BuildStop::Kind(kind));
         }
         let names = bytes_of(*self.volunteers.allocator(), values)?;
@@ -262,9 +298,9 @@ impl Pool {
         Ok(())
     }
 
-    /// Appends a volunteer for whom `volunteer_kind` returns None, without testing it again.
+    /// Appends a volunteer for whom `volunteer_kind` returns None within the limits of every pool, without testing it again.
     pub fn add_right_volunteer(&mut self, id: &str, values: &[&[u8]]) -> Result<(), AllocError>
-        requires { volunteer_kind self.old id.now (map (λ name. name.now) values.now) ≡ None }
+        requires { volunteer_kind Large self.old id.now (map (λ name. name.now) values.now) ≡ None }
         ensures ok { OnOk result (self.new ≡ volunteer_added self.old id.now (map (λ name. name.now) values.now)) }
         ensures err { OnErr result (self.new ≡ self.old) }
     {
@@ -322,11 +358,11 @@ pub fn household_kind(name: &[u8]) -> Option<u8>
     }
 }
 
-/// Returns the kind of fault of a size: 2 exactly if it is not from 1 to 200.
-fn size_kind(size: usize) -> Option<u8>
-    ensures { result ≡ size_kind size }
+/// Returns the kind of fault of a size: 2 exactly if it is not from 1 to the greatest one that `limits` allow.
+fn size_kind(limits: Limits, size: usize) -> Option<u8>
+    ensures { result ≡ size_kind limits size }
 {
-    if 1 <= size && size <= MAX_SIZE {
+    if 1 <= size && size <= limits.members() {
         None
     } else {
         Some(2)

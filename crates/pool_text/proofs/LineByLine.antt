@@ -35,14 +35,14 @@ entry_due pool passed Unknown number h = omega arith
 -- if the next line after `progress` can have the number `number`, the one after that line can have the number `number + 1`
 pub next_due : (progress : Progress) (line : List ℕ) (number : ℕ) → line_due progress ≤ number → line_due (after_line progress line) ≤ number + 1
 next_due Begun line number h = omega arith
-next_due (Versioned second) line number h = omega arith
+next_due (Versioned version) line number h = omega arith
 next_due (Inside pool passed) line number h = entry_due pool passed (entry_of (fields_of line)) number h
 next_due (Ended pool) line number h = omega arith
 
 -- if the text ends in line `number`, and the end is a fault, the fault's line is at least `number`
 last_from : (number : ℕ) (progress : Progress) (bytes : List ℕ) → IsRightBefore number (at_last number progress bytes)
 last_from number Begun bytes = omega arith
-last_from number (Versioned second) bytes = omega arith
+last_from number (Versioned version) bytes = omega arith
 last_from number (Inside pool passed) bytes = omega arith
 last_from number (Ended pool) [] = tt
 last_from number (Ended pool) (byte ∷ bytes) = omega arith

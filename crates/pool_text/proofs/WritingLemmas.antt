@@ -3,9 +3,9 @@ use Rattle.std.proofs.Common.{◌≡◌, ℕ, zero, suc, ◌+◌, ◌<◌, true,
 use Rattle.std.proofs.lemmas.Bool.{and_parts, false≢true, ltb-true}
 use Rattle.std.proofs.lemmas.List.{append-nil}
 use Rattle.std.specs.List.{flat_map}
-use Rattle.define_pools.specs.Pool.{Category, Pool, has_values, has_households}
+use Rattle.define_pools.specs.Pool.{Category, Pool, has_values}
 use Rattle.define_pools.specs.Building.{value_names}
-use Rattle.define_bundles.specs.PoolText.{version_line, size_line, category_lines, names_at, volunteer_line, household_lines, standing_lines, end_line, lines_before_end, spelling}
+use Rattle.define_bundles.specs.PoolText.{version_line, version_of, size_line, category_lines, names_at, volunteer_line, household_lines, standing_lines, end_line, lines_before_end, spelling}
 use Rattle.define_lines.specs.Lines.{tab, tabbed, text_of}
 use Rattle.define_lines.proofs.LineLemmas.{text_of-append}
 
@@ -39,10 +39,10 @@ tabbed_more (category ∷ categories) (place ∷ places) (suc i) d l m =
 
 -- the parts of a pool's text, one after the other, are its spelling
 pub pool_written : (text : List ℕ) (pool : Pool) →
-    ((((((text ++ text_of (version_line (has_households pool) ∷ [])) ++ text_of (size_line pool.size ∷ [])) ++ text_of (flat_map category_lines pool.categories))
+    ((((((text ++ text_of (version_line (version_of pool) ∷ [])) ++ text_of (size_line pool.size ∷ [])) ++ text_of (flat_map category_lines pool.categories))
     ++ text_of (map (volunteer_line pool.categories) pool.volunteers)) ++ text_of (household_lines pool.volunteers)) ++ text_of (standing_lines pool.volunteers)) ++ text_of (end_line ∷ []) ≡ text ++ spelling pool
 pool_written text pool =
-    let version = version_line (has_households pool) ∷ [] in
+    let version = version_line (version_of pool) ∷ [] in
     let size = size_line pool.size ∷ [] in
     let categories = flat_map category_lines pool.categories in
     let volunteers = map (volunteer_line pool.categories) pool.volunteers in

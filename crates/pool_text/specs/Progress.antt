@@ -8,14 +8,14 @@ use Rattle.pool_text.specs.declared.progress.Progress.TheVariants.{Begun, Versio
 
 abbrev pub seen : Progress → words.Progress
 seen Begun = words.Begun
-seen (Versioned second) = words.Versioned second
+seen (Versioned version) = words.Versioned version
 seen (Inside pool passed) = words.Inside pool passed
 seen (Ended pool) = words.Ended pool
 
 -- the least number that the next line can have, counted from 1
 abbrev pub line_due : words.Progress → ℕ
 line_due words.Begun = 1
-line_due (words.Versioned second) = 2
+line_due (words.Versioned version) = 2
 line_due (words.Inside pool passed) = 3
 line_due (words.Ended pool) = 4
 

@@ -4,10 +4,11 @@ ghost use Rattle.std.specs.Prelude.{◌≡◌, ◌<◌, ◌+◌, length, map, If
 ghost use Rattle.define_pools.specs.Building.{household_kind as name_kind, household_set, standing_set};
 ghost use Rattle.std.specs.Str.{IsUtf8, is_utf8};
 ghost use Rattle.pool_text.specs.Answers.{Tells};
-ghost use Rattle.define_bundles.specs.PoolReading.{Inside, line_kind, after_line, after_entry, ValueWord, StandingWord, entry_of_word, entry_of as entry_in, entry_kind as kind_in, number_of as number_in, bound_of as bound_in, awaits_household as awaits, is_ahead as is_number_ahead};
+ghost use Rattle.define_bundles.specs.PoolReading.{Inside, line_kind, after_line, after_entry, ValueWord, StandingWord, entry_of_word, entry_of as entry_in, entry_kind as kind_in, number_of as number_in, bound_of as bound_in, awaits_household as awaits, awaits_volunteers as awaits_more, is_ahead as is_number_ahead};
 ghost use Rattle.pool_text.specs.Entries.{said, IsText};
 ghost use Rattle.pool_text.specs.Progress.{with_pool};
 
+use crate::versions::{limits_in, may_house, must_house, must_pass};
 use define_bundles::Passed;
 use pool_model::{BuildStop, Pool, Standing, Volunteer, household_kind};
 use std::alloc::{AllocError, Global};
@@ -151,11 +152,23 @@ fn entry_kind(pool: &Pool, passed: Passed, entry: &Entry<'_>) -> Option<u8>
         Entry::Category(name) => pool.category_kind(name),
         Entry::Value(name, lower, upper) => pool.value_kind(name, *lower, *upper),
         Entry::Volunteer(_, _) if 0 < passed.households || 0 < passed.standings => Some(FORM),
-        Entry::Volunteer(id, values) => pool.volunteer_kind(id, values),
-        Entry::Household(_, _) if !passed.second || 0 < passed.standings => Some(FORM),
+        Entry::Volunteer(id, values) => {
+            pool.volunteer_kind(limits_in(passed.version), id, values)
+        }
+        Entry::Household(_, _)
+            if !may_house(passed.version)
+                || 0 < passed.standings
+                || awaits_volunteers(pool, passed) =>
+        {
+            Some(FORM)
+        }
         Entry::Household(id, _) if !is_ahead(pool, passed.households, id) => Some(NOT_AHEAD),
         Entry::Household(_, name) => household_kind(name),
-        Entry::Standing(_, _) | Entry::End if awaits_household(passed) => Some(FORM),
+        Entry::Standing(_, _) | Entry::End
+            if awaits_household(passed) || awaits_volunteers(pool, passed) =>
+        {
+            Some(FORM)
+        }
         Entry::Standing(_, id) if !is_ahead(pool, passed.standings, id) => Some(NOT_AHEAD),
         Entry::Standing(_, _) | Entry::End => None,
         Entry::Unknown => Some(FORM),
@@ -166,7 +179,14 @@ fn entry_kind(pool: &Pool, passed: Passed, entry: &Entry<'_>) -> Option<u8>
 fn awaits_household(passed: Passed) -> bool
     ensures { result ≡ awaits passed }
 {
-    passed.second && passed.households == 0
+    must_house(passed.version) && passed.households == 0
+}
+
+/// True if volunteers must come before any other line: in version 3, while the pool is within the usual limits.
+fn awaits_volunteers(pool: &Pool, passed: Passed) -> bool
+    ensures { result ≡ awaits_more pool.now passed }
+{
+    must_pass(passed.version) && pool.is_usual()
 }
 
 /// True if a volunteer has this id, and the volunteer's number is at least `passed`, which is how many volunteers the household lines, or

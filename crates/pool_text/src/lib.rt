@@ -2,16 +2,18 @@
 //! `pool_model`, whose builder and kinds of fault it uses, `text_lines` and `define_bundles`. Used by `bundle_text` and `proof_text`,
 //! which read a pool within their texts; `command_shell`, for the commands on pools; and the office.
 //!
-//! Promises: `read_pool` and `write_pool`. `Progress`, `after` and `version` serve the readers and writers of texts that contain a pool.
+//! Promises: `read_pool` and `write_pool`. `Progress`, `after` and the functions of versions serve the readers and writers of texts that contain a pool.
 #![tactic(auto)]
 
 mod entries;
 mod faults;
 mod progress;
 mod reading;
+mod versions;
 mod writing;
 
 pub use faults::{PoolFault, ReadPool};
 pub use progress::{Progress, after};
 pub use reading::read_pool;
-pub use writing::{version, write_pool};
+pub use versions::{version_line, version_of, version_word};
+pub use writing::write_pool;

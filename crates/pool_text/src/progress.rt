@@ -8,22 +8,14 @@ ghost use Rattle.define_bundles.specs.PoolReading.{line_kind, after_line, size_o
 ghost use Rattle.pool_text.specs.Progress.{seen, line_due};
 
 use crate::entries::{FORM, read_entry};
-use define_bundles::Passed;
-use pool_model::{BuildStop, Pool};
+use crate::versions::{limits_in, version_in};
+use define_bundles::{Passed, Version};
+use pool_model::{BuildStop, Limits, Pool};
 use std::alloc::Global;
 use text_lines::number_up_to;
 
-/// The greatest size of a panel.
-const MAX_SIZE: usize = 200;
-
 /// The size that a line is read as, if it spells none.
 const NO_SIZE: usize = 0;
-
-/// The first line, in version 1.
-const FIRST_VERSION: &[u8] = b"pool\t1";
-
-/// The first line, in version 2.
-const SECOND_VERSION: &[u8] = b"pool\t2";
 
 /// How the second line begins.
 const SIZE: &[u8] = b"size\t";
@@ -33,8 +25,8 @@ const SIZE: &[u8] = b"size\t";
 pub enum Progress {
     /// Before the first line.
     Begun,
-    /// After the first line: of version 2 if true, else of version 1.
-    Versioned(bool),
+    /// After the first line, which says the version.
+    Versioned(Version),
     /// After the size line: the pool that the lines read so far make, and how far they have come.
     Inside(Pool, Passed),
     /// After the end line.
@@ -48,22 +40,19 @@ pub fn after(alloc: Global, progress: Progress, line: &[u8]) -> Result<Progress,
     ensures memory { result ≡ Err OutOfMemory → 3 ≤ line_due (seen progress) }
 {
     match progress {
-        Progress::Begun => {
-            if line == FIRST_VERSION {
-                Ok(Progress::Versioned(false))
-            } else if line == SECOND_VERSION {
-                Ok(Progress::Versioned(true))
-            } else {
-                Err(BuildStop::Kind(FORM))
-            }
-        }
-        Progress::Versioned(second) => {
+        Progress::Begun => match version_in(line) {
+            Some(version) => Ok(Progress::Versioned(version)),
+            None => Err(BuildStop::Kind(FORM)),
+        },
+        Progress::Versioned(version) => {
+            let limits = limits_in(version);
+            let pool = Pool::new_within(alloc, limits, size_of(limits, line))?;
             let passed = Passed {
-                second,
+                version,
                 households: 0,
                 standings: 0,
             };
-            Ok(Progress::Inside(Pool::new(alloc, size_of(line))?, passed))
+            Ok(Progress::Inside(pool, passed))
         }
         Progress::Inside(mut pool, passed) => {
             match read_entry(alloc, &mut pool, passed, line)? {
@@ -75,12 +64,12 @@ pub fn after(alloc: Global, progress: Progress, line: &[u8]) -> Result<Progress,
     }
 }
 
-/// Returns the size that the second line spells, or 0 if it spells none.
-fn size_of(line: &[u8]) -> usize
-    ensures { result ≡ size_in (fields_in line.now) }
+/// Returns the size within these limits that the second line spells, or 0 if it spells none.
+fn size_of(limits: Limits, line: &[u8]) -> usize
+    ensures { result ≡ size_in limits (fields_in line.now) }
 {
     match line.strip_prefix(SIZE) {
-        Some(field) => number_up_to(MAX_SIZE, field).unwrap_or(NO_SIZE),
+        Some(field) => number_up_to(limits.members(), field).unwrap_or(NO_SIZE),
         None => NO_SIZE,
     }
 }

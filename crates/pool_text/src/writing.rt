@@ -5,11 +5,12 @@ ghost use Rattle.define_pools.specs.Building.{value_names};
 ghost use Rattle.std.specs.List.{flat_map, list_all};
 ghost use Rattle.define_pools.specs.Pool.{has_values};
 ghost use Rattle.define_lines.specs.Lines.{tabbed, text_of};
-ghost use Rattle.define_bundles.specs.PoolText.{version as version_words, household_line, household_lines, size_line, category_lines, value_line, names_at, volunteer_line, standing_line, standing_lines, spelling};
+ghost use Rattle.define_bundles.specs.PoolText.{household_line, household_lines, size_line, category_lines, value_line, names_at, volunteer_line, standing_line, standing_lines, spelling};
 ghost use Rattle.define_bundles.specs.PoolReading.{read};
 
+use crate::versions::{version_of, version_word};
 use itoa::Buffer;
-use pool_model::{BoundedValue, Category, Pool, Standing, Volunteer, has_households};
+use pool_model::{BoundedValue, Category, Pool, Standing, Volunteer};
 use std::alloc::{AllocError, Global};
 use text_lines::{end_line, push_field, push_line};
 
@@ -29,20 +30,13 @@ fn push_pool(text: &mut Vec<u8>, pool: &Pool) -> Result<(), AllocError>
     ensures { OnOk result (text.new.items ≡ text.old.items ++ spelling pool.now) }
 {
     pool.facts();
-    push_line(text, b"pool", &[version(has_households(pool))])?;
+    push_line(text, b"pool", &[version_word(version_of(pool))])?;
     push_size(text, pool.size())?;
     push_categories(text, pool.categories())?;
     push_volunteers(text, pool.categories(), pool.volunteers())?;
     push_households(text, pool.volunteers())?;
     push_standings(text, pool.volunteers())?;
     push_line(text, b"end", &[])
-}
-
-/// Returns the field that spells the version: 2 if `second` is true, else 1.
-pub fn version(second: bool) -> &'static [u8]
-    ensures { result.now ≡ version_words second }
-{
-    if second { b"2" } else { b"1" }
 }
 
 fn push_size(text: &mut Vec<u8>, size: usize) -> Result<(), AllocError>

@@ -10,6 +10,6 @@ mod ranges;
 mod trees;
 
 pub use leaves::{Leaf, Multiplier};
-pub use proofs::{Parts, Proof};
-pub use ranges::{is_leaf, is_multiplier, is_tree_line};
+pub use proofs::{Parts, Proof, most_trees};
+pub use ranges::{GREATEST_CONSTRAINT, is_leaf, is_multiplier, is_tree_line};
 pub use trees::{Node, TreeLine, TreeLines};

@@ -3,17 +3,14 @@
 
 ghost use Rattle.std.specs.Prelude.{◌≡◌, ◌↔◌, IfSome, IsSome, IsTrue};
 ghost use Rattle.define_proofs.specs.ProofVerdict.{OfLottery, OfNoPanel};
-ghost use Rattle.define_proofs.specs.ProofText.{IsProof, IsLotteryProof, IsNoPanelProof};
+ghost use Rattle.define_proofs.specs.ProofText.{IsProof, IsLotteryProof, IsNoPanelProof, most_trees as most};
 ghost use Rattle.proof_model.specs.Parts.{seen};
 
 use crate::ranges::{are_tree_lines, are_trees};
 use crate::trees::TreeLines;
 use bundle_text::Bundle;
-use pool_model::Pool;
+use pool_model::{Limits, Pool};
 use std::marker::Model;
-
-/// The greatest number of trees: one for each stage, of which a proof has at most 400.
-const MOST_TREES: usize = 400;
 
 /// The parts of a proof.
 #[derive(Debug, Drop)]
@@ -24,7 +21,8 @@ pub enum Parts {
     NoPanel(Pool, TreeLines),
 }
 
-/// A proof of a lottery, with one tree for each of at most 400 stages, or a proof that there is no quota panel. The lines of the trees
+/// A proof of a lottery, with one tree for each stage, of which there are at most as many as the limit of
+/// volunteers, or a proof that there is no quota panel. The lines of the trees
 /// are in their ranges, so each proof has a text. `proof_verify` decides whether the proof is valid.
 #[derive(Debug, Drop)]
 pub struct Proof {
@@ -44,8 +42,8 @@ impl Model for Proof {
 }
 
 impl Proof {
-    /// Returns the proof of the bundle's lottery by `trees`; None if there isn't one tree for each stage, if there are more than 400, or
-    /// if a line is out of its ranges.
+    /// Returns the proof of the bundle's lottery by `trees`; None if there isn't one tree for each stage, if there are more than the
+    /// limit of volunteers, or if a line is out of its ranges.
     pub fn of_lottery(bundle: Bundle, trees: Vec<TreeLines>) -> Option<Proof>
         ensures value { IfSome result (λ proof. proof ≡ OfLottery bundle.pool bundle.answer trees.items) }
         ensures exact { IsSome result ↔ IsProof (OfLottery bundle.pool bundle.answer trees.items) }
@@ -88,14 +86,22 @@ impl Proof {
     }
 }
 
-/// True if the bundle with the trees is a proof: one tree for each of at most 400 stages, all lines in their ranges.
+/// True if the bundle with the trees is a proof: one tree for each stage, at most as many as the limit of volunteers, all lines in
+/// their ranges.
 fn is_lottery_proof(bundle: &Bundle, trees: &[TreeLines]) -> bool
     ensures { IsTrue result ↔ IsLotteryProof bundle.now.pool bundle.now.answer trees.now }
 {
     bundle.facts();
     let stages = bundle.answer().certificate().stages();
     let volunteers = bundle.pool().volunteers().len();
-    trees.len() == stages.len() && trees.len() <= MOST_TREES && are_trees(volunteers, trees)
+    trees.len() == stages.len() && trees.len() <= most_trees(volunteers) && are_trees(volunteers, trees)
+}
+
+/// Returns the greatest number of trees of a proof over a pool of `volunteers` volunteers.
+pub fn most_trees(volunteers: usize) -> usize
+    ensures { result ≡ most volunteers }
+{
+    Limits::of(volunteers).volunteers()
 }
 
 /// True if the pool with the lines is a proof: all lines are in their ranges.

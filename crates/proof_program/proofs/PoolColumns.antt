@@ -22,8 +22,8 @@ module _ (pool : Pool) (is : IsPool pool) where
   abbrev n : ℕ
   n = length pool.volunteers
 
-  few : n ≤ 400
-  few = leb-true n 400 is.few_volunteers
+  few : n ≤ 4000
+  few = leb-true n 4000 is.few_volunteers
 
   -- ---- classes
 

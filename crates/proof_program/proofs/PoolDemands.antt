@@ -1,5 +1,5 @@
--- A pool has at most 1401 constraints before its first stage. Each counts volunteers, and has a lower bound that is at most the upper one,
--- which is at most 999.
+-- A pool has at most 5001 constraints before its first stage. Each counts volunteers, and has a lower bound that is at most the upper one,
+-- which is at most 1,000.
 use Rattle.std.proofs.Common.{◌≡◌, ℕ, ◌≤◌, ◌<◌, zero, suc, Bool, true, false, cond, eqb, leb, List, [], ◌∷◌, ◌++◌, map, length, get_or, pos, ◌≤ℤ◌, sym, ap, arith, subst}
 use Rattle.std.specs.Prelude.{slice_index}
 use Rattle.std.specs.List.{All, AllByRecursion, enumerate_from, flat_map}
@@ -20,10 +20,10 @@ use Rattle.proof_program.specs.Demands.{AreDemands, HasBounds, constraint_of}
 use Rattle.proof_program.specs.Programs.{quota_constraints}
 use Rattle.define_searches.proofs.Limits.{category_parts, value_parts}
 
--- the lower bound is at most the upper one, which is at most 999, and each coefficient is 0 or 1
+-- the lower bound is at most the upper one, which is at most 1,000, and each coefficient is 0 or 1
 pub record Counts (constraint : Constraint) : Type 0 where
   pub in_order : constraint.lower ≤ℤ constraint.upper
-  pub small : constraint.upper ≤ℤ pos 999
+  pub small : constraint.upper ≤ℤ pos 1000
   pub not_negative : (i : ℕ) → pos 0 ≤ℤ coefficient constraint i
   pub at_most_one : (i : ℕ) → coefficient constraint i ≤ℤ pos 1
 
@@ -33,7 +33,7 @@ one_or_none passes (x ∷ xs) zero =
     elim (passes x) as (λ b. (pos 0 ≤ℤ cond b (pos 1) (pos 0)) × (cond b (pos 1) (pos 0) ≤ℤ pos 1)) [ true ↦ (omega (arith, ints), omega (arith, ints)) | false ↦ (omega (arith, ints), omega (arith, ints)) ]
 one_or_none passes (x ∷ xs) (suc i) = one_or_none passes xs i
 
-counting_is : (pool : Pool) (passes : ℕ → Bool) (lower upper : ℕ) → lower ≤ upper → upper ≤ 999 → Counts (counting pool passes lower upper)
+counting_is : (pool : Pool) (passes : ℕ → Bool) (lower upper : ℕ) → lower ≤ upper → upper ≤ 1000 → Counts (counting pool passes lower upper)
 counting_is pool passes lower upper order small = record {
   in_order = omega (arith, ints);
   small = omega (arith, ints);
@@ -59,7 +59,7 @@ module _ (pool : Pool) (is : IsPool pool) where
 
   -- ---- how many constraints there are
 
-  pub few_constraints : length (constraints pool []) ≤ 1401
+  pub few_constraints : length (constraints pool []) ≤ 5001
   few_constraints =
       let values = flat_map (category_constraints pool) categories in let households = map (household_constraint pool) (first_members pool) in
       let value_count = length-flat_map (category_constraints pool) categories in
@@ -75,7 +75,7 @@ module _ (pool : Pool) (is : IsPool pool) where
       let few_first = length-filter (λ i. is_of_household i (shared_household pool.volunteers i)) (everybody pool) in
       let few_of_all = count_by-le-length (λ i. is_of_household i (shared_household pool.volunteers i)) (everybody pool) in
       let everybody_count = length-range_with_len 0 (length pool.volunteers) in
-      let few_volunteers = leb-true (length pool.volunteers) 400 is.few_volunteers in
+      let few_volunteers = leb-true (length pool.volunteers) 4000 is.few_volunteers in
       let joined = length-append (values ++ []) households in let ended = length-append values [] in
       omega (arith, value_count, few_values, few_categories, category_count, household_count, few_first, few_of_all, everybody_count, few_volunteers, joined, ended)
 
@@ -95,7 +95,7 @@ module _ (pool : Pool) (is : IsPool pool) where
 
   size_counts : Counts (size_constraint pool)
   size_counts =
-      let size = and_parts (leb 1 pool.size) (leb pool.size 200) is.size in let few = leb-true pool.size 200 size.1 in
+      let size = and_parts (leb 1 pool.size) (leb pool.size 1000) is.size in let few = leb-true pool.size 1000 size.1 in
       counting_is pool (λ i. true) pool.size pool.size (omega arith) (omega (arith, few))
 
   household_counts : (number : ℕ) → Counts (household_constraint pool number)

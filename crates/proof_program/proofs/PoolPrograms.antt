@@ -39,7 +39,7 @@ module _ (pool : Pool) (is : IsPool pool) (numbers : List ℕ) (columns : List C
 
   pub program_is : IsProgram (program_over pool numbers columns)
   program_is =
-      let few = leb-true (length pool.volunteers) 400 is.few_volunteers in
+      let few = leb-true (length pool.volunteers) 4000 is.few_volunteers in
       let same = number.one_each in let columns_few = are.few in let firsts_count = count in
       record {
         few_volunteers = omega (arith, few, same);
@@ -47,9 +47,9 @@ module _ (pool : Pool) (is : IsPool pool) (numbers : List ℕ) (columns : List C
         column_numbers = λ k d l. let below = number.within k d l in omega (arith, below, firsts_count);
         firsts = All-map (λ first. first < length numbers) (λ column. column.first) columns (λ k d l. let below = are.firsts k d l in omega (arith, below, same));
         as_many_sizes = length-map columns (λ column. pos column.size) ∙ sym count;
-        sizes = All-map (λ size. (pos 1 ≤ℤ size) × (size ≤ℤ pos 400)) (λ column. pos column.size) columns (λ k d l. let c = are.each k d l in let a = c.has_member in let b = c.few in (omega (arith, ints, a), omega (arith, ints, b)));
+        sizes = All-map (λ size. (pos 1 ≤ℤ size) × (size ≤ℤ pos 4000)) (λ column. pos column.size) columns (λ k d l. let c = are.each k d l in let a = c.has_member in let b = c.few in (omega (arith, ints, a), omega (arith, ints, b)));
         as_many_spans = length-map columns span_of ∙ sym count;
-        spans = All-map (λ span. (pos 0 ≤ℤ span.least) × (span.least ≤ℤ span.greatest) × (span.greatest ≤ℤ pos 400)) span_of columns
+        spans = All-map (λ span. (pos 0 ≤ℤ span.least) × (span.least ≤ℤ span.greatest) × (span.greatest ≤ℤ pos 4000)) span_of columns
             (λ k d l. let c = are.each k d l in let a = c.in_order in let b = c.within in let e = c.few in (omega (arith, ints), omega (arith, ints, a), omega (arith, ints, b, e)));
         rows = are_rows;
       }

@@ -29,16 +29,16 @@ abbrev pub household_of : Option Class → Option ℕ
 household_of None = None
 household_of (Some class) = class.household
 
--- a column has from 1 to 400 members. Its least count is at most its greatest, which is at most its size
+-- a column has from 1 to 4,000 members. Its least count is at most its greatest, which is at most its size
 pub record IsColumn (column : Column) : Type 0 where
   pub has_member : 1 ≤ column.size
-  pub few : column.size ≤ 400
+  pub few : column.size ≤ 4000
   pub in_order : column.least ≤ column.greatest
   pub within : column.greatest ≤ column.size
 
--- there are at most 400 columns, and their first members are volunteers of the pool
+-- there are at most 4,000 columns, and their first members are volunteers of the pool
 pub record AreColumns (pool : Pool) (columns : List Column) : Type 0 where
-  pub few : length columns ≤ 400
+  pub few : length columns ≤ 4000
   pub firsts : All (λ column. column.first < length pool.volunteers) columns
   pub each : All IsColumn columns
 
@@ -47,11 +47,11 @@ pub record NumberColumns (pool : Pool) (numbers : List ℕ) (columns : List Colu
   pub one_each : length numbers ≡ length pool.volunteers
   pub within : All (λ column. column < length columns) numbers
 
--- the lower bound is at most the upper one, which is at most 999
+-- the lower bound is at most the upper one, which is at most 1,000
 abbrev pub HasBounds : Demand → Type 0
-HasBounds demand = (demand.lower ≤ demand.upper) × (demand.upper ≤ 999)
+HasBounds demand = (demand.lower ≤ demand.upper) × (demand.upper ≤ 1000)
 
--- `HasBounds` holds of each demand, and there are at most 1401, the most constraints of a pool before its first stage
+-- `HasBounds` holds of each demand, and there are at most 5001, the most constraints of a pool before its first stage
 pub record AreDemands (demands : List Demand) : Type 0 where
-  pub few : length demands ≤ 1401
+  pub few : length demands ≤ 5001
   pub each : All HasBounds demands

@@ -104,12 +104,12 @@ pub record IsRow (columns : ℕ) (row : QuotaRow) : Type 0 where
   pub at_most_one : All (λ value. value ≤ℤ pos 1) row.coefficients
 
 pub record IsProgram (program : Program) : Type 0 where
-  pub few_volunteers : length program.column_numbers ≤ 400
-  pub few_columns : length program.firsts ≤ 400
+  pub few_volunteers : length program.column_numbers ≤ 4000
+  pub few_columns : length program.firsts ≤ 4000
   pub column_numbers : All (λ column. column < length program.firsts) program.column_numbers
   pub firsts : All (λ first. first < length program.column_numbers) program.firsts
   pub as_many_sizes : length program.sizes ≡ length program.firsts
-  pub sizes : All (λ size. (pos 1 ≤ℤ size) × (size ≤ℤ pos 400)) program.sizes
+  pub sizes : All (λ size. (pos 1 ≤ℤ size) × (size ≤ℤ pos 4000)) program.sizes
   pub as_many_spans : length program.spans ≡ length program.firsts
-  pub spans : All (λ span. (pos 0 ≤ℤ span.least) × (span.least ≤ℤ span.greatest) × (span.greatest ≤ℤ pos 400)) program.spans
+  pub spans : All (λ span. (pos 0 ≤ℤ span.least) × (span.least ≤ℤ span.greatest) × (span.greatest ≤ℤ pos 4000)) program.spans
   pub rows : All (IsRow (length program.firsts)) program.rows

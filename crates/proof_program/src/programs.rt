@@ -113,12 +113,12 @@ impl Program {
         self.firsts[column]
     }
 
-    /// Returns how many members a column has, from 1 to 400.
+    /// Returns how many members a column has, from 1 to 4,000.
     pub fn size_of(&self, column: usize) -> Narrow
         requires { column < length self.now.firsts }
         ensures value { result ≡ slice_index_or self.now.sizes column (pos 0) }
         ensures has_member { pos 1 ≤ℤ result }
-        ensures few { result ≤ℤ pos 400 }
+        ensures few { result ≤ℤ pos 4000 }
     {
         self.sizes[column]
     }

@@ -172,7 +172,7 @@ fn one_if(holds: bool) -> Narrow
 /// Returns the span `least..=greatest`.
 pub(crate) fn span(least: usize, greatest: usize) -> Span
     requires order { least ≤ greatest }
-    requires few { greatest ≤ 999 }
+    requires few { greatest ≤ 1000 }
     ensures { result ≡ record { least = pos least; greatest = pos greatest } }
 {
     match Span::new(narrow(least), narrow(greatest)) {
@@ -183,7 +183,7 @@ pub(crate) fn span(least: usize, greatest: usize) -> Span
 
 /// Returns a count as a narrow number.
 pub(crate) fn narrow(count: usize) -> Narrow
-    requires { count ≤ 999 }
+    requires { count ≤ 1000 }
     ensures { result ≡ pos count }
 {
     Narrow::from(count as u32)

@@ -4,7 +4,7 @@ use Rattle.std.proofs.lemmas.List.{drop_more}
 use Rattle.define_lines.specs.Numbers.{number_up_to, signed_up_to}
 use Rattle.define_bundles.specs.BundleReading.{with_number}
 use Rattle.define_proofs.specs.Leaves.{Multiplier}
-use Rattle.define_proofs.specs.TreeRanges.{last_constraint, number_limit}
+use Rattle.define_proofs.specs.TreeRanges.{greatest_constraint, number_limit}
 use Rattle.define_proofs.specs.ProofReading.{multiplier_of, multipliers_of}
 
 -- the multipliers `done`, then the later ones; None if the later ones can't be read
@@ -22,7 +22,7 @@ fields_behind fields i = map (λ field. field.now) (drop i fields)
 
 -- the multiplier that the two fields of pair `i` spell; None if they spell none
 abbrev pub pair_at : List (Bor (List ℕ)) → ℕ → Bor (List ℕ) → Option Multiplier
-pair_at fields i d = multiplier_of (number_up_to last_constraint (get_or fields (2 * i) d).now) (signed_up_to number_limit (get_or fields (2 * i + 1) d).now)
+pair_at fields i d = multiplier_of (number_up_to greatest_constraint (get_or fields (2 * i) d).now) (signed_up_to number_limit (get_or fields (2 * i + 1) d).now)
 
 two_first : (fields : List (Bor (List ℕ))) (i : ℕ) (d : Bor (List ℕ)) → 2 * i + 1 < length fields →
     multipliers_of (fields_behind fields (2 * i)) ≡ with_number (pair_at fields i d) (multipliers_of (fields_behind fields (2 * (i + 1))))

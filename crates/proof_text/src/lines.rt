@@ -4,27 +4,21 @@
 ghost use Rattle.std.specs.Prelude.{◌≡◌, ◌<◌, ◌^◌, ◌==◌, nat_lt, ◌&&◌, if◌then◌else◌, map, IfOk, bytes_eq, option_map};
 ghost use Rattle.define_lines.specs.Numbers.{number_up_to as number_in, signed_up_to};
 ghost use Rattle.std.specs.Fmt.{decimal};
-ghost use Rattle.define_proofs.specs.TreeRanges.{last_constraint, number_limit};
-ghost use Rattle.define_proofs.specs.ProofText.{most_trees, tree_line};
+ghost use Rattle.define_proofs.specs.TreeRanges.{greatest_constraint, number_limit};
+ghost use Rattle.define_proofs.specs.ProofText.{most_trees as most, tree_line};
 ghost use Rattle.define_proofs.specs.ProofReading.{NextTree, TheClose, Unknown, leaf_said, line_in_tree as line_said, multiplier_of as multiplier_in, multipliers_of as multipliers_in, node_in_range, node_said, split_said};
 ghost use Rattle.proof_text.specs.Progress.{said};
 
 use itoa::Buffer;
-use proof_model::{Leaf, Multiplier, TreeLine, is_tree_line};
+use proof_model::{GREATEST_CONSTRAINT, Leaf, Multiplier, TreeLine, is_tree_line, most_trees};
 use std::alloc::{AllocError, Global};
 use text_lines::{fields, number_up_to, signed_number};
-
-/// The greatest number of a constraint that a text may name.
-const LAST_CONSTRAINT: usize = 1800;
 
 /// The greatest scale: 2^56.
 const MAX_SCALE: usize = 72_057_594_037_927_936;
 
 /// The greatest absolute value of a factor: 2^56.
 const MAX_FACTOR: u128 = 72_057_594_037_927_936;
-
-/// The greatest number of trees: one for each stage, of which a proof has at most 400.
-const MOST_TREES: usize = 400;
 
 /// How the first line of a tree begins.
 const TREE: &[u8] = b"tree\t";
@@ -62,7 +56,7 @@ pub(crate) fn line_in_tree(
     if line == CLOSE {
         Ok(close_at(number, last))
     } else if begins_tree(number + 1, line) {
-        Ok(next_at(number, last))
+        Ok(next_at(volunteers, number, last))
     } else {
         let fields = fields(alloc, line)?;
         node_of(alloc, volunteers, &fields)
@@ -80,11 +74,12 @@ fn close_at(number: usize, last: usize) -> LineInTree
     }
 }
 
-/// Reads the line that begins the next tree, which is allowed in each tree before the last one and before tree 400.
-fn next_at(number: usize, last: usize) -> LineInTree
-    ensures { said result ≡ (if nat_lt number last && nat_lt number most_trees then NextTree else Unknown) }
+/// Reads the line that begins the next tree, which is allowed in each tree before the last one, and before the last that a proof over a pool
+/// of `volunteers` volunteers may have.
+fn next_at(volunteers: usize, number: usize, last: usize) -> LineInTree
+    ensures { said result ≡ (if nat_lt number last && nat_lt number (most volunteers) then NextTree else Unknown) }
 {
-    if number < last && number < MOST_TREES {
+    if number < last && number < most_trees(volunteers) {
         LineInTree::NextTree
     } else {
         LineInTree::Unknown
@@ -187,11 +182,11 @@ fn multipliers_of(alloc: Global, fields: &[&[u8]]) -> Result<Option<Vec<Multipli
     }
 }
 
-/// Returns the multiplier, or None if `number` is no number up to 1800 or `factor` none from -2^56 to 2^56.
+/// Returns the multiplier, or None if `number` is no number up to 9000 or `factor` none from -2^56 to 2^56.
 fn multiplier_of(number: &[u8], factor: &[u8]) -> Option<Multiplier>
-    ensures { result ≡ multiplier_in (number_in last_constraint number.now) (signed_up_to number_limit factor.now) }
+    ensures { result ≡ multiplier_in (number_in greatest_constraint number.now) (signed_up_to number_limit factor.now) }
 {
-    let number = number_up_to(LAST_CONSTRAINT, number)?;
+    let number = number_up_to(GREATEST_CONSTRAINT, number)?;
     let factor = factor_of(factor)?;
     Some(Multiplier::new(number, factor))
 }

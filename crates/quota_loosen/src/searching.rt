@@ -195,7 +195,7 @@ impl Search {
     // Enters a front of the first `depth` classes.
     fn enter(&mut self, classes: &Classes, depth: usize) -> Result<(), BudgetSpent>
         requires few { self.old.visits ≤ self.old.nodes }
-        requires small { taken_by classes.now (take depth self.old.counts.items) ≤ 200 }
+        requires small { taken_by classes.now (take depth self.old.counts.items) ≤ 1000 }
         requires stands { StandsAt classes.now depth (drop depth classes.now.classes) self.old }
         ensures { Moves classes.now depth (drop depth classes.now.classes)
             (enter_cheapest classes.now (drop depth classes.now.classes) (take depth self.old.counts.items) (search_of self.old))
@@ -224,8 +224,8 @@ impl Search {
     ) -> Result<(), BudgetSpent>
         requires few { self.old.visits ≤ self.old.nodes }
         requires below { depth < length classes.now.classes }
-        requires counts { least + more ≤ 400 }
-        requires small { taken_by classes.now (take depth self.old.counts.items) ≤ 200 }
+        requires counts { least + more ≤ 4000 }
+        requires small { taken_by classes.now (take depth self.old.counts.items) ≤ 1000 }
         requires stands { StandsAt classes.now depth (drop (depth + 1) classes.now.classes) self.old }
         ensures { Moves classes.now depth (drop (depth + 1) classes.now.classes)
             (children_cheapest classes.now (drop (depth + 1) classes.now.classes) (take depth self.old.counts.items) (counts_down least more) (search_of self.old))
@@ -248,8 +248,8 @@ impl Search {
     ) -> Result<(), BudgetSpent>
         requires few { self.old.visits ≤ self.old.nodes }
         requires below { depth < length classes.now.classes }
-        requires count { count ≤ 400 }
-        requires small { taken_by classes.now (take depth self.old.counts.items) ≤ 200 }
+        requires count { count ≤ 4000 }
+        requires small { taken_by classes.now (take depth self.old.counts.items) ≤ 1000 }
         requires stands { StandsAt classes.now depth (drop (depth + 1) classes.now.classes) self.old }
         ensures { Moves classes.now depth (drop (depth + 1) classes.now.classes)
             (child_cheapest classes.now (drop (depth + 1) classes.now.classes) (take depth self.old.counts.items ++ count ∷ []) (search_of self.old))

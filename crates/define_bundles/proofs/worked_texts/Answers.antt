@@ -52,3 +52,27 @@ returns-clause-nobody_housed c = refl
 pub returns-clause-households_out_of_order : goal.returns-clause-households_out_of_order
 unfolding digits is_utf8 chars encode
 returns-clause-households_out_of_order c = refl
+
+pub returns-clause-large_length : goal.returns-clause-large_length
+unfolding digits
+returns-clause-large_length c = refl
+
+pub returns-clause-large : goal.returns-clause-large
+unfolding digits is_utf8 chars encode
+returns-clause-large c = refl
+
+pub returns-clause-large_in_first : goal.returns-clause-large_in_first
+unfolding digits is_utf8 chars encode
+returns-clause-large_in_first c = refl
+
+pub returns-clause-too_large : goal.returns-clause-too_large
+unfolding digits is_utf8 chars encode
+returns-clause-too_large c = refl
+
+pub returns-clause-not_large : goal.returns-clause-not_large
+unfolding digits is_utf8 chars encode
+returns-clause-not_large c = refl
+
+pub returns-clause-housed_in_third : goal.returns-clause-housed_in_third
+unfolding digits is_utf8 chars encode
+returns-clause-housed_in_third c = refl

@@ -22,3 +22,7 @@ returns-clause-leaves c = refl
 pub returns-clause-no_leaves : goal.returns-clause-no_leaves
 unfolding digits
 returns-clause-no_leaves c = refl
+
+pub returns-clause-large : goal.returns-clause-large
+unfolding digits
+returns-clause-large c = refl

@@ -2,9 +2,8 @@ use Rattle.std.proofs.Common.{◌≡◌, [], ◌∷◌, ◌++◌, map, ap, ◌�
 use Rattle.std.specs.Prelude.{codes}
 use Rattle.std.specs.List.{flat_map}
 use Rattle.std.proofs.lemmas.Result.{on_ok_weaker}
-use Rattle.define_pools.specs.Pool.{has_households}
 use Rattle.define_lines.specs.Lines.{line_of, text_of}
-use Rattle.define_bundles.specs.PoolText.{version_line, size_line, category_lines, volunteer_line, household_lines, standing_lines, end_line}
+use Rattle.define_bundles.specs.PoolText.{version_line, version_of, size_line, category_lines, volunteer_line, household_lines, standing_lines, end_line}
 use Rattle.pool_text.proofs.WritingLemmas.{pool_written}
 use Rattle.pool_text.proofs.writing.push_pool.Goals as goal
 
@@ -12,9 +11,9 @@ pub returns : goal.returns
 returns c =
     let text = c.args.text.now.items in
     let pool = c.args.pool.now in
-    let versioned : c.push_line.new.text.items ≡ text ++ text_of (version_line (has_households pool) ∷ []) =
-    c.in_ok-push_line.ensures.whole ∙ (ap (λ v. text ++ text_of (line_of (codes "pool" ∷ v ∷ []) ∷ [])) c.version.ensures ∙ ap (λ second. text ++ text_of (version_line second ∷ [])) c.has_households.ensures) in
-    let first = text ++ text_of (version_line (has_households pool) ∷ []) in
+    let versioned : c.push_line.new.text.items ≡ text ++ text_of (version_line (version_of pool) ∷ []) =
+    c.in_ok-push_line.ensures.whole ∙ (ap (λ v. text ++ text_of (line_of (codes "pool" ∷ v ∷ []) ∷ [])) c.version_word.ensures ∙ ap (λ version. text ++ text_of (version_line version ∷ [])) c.version_of.ensures) in
+    let first = text ++ text_of (version_line (version_of pool) ∷ []) in
     let sized : c.push_size.new.text.items ≡ first ++ text_of (size_line pool.size ∷ []) =
     c.in_ok-push_size.ensures ∙ (ap (λ t. t ++ text_of (size_line c.size.result ∷ [])) versioned ∙ ap (λ n. first ++ text_of (size_line n ∷ [])) c.size.ensures) in
     let with_categories = c.in_ok-push_categories.ensures ∙ (ap (λ t. t ++ text_of (flat_map category_lines c.categories.result.now)) sized

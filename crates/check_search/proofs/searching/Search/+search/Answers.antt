@@ -110,7 +110,7 @@ module _ (t : ℕ) (c : go_on-After-least t) where
   stands : Stands c.args.terms.now.classes c.args.depth c.index-classes-depth.result
   stands = stands_there c.args.terms.now.classes c.args.depth _ c.index-classes-depth.result c.requires.below c.classes.ensures c.index-classes-depth.is
 
-  limits : (c.index-classes-depth.result.least ≤ c.index-classes-depth.result.most) × (c.index-classes-depth.result.most ≤ length c.index-classes-depth.result.members) × (length c.index-classes-depth.result.members ≤ 400)
+  limits : (c.index-classes-depth.result.least ≤ c.index-classes-depth.result.most) × (c.index-classes-depth.result.most ≤ length c.index-classes-depth.result.members) × (length c.index-classes-depth.result.members ≤ 4000)
   limits = class_limits c.args.terms.now.classes c.args.depth c.index-classes-depth.result c.facts.ensures stands
 
   passed : (n : ℕ) → c.greatest_count-most.result < n → n ≤ c.index-classes-depth.result.most → is_reachable c.args.terms.now.classes (take c.args.depth c.args.self.now.counts.items ++ n ∷ []) ≡ false

@@ -39,7 +39,7 @@ enter-returns-in_err-spend t c =
     moves_err all c.args.terms.now.closed.now c.args.terms.now.row.now depth _ _ _ self.nodes _ c.spend.new.self c.from_residual.ensures.0
     (omega (arith, c.in_err-spend.ensures.err, enter_more all c.args.terms.now.closed.now c.args.terms.now.row.now (drop depth all.classes) (take depth self.counts.items) (pricing_of self)))
 
--- the class that the code reads at `depth` is the next class of the front that is entered, and has at most 400 members
+-- the class that the code reads at `depth` is the next class of the front that is entered, and has at most 4,000 members
 module _ (t : ℕ) (c : enter-After-most t) where
   below : c.args.depth < length c.args.terms.now.classes.now.classes
   below = omega (arith, c.requires.stands.within, c.if-depth-classes.false, ap length c.classes.ensures)
@@ -47,7 +47,7 @@ module _ (t : ℕ) (c : enter-After-most t) where
   stands : Stands c.args.terms.now.classes.now c.args.depth c.index-classes-depth.result
   stands = stands_there c.args.terms.now.classes.now c.args.depth _ c.index-classes-depth.result below c.classes-2.ensures c.index-classes-depth.is
 
-  limits : (c.index-classes-depth.result.least ≤ c.index-classes-depth.result.most) × (c.index-classes-depth.result.most ≤ length c.index-classes-depth.result.members) × (length c.index-classes-depth.result.members ≤ 400)
+  limits : (c.index-classes-depth.result.least ≤ c.index-classes-depth.result.most) × (c.index-classes-depth.result.most ≤ length c.index-classes-depth.result.members) × (length c.index-classes-depth.result.members ≤ 4000)
   limits = class_limits c.args.terms.now.classes.now c.args.depth c.index-classes-depth.result c.facts.ensures stands
 
 -- the search of the entered front's live children does what the definition says

@@ -34,7 +34,7 @@ enter-returns-in_err-spend t c =
     let self = c.args.self.now in
     steps_err c.args.classes.now c.args.depth _ _ self _ c.spend.new.self c.from_residual.ensures.0 (omega (arith, c.in_err-spend.ensures.err, enter_visits c.args.classes.now (drop c.args.depth c.args.classes.now.classes) (take c.args.depth self.counts.items)))
 
--- the class that the code reads at `depth` is the next class of the front that is entered, and has at most 400 members
+-- the class that the code reads at `depth` is the next class of the front that is entered, and has at most 4,000 members
 module _ (t : ℕ) (c : enter-After-most t) where
   below : c.args.depth < length c.args.classes.now.classes
   below = omega (arith, c.requires.within, c.if-depth-classes.false, ap length c.classes.ensures)
@@ -42,7 +42,7 @@ module _ (t : ℕ) (c : enter-After-most t) where
   stands : Stands c.args.classes.now c.args.depth c.index-classes-depth.result
   stands = stands_there c.args.classes.now c.args.depth _ c.index-classes-depth.result below c.classes-2.ensures c.index-classes-depth.is
 
-  limits : (c.index-classes-depth.result.least ≤ c.index-classes-depth.result.most) × (c.index-classes-depth.result.most ≤ length c.index-classes-depth.result.members) × (length c.index-classes-depth.result.members ≤ 400)
+  limits : (c.index-classes-depth.result.least ≤ c.index-classes-depth.result.most) × (c.index-classes-depth.result.most ≤ length c.index-classes-depth.result.members) × (length c.index-classes-depth.result.members ≤ 4000)
   limits = class_limits c.args.classes.now c.args.depth c.index-classes-depth.result c.facts.ensures stands
 
 -- by the definition, entering the front is one visit and then the search of its live children

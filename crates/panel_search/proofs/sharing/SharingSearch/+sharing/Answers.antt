@@ -130,7 +130,7 @@ enter-returns-then-depth-classes g t c =
           (c.keep.ensures.closed ∙ ap (λ search. search.closed) spent),
     )
 
--- the class that the code reads at `depth` is the next class of the front that is entered, and has at most 400 members
+-- the class that the code reads at `depth` is the next class of the front that is entered, and has at most 4,000 members
 module _ (g : _) (t : ℕ) (c : enter-After-most g t) where
   below : c.args.depth < length c.args.terms.now.classes.now.classes
   below = omega (arith, c.requires.stands.within, c.if-depth-classes.false, ap length c.classes.ensures)
@@ -138,7 +138,7 @@ module _ (g : _) (t : ℕ) (c : enter-After-most g t) where
   stands : Stands c.args.terms.now.classes.now c.args.depth c.index-classes-depth.result
   stands = stands_there c.args.terms.now.classes.now c.args.depth _ c.index-classes-depth.result below c.classes-2.ensures c.index-classes-depth.is
 
-  limits : (c.index-classes-depth.result.least ≤ c.index-classes-depth.result.most) × (c.index-classes-depth.result.most ≤ length c.index-classes-depth.result.members) × (length c.index-classes-depth.result.members ≤ 400)
+  limits : (c.index-classes-depth.result.least ≤ c.index-classes-depth.result.most) × (c.index-classes-depth.result.most ≤ length c.index-classes-depth.result.members) × (length c.index-classes-depth.result.members ≤ 4000)
   limits = class_limits c.args.terms.now.classes.now c.args.depth c.index-classes-depth.result c.facts.ensures stands
 
   counts : take c.args.depth c.spend.new.self.counts.items ≡ take c.args.depth c.args.self.now.search.counts.items
