@@ -1,5 +1,5 @@
 -- A check between two stages of a certificate. Builds on Reasons of `define_checks`, and on Certificate and Lottery of `define_pools`. The
--- contracts of `Course` cite it, and so do proofs of `cert_check` and `proof_verify`.
+-- contracts of `Course` cite it, and so do proofs of `cert_check` and `check_proofs`.
 use Rattle.std.specs.Prelude.{◌≡◌, ℕ, ◌+◌, nat_lt, not, ℤ, int_lt, Bool, List, [], ◌∷◌, filter, length, map, pos, slice_index_or, Option}
 use Rattle.std.specs.List.{find}
 use Rattle.std.specs.Ordering.{int_eq}

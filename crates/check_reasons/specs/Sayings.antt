@@ -1,4 +1,4 @@
--- The verdict for a refusal, or for none. The contracts of `Verdict` cite it, and so do proofs of `cert_check` and `proof_verify`.
+-- The verdict for a refusal, or for none. The contracts of `Verdict` cite it, and so do proofs of `cert_check` and `check_proofs`.
 use Rattle.std.specs.Prelude.{Bool, true, false, Option, Some, None}
 use Rattle.define_checks.specs.Reasons.{Refusal, Refused, Valid, Verdict}
 

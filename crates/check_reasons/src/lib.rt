@@ -1,7 +1,7 @@
 //! The reasons for which a certificate is refused, in their order: first those of the lottery; then, for each stage, those that are tried
 //! before its cap, and that a listed panel doesn't weigh the cap; last, that somebody is left unsettled. Reason 8, that a quota panel is
 //! above a cap, isn't here, since a search or a proof decides it. Stands on `define_checks`, which defines the reasons, and `pool_model`.
-//! Used by `cert_check`, which searches for such a panel, and by `proof_verify` and `cover_cert`, which check proofs and covers that there
+//! Used by `cert_check`, which searches for such a panel, and by `check_proofs` and `cover_cert`, which check proofs and covers that there
 //! is none.
 //!
 //! Promises: `lottery_verdict`, the calls of `Course`, and `Verdict` with its `Refusal`. The module `quotas` is a helper.

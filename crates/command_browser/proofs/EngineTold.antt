@@ -9,7 +9,7 @@ use Rattle.define_proofs.proofs.Verdicts.{certified_where_valid, no_panel_where_
 use Rattle.define_proofs.specs.ProofText.{IsProof, proof_spelling}
 use Rattle.define_proofs.specs.ProofVerdict.{OfLottery, OfNoPanel, Proof, verdict}
 use Rattle.define_proofs.specs.TreeLines.{TreeLine}
-use Rattle.proof_limits.specs.Budgets.{Left}
+use Rattle.prove_limits.specs.Budgets.{Left}
 use Rattle.command_shell.specs.Answers.{IsRight, Saying}
 use Rattle.command_shell.specs.declared.formats.PoolOrBundle.TheVariants as either
 use Rattle.command_meanings.specs.Check.{IsGreatest}

@@ -2,7 +2,7 @@
 -- program's `prove` goes on then with the run of `lottery`, which starts threads. The contract of `tell_prove` cites it.
 use Rattle.std.specs.Prelude.{◌≡◌, ℕ, List, [], ◌∷◌, codes}
 use Rattle.define_pools.specs.Pool.{Pool}
-use Rattle.proof_limits.specs.Budgets.{Left}
+use Rattle.prove_limits.specs.Budgets.{Left}
 use Rattle.command_shell.specs.Answers.{IsRight, Saying, Stops}
 use Rattle.command_shell.specs.Lines.{line}
 use Rattle.command_shell.specs.declared.formats.PoolOrBundle.TheVariants as either

@@ -11,7 +11,7 @@ ghost use Rattle.command_browser.specs.Proving.{ProvesByEngine, no_proof_line};
 use command_proofs::{Made, proof_within};
 use command_shell::{Answer, Cause, Command, Meaning, Printed};
 use pool_model::Pool;
-use proof_limits::Budget;
+use prove_limits::Budget;
 use proof_model::{Parts, Proof};
 use proof_text::write_proof;
 use std::alloc::{AllocError, Global};

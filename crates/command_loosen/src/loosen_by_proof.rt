@@ -16,7 +16,7 @@ use command_shell::{Answer, Command, Meaning, Printed, no_panel};
 use define_cost_bounds::least_totals_are_equal;
 use loosening_by_proof::loosen_by_proof;
 use pool_model::Pool;
-use proof_limits::{Budget, ProveStop};
+use prove_limits::{Budget, ProveStop};
 use quota_loosen::Loosened;
 use std::alloc::{AllocError, Global};
 

@@ -15,7 +15,7 @@ use Rattle.define_pools.specs.Certificate.{Answer, Stage}
 use Rattle.define_pools.specs.Pool.{Pool, panels}
 use Rattle.define_proofs.specs.ProofText.{proof_spelling}
 use Rattle.define_runs.specs.Run.{Limits, RunFinds}
-use Rattle.proof_limits.specs.Budgets.{Left}
+use Rattle.prove_limits.specs.Budgets.{Left}
 use Rattle.command_shell.specs.Answers.{RightAnswers, Saying, IsRight, no_answer}
 use Rattle.command_shell.specs.Lines.{line}
 use Rattle.command_shell.specs.declared.formats.PoolOrBundle.{PoolOrBundle}

@@ -3,7 +3,7 @@
 ghost use Rattle.std.specs.Prelude.{◌≡◌};
 ghost use Rattle.command_meanings.specs.TakenNodes.{NodesAreTaken};
 
-use proof_limits::Budget;
+use prove_limits::Budget;
 use std::marker::Model;
 
 /// Gives the evidence that all nodes of `budget` were taken, if none is left. Nothing else gives it.

@@ -22,8 +22,8 @@ use Rattle.command_shell.specs.declared.formats.PoolOrBundle.TheVariants as eith
 use Rattle.command_meanings.specs.Prove.{CheckRefuses, CheckSpends, IsChecked, IsGiven, ProveMeans, ProvesNone, RunFindsNone, RunSpends, StageBeyond, TreesSpent, beyond_line, check_visits, first_beyond, given_in, lottery_limits, pool_in, trees_spent_line}
 use Rattle.command_pools.specs.Found.{StopMeans}
 use Rattle.define_proofs.specs.ProofText.{IsProof, proof_spelling}
-use Rattle.proof_limits.specs.Budgets.{Left}
-use Rattle.proof_run.specs.Made.{IsOfBundle, IsOfNone}
+use Rattle.prove_limits.specs.Budgets.{Left}
+use Rattle.prove_run.specs.Made.{IsOfBundle, IsOfNone}
 use Rattle.command_proofs.specs.Proved.{CheckStops, IsOver, IsToldOf, IsValidOf, ShowsValid, is_done, proof_said}
 
 -- what is over the input

@@ -14,8 +14,8 @@ use Rattle.command_proofs.specs.declared.making.Made.{Made}
 use Rattle.command_proofs.specs.declared.making.Made.TheVariants as made
 use Rattle.define_pools.specs.Pool.{Pool}
 use Rattle.define_proofs.specs.ProofText.{IsProof, proof_spelling}
-use Rattle.proof_limits.specs.Budgets.{Left}
-use Rattle.proof_run.specs.Made.{IsOfPool}
+use Rattle.prove_limits.specs.Budgets.{Left}
+use Rattle.prove_run.specs.Made.{IsOfPool}
 use Rattle.command_proofs.specs.declared.settling.Settled.{Settled}
 use Rattle.command_proofs.specs.declared.settling.Settled.TheVariants as settles
 

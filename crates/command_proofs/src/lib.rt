@@ -1,5 +1,5 @@
 //! The commands about proofs: `prove`, `verify` and `bundle`. Each is a struct of its arguments; what its answers mean is defined in
-//! `command_meanings`. Stands on the run that makes proofs (`proof_run`), the verifier (`proof_verify`), the texts of proofs
+//! `command_meanings`. Stands on the run that makes proofs (`prove_run`), the verifier (`check_proofs`), the texts of proofs
 //! (`proof_text`), on `command_pools`, whose run of `lottery` takes over from the run that makes proofs, and on `command_bundles`, whose
 //! check decides where no trees are found.
 //!

@@ -2,16 +2,16 @@
 
 ghost use Rattle.std.specs.Prelude.{◌≡◌, IfOk};
 ghost use Rattle.define_pools.specs.Pool.{Pool as SeenPool};
-ghost use Rattle.proof_limits.specs.Budgets.{SpendsOn};
-ghost use Rattle.proof_run.specs.Made.{IsOfPool};
+ghost use Rattle.prove_limits.specs.Budgets.{SpendsOn};
+ghost use Rattle.prove_run.specs.Made.{IsOfPool};
 ghost use Rattle.command_proofs.specs.Proved.{MakesOf};
 
 use bundle_text::Bundle;
 use pool_model::Pool;
-use proof_limits::Budget;
+use prove_limits::Budget;
 use proof_model::Proof;
-use proof_run::{RunMade, make_proof};
-use proof_verify::verify;
+use prove_run::{RunMade, make_proof};
+use check_proofs::verify;
 use std::alloc::{AllocError, Global};
 
 /// What a run made of a pool.

@@ -13,7 +13,7 @@ ghost use Rattle.command_shell.specs.Subjects.{About};
 ghost use Rattle.command_shell.specs.Told.{object, told};
 ghost use Rattle.command_shell.specs.declared.formats.PoolOrBundle.TheVariants as either;
 ghost use Rattle.define_pools.specs.Pool.{Pool as SeenPool};
-ghost use Rattle.proof_limits.specs.Budgets.{Left, SpendsOn};
+ghost use Rattle.prove_limits.specs.Budgets.{Left, SpendsOn};
 
 use crate::making::{Made, proof_within};
 use crate::settling::{Settled, if_valid, proof_answer, settle};
@@ -23,9 +23,9 @@ use command_pools::{LotteryRun, lottery_limits, run_lottery};
 use command_shell::{Answer, Meaning, PoolOrBundle, Resources, Status, call_answered_by, no_panel};
 use outside::{Sink, Source, Watch};
 use pool_model::Pool;
-use proof_limits::Budget;
+use prove_limits::Budget;
 use proof_model::Proof;
-use proof_run::prove_none;
+use prove_run::prove_none;
 use std::alloc::{AllocError, Global};
 use std::thread::Threads;
 

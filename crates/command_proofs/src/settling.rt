@@ -8,7 +8,7 @@ ghost use Rattle.command_shell.specs.Answers.{Prints, saying};
 ghost use Rattle.command_shell.specs.declared.status.Printed.TheVariants.{Refused};
 ghost use Rattle.define_checks.specs.Reasons.{Valid};
 ghost use Rattle.define_checks.specs.Visits.{check_answer};
-ghost use Rattle.proof_limits.specs.Budgets.{SpendsOn};
+ghost use Rattle.prove_limits.specs.Budgets.{SpendsOn};
 ghost use Rattle.proof_model.specs.Parts.{seen};
 
 use crate::beyond::first_beyond;
@@ -16,11 +16,11 @@ use crate::proving_lines::spent;
 use bundle_text::Bundle;
 use command_bundles::{check_bundle, verdict_answer};
 use command_shell::{Answer, Printed};
-use proof_limits::Budget;
+use prove_limits::Budget;
 use proof_model::{Parts, Proof};
-use proof_run::{TreesBy, prove_bundle};
+use prove_run::{TreesBy, prove_bundle};
 use proof_text::write_proof;
-use proof_verify::{Verdict, verify};
+use check_proofs::{Verdict, verify};
 use std::alloc::{AllocError, Global};
 
 /// The visits of each search of a check.

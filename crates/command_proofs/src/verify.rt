@@ -11,7 +11,7 @@ use command_bundles::{refused_line, valid_line};
 use command_meanings::verify_has_one_answer;
 use command_shell::{Answer, Command, Meaning, Printed};
 use proof_model::{Parts, Proof};
-use proof_verify::{Verdict, verify};
+use check_proofs::{Verdict, verify};
 use std::alloc::{AllocError, Global};
 
 /// `verify`: the verdict on a proof.

@@ -9,7 +9,7 @@ use Rattle.define_offices.specs.Pools.{pool_of}
 use Rattle.define_offices.specs.Tables.{Drawn, Open, Round, Sealed, Solved, Tables, bundle_of, named_round}
 use Rattle.office_core.specs.declared.keeper.KeeperStop.{KeeperStop}
 use Rattle.office_core.specs.declared.keeper.KeeperStop.TheVariants.{Failed, OutOfMemory}
-use Rattle.proof_run.specs.Made.{IsOfPool}
+use Rattle.prove_run.specs.Made.{IsOfPool}
 use Rattle.command_proofs.specs.Proved.{IsValidOf}
 use Rattle.command_shell.specs.Answers.{Saying, saying}
 use Rattle.command_stores.specs.StoreTold.{Keeper}

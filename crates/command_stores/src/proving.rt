@@ -22,7 +22,7 @@ use office_core::{Command, Keeper, KeeperStop, PoolStop, Tables, pool_of};
 use office_pools::round_named;
 use outside::{Sink, Watch};
 use pool_model::Pool;
-use proof_limits::Budget;
+use prove_limits::Budget;
 use std::alloc::{AllocError, Global};
 use std::thread::Threads;
 

@@ -21,7 +21,7 @@ use command_shell::{Answer, Printed, Resources, Status, no_panel};
 use leximin_run::Stop;
 use office_core::{ActStop, Command, Keeper, KeeperStop, Reply, Tables, act_over};
 use outside::{Sink, Watch};
-use proof_verify::Verdict;
+use check_proofs::Verdict;
 use std::alloc::{AllocError, Global};
 use std::thread::Threads;
 

@@ -15,7 +15,7 @@ use command_pools::{first_panel_within, visits_spent};
 use command_shell::{Answer, Command, Meaning, Printed};
 use panel_search::SearchStop;
 use pool_model::Pool;
-use proof_limits::{Budget, ProveStop};
+use prove_limits::{Budget, ProveStop};
 use proof_model::{Parts, TreeLine};
 use quota_conflicts::{Explanation, all_together, conflict_text, why};
 use std::alloc::{AllocError, Global};

@@ -1,5 +1,5 @@
 -- The constraints of a stage's problem: sums over a panel's members that are within bounds. The list of earlier stages has the latest
--- first. `proof_verify` and the engine of `prove` number constraints by their places in the list `constraints`.
+-- first. `check_proofs` and the engine of `prove` number constraints by their places in the list `constraints`.
 use Rattle.std.specs.Prelude.{ℕ, ◌==◌, if◌then◌else◌, Bool, true, List, ◌∷◌, [], ◌++◌, map, filter, fold, reverse, slice_index, slice_index_or, ℤ, pos, ◌+ℤ◌}
 use Rattle.std.specs.List.{enumerate_from, flat_map}
 use Rattle.define_pools.specs.Certificate.{Stage}

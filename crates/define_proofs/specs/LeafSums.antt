@@ -1,5 +1,5 @@
 -- Whether the numbers of a problem are within reach, and the partial sums of a leaf's check. Builds on Leaves and TreeRanges, and on Ranges
--- of `define_bundles`. The law `leaf_sums_are_narrow` and `proof_verify` use them.
+-- of `define_bundles`. The law `leaf_sums_are_narrow` and `check_proofs` use them.
 use Rattle.std.specs.Prelude.{ℕ, nat_le, Bool, ◌&&◌, List, take, sum_by, unsigned_abs, ℤ, ◌+ℤ◌}
 use Rattle.std.specs.List.{enumerate_from, list_all}
 use Rattle.define_bundles.specs.Ranges.{reach}

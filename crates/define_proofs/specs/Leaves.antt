@@ -1,4 +1,4 @@
--- Leaves: multipliers of constraints, whose sum shows that no panel weighs more than a cap. Builds on Constraints. `proof_verify` checks
+-- Leaves: multipliers of constraints, whose sum shows that no panel weighs more than a cap. Builds on Constraints. `check_proofs` checks
 -- them.
 use Rattle.std.specs.Prelude.{ℕ, nat_lt, if◌then◌else◌, Bool, ◌&&◌, List, [], map, length, ℤ, pos, negsuc, ◌+ℤ◌, ◌-ℤ◌, ◌*ℤ◌, int_lt}
 use Rattle.std.specs.List.{enumerate_from, list_all}

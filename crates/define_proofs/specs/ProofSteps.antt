@@ -1,4 +1,4 @@
--- The order in which a proof is checked, stage by stage, as laws. Builds on ProofVerdict. `proof_verify` checks in this order.
+-- The order in which a proof is checked, stage by stage, as laws. Builds on ProofVerdict. `check_proofs` checks in this order.
 use Rattle.std.specs.Prelude.{◌≡◌, ℕ, ◌+◌, List, [], ◌∷◌, length}
 use Rattle.define_checks.specs.Reasons.{Refused, Valid, Verdict, first_reason, lottery_reasons, reasons_before_cap}
 use Rattle.define_pools.specs.Certificate.{Answer, Stage}

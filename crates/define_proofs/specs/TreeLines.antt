@@ -1,4 +1,4 @@
--- Trees as lists of lines, and the first fault of lines that are not those of a tree that shows a cap. Builds on Trees. `proof_verify`
+-- Trees as lists of lines, and the first fault of lines that are not those of a tree that shows a cap. Builds on Trees. `check_proofs`
 -- walks them.
 use Rattle.std.specs.Prelude.{◌≡◌, ℕ, ◌+◌, if◌then◌else◌, Bool, true, false, IsTrue, List, [], ◌∷◌, ◌++◌, slice_set, Option, Some, None}
 use Rattle.define_pools.specs.declared.Standing.{Standing}

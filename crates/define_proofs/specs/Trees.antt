@@ -1,5 +1,5 @@
 -- Trees over volunteers: a split decides a volunteer, who is on no panel of one subtree and on each panel of the other. Builds on Leaves.
--- `proof_verify` checks them, the engine of `prove` makes them.
+-- `check_proofs` checks them, the engine of `prove` makes them.
 use Rattle.std.specs.Prelude.{ℕ, Bool, true, false, ◌&&◌, List, slice_index_or, slice_set}
 use Rattle.define_pools.specs.declared.Standing.{Standing}
 use Rattle.define_pools.specs.declared.Standing.TheVariants.{Open, Seated, Gone}

@@ -1,9 +1,9 @@
 //! Searches and trees of small programs. A reference program in another language made the expected results, lines and counts of nodes and
 //! pivots.
 
-use proof_branching::{Found, Step, prove_empty, search};
-use proof_limits::{Budget, Narrow, Span};
-use proof_table::Table;
+use prove_branching::{Found, Step, prove_empty, search};
+use prove_limits::{Budget, Narrow, Span};
+use prove_table::Table;
 use std::alloc::Global;
 use std::process::Abort;
 use std::test::Fail;

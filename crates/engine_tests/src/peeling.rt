@@ -1,10 +1,10 @@
 //! Peels panels off the point of a small pool, and tests the lottery that they make.
 
 use crate::small_pools::{ONE_OF_TWO, pool};
-use proof_limits::Budget;
-use proof_peeling::{PanelRows, lottery_of_point};
-use proof_program::Program;
-use proof_stages::{Relaxed, relaxed_stages};
+use prove_limits::Budget;
+use prove_peeling::{PanelRows, lottery_of_point};
+use prove_program::Program;
+use prove_stages::{Relaxed, relaxed_stages};
 use std::test::Fail;
 
 #[test]

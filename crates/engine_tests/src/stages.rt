@@ -2,9 +2,9 @@
 //! (`column_stages`).
 
 use crate::small_pools::{ONE_OF_TWO, SmallPool, pool};
-use proof_limits::Budget;
-use proof_program::Program;
-use proof_stages::{Chances, Columned, Relaxed, column_stages, relaxed_stages};
+use prove_limits::Budget;
+use prove_program::Program;
+use prove_stages::{Chances, Columned, Relaxed, column_stages, relaxed_stages};
 use std::alloc::{AllocError, Global};
 use std::test::Fail;
 

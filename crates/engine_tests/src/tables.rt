@@ -3,8 +3,8 @@
 
 ghost use Rattle.std.specs.Prelude.{◌≡◌, IfOk};
 
-use proof_limits::{Budget, Limit, Narrow, Op, ProveStop, Span};
-use proof_table::Table;
+use prove_limits::{Budget, Limit, Narrow, Op, ProveStop, Span};
+use prove_table::Table;
 use std::alloc::Global;
 use std::test::Fail;
 

@@ -6,7 +6,7 @@ use crate::shown::changed;
 use bundle_text::read_bundle;
 use cert_check::check;
 use proof_text::read_proof;
-use proof_verify::{Verdict, verify};
+use check_proofs::{Verdict, verify};
 use std::alloc::{AllocError, Global};
 use std::test::Fail;
 

@@ -1,5 +1,5 @@
 //! How many lines the texts of pools and bundles have, counted from the values, without writing the texts. Stands on `pool_model`, and on
-//! `define_bundles`, which defines the texts. Used by `proof_verify` and `cover_cert`, whose verdicts name lines.
+//! `define_bundles`, which defines the texts. Used by `check_proofs` and `cover_cert`, whose verdicts name lines.
 //! Promises: each call returns exactly the count that its contract names, or out of memory.
 #![tactic(auto)]
 

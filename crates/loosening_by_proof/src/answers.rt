@@ -7,7 +7,7 @@ ghost use Rattle.define_cost_bounds.specs.CostBounds.{CostsAt};
 ghost use Rattle.define_loosenings.specs.Teams.{is_team as is_team_of, team_cost as team_cost_of};
 ghost use Rattle.loosening_by_proof.specs.Answers.{IsLeastForTeam, IsLoosening};
 ghost use Rattle.loosening_by_proof.specs.Searches.{IsSearch};
-ghost use Rattle.proof_limits.specs.Budgets.{SpendsOn};
+ghost use Rattle.prove_limits.specs.Budgets.{SpendsOn};
 ghost use Rattle.quota_conflicts.specs.Answers.{StopsSo};
 
 use crate::bounds::least_cost;
@@ -16,7 +16,7 @@ use crate::searches::Search;
 use crate::teams::{is_team, team_cost};
 use define_cost_bounds::{asking_more_costs, cheapest_by_bound};
 use pool_model::{Panel, Pool, Standing};
-use proof_limits::{Budget, ProveStop};
+use prove_limits::{Budget, ProveStop};
 use quota_conflicts::{reported, standings};
 use quota_loosen::Loosened;
 use std::alloc::{AllocError, Global};

@@ -3,8 +3,8 @@
 
 use crate::bounds::Leaf;
 use define_conflicts::{Counted, Quota, Side, WeightedQuota};
-use proof_limits::Narrow;
-use proof_program::Program;
+use prove_limits::Narrow;
+use prove_program::Program;
 use std::alloc::{AllocError, Global};
 
 /// The most quotas of values that a pool has: it has at most 20 categories of 50 values, and each value has two quotas.

@@ -1,5 +1,5 @@
-//! A least loosening of a pool's quotas, by integer programs. Stands on the engine of `prove` (`proof_branching`, `proof_program`,
-//! `proof_stages`, `proof_table`, `proof_limits`), which searches; on `quota_conflicts`, for what quotas ask for and what can be given; on
+//! A least loosening of a pool's quotas, by integer programs. Stands on the engine of `prove` (`prove_branching`, `prove_program`,
+//! `prove_stages`, `prove_table`, `prove_limits`), which searches; on `quota_conflicts`, for what quotas ask for and what can be given; on
 //! `quota_loosen`, for the loosening of a team; on `pool_model`; and on the definitions and laws of `define_cost_bounds`. Used by
 //! `command_loosen`, for the command `loosen-by-proof`.
 //!

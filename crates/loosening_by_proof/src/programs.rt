@@ -6,9 +6,9 @@ ghost use Rattle.std.specs.Prelude.{◌≡◌, length, IfOk, OnOk};
 ghost use Rattle.loosening_by_proof.specs.Searches.{AreSizes};
 
 use define_conflicts::Counted;
-use proof_limits::{Narrow, ProveStop, Span};
-use proof_program::Program;
-use proof_table::Table;
+use prove_limits::{Narrow, ProveStop, Span};
+use prove_program::Program;
+use prove_table::Table;
 use std::alloc::{AllocError, Global};
 
 /// The greatest number by which a bound may be missed in the table. It is never reached: no pool has more than 4,000 volunteers, and no bound

@@ -3,7 +3,7 @@
 //! node.
 
 ghost use Rattle.std.specs.Prelude.{◌≡◌, ◌<◌, length, IfOk, IfSome, OnOk, pos, ◌≤ℤ◌};
-ghost use Rattle.proof_limits.specs.Budgets.{SpendsOn};
+ghost use Rattle.prove_limits.specs.Budgets.{SpendsOn};
 ghost use Rattle.loosening_by_proof.specs.Searches.{IsSearch};
 
 use crate::bounds::Leaf;
@@ -12,11 +12,11 @@ use crate::leaves::leaf_of;
 use crate::programs::add_misses;
 use define_conflicts::Counted;
 use pool_model::{Panel, Pool};
-use proof_branching::{Found, search};
-use proof_limits::{Budget, Narrow, ProveStop, Span};
-use proof_program::Program;
-use proof_stages::{row_spans, table_of};
-use proof_table::Table;
+use prove_branching::{Found, search};
+use prove_limits::{Budget, Narrow, ProveStop, Span};
+use prove_program::Program;
+use prove_stages::{row_spans, table_of};
+use prove_table::Table;
 use quota_conflicts::{counted_by_number, selection_of};
 use std::alloc::Global;
 

@@ -22,7 +22,7 @@ use outside::Watch;
 use pool_model::{Answer, Pool};
 use pool_text::write_pool;
 use proof_model::{Parts, Proof};
-use proof_verify::verify;
+use check_proofs::verify;
 use std::alloc::{AllocError, Global};
 use std::thread::Threads;
 

@@ -3,7 +3,7 @@
 use crate::keeper::KeeperStop;
 use leximin_run::Stop;
 use office_steps::{OfficeStop, Refusal};
-use proof_verify::Verdict;
+use check_proofs::Verdict;
 use std::alloc::AllocError;
 
 /// Why a command has no reply.

@@ -1,5 +1,5 @@
 //! Proofs as values: that a lottery is leximin greatest, or that a pool has no quota panel. Contracts see them as the proofs of
-//! `define_proofs`. Stands on `bundle_text` and `pool_model`. Used by `proof_text`, `proof_verify`, `proof_run`,
+//! `define_proofs`. Stands on `bundle_text` and `pool_model`. Used by `proof_text`, `check_proofs`, `prove_run`,
 //! `quota_conflicts`, the commands about proofs, the shell and the office. Promises: each call returns exactly the value that its contract
 //! names, and the numbers of a `Proof` are in the ranges that a text can spell.
 #![tactic(auto)]

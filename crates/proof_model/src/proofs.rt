@@ -23,7 +23,7 @@ pub enum Parts {
 
 /// A proof of a lottery, with one tree for each stage, of which there are at most as many as the limit of
 /// volunteers, or a proof that there is no quota panel. The lines of the trees
-/// are in their ranges, so each proof has a text. `proof_verify` decides whether the proof is valid.
+/// are in their ranges, so each proof has a text. `check_proofs` decides whether the proof is valid.
 #[derive(Debug, Drop)]
 pub struct Proof {
     parts: Parts,

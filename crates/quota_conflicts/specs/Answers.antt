@@ -2,10 +2,10 @@
 use Rattle.std.specs.Prelude.{◌≡◌, IsTrue}
 use Rattle.define_conflicts.specs.Conflicts.{IsConflict}
 use Rattle.define_pools.specs.Pool.{Pool, is_quota_panel}
-use Rattle.proof_limits.specs.Budgets.{Left}
-use Rattle.proof_limits.specs.declared.stops.Limit.TheVariants.{Pivots, Nodes, Lottery}
-use Rattle.proof_limits.specs.declared.stops.ProveStop.{ProveStop}
-use Rattle.proof_limits.specs.declared.stops.ProveStop.TheVariants.{Wide, BeyondWidth, Spent, Lost, OutOfMemory}
+use Rattle.prove_limits.specs.Budgets.{Left}
+use Rattle.prove_limits.specs.declared.stops.Limit.TheVariants.{Pivots, Nodes, Lottery}
+use Rattle.prove_limits.specs.declared.stops.ProveStop.{ProveStop}
+use Rattle.prove_limits.specs.declared.stops.ProveStop.TheVariants.{Wide, BeyondWidth, Spent, Lost, OutOfMemory}
 use Rattle.quota_conflicts.specs.declared.answers.Explanation.{Explanation}
 use Rattle.quota_conflicts.specs.declared.answers.Explanation.TheVariants.{Panel, Conflict}
 

@@ -2,7 +2,7 @@
 
 ghost use Rattle.std.specs.Prelude.{IfErr, IfOk, IfSome};
 ghost use Rattle.define_conflicts.specs.Conflicts.{IsConflict};
-ghost use Rattle.proof_limits.specs.Budgets.{SpendsOn};
+ghost use Rattle.prove_limits.specs.Budgets.{SpendsOn};
 ghost use Rattle.quota_conflicts.specs.Answers.{IsExplanation, StopsSo};
 ghost use Rattle.quota_conflicts.specs.Searches.{IsSearch};
 
@@ -13,7 +13,7 @@ use crate::searches::{Search, Tried};
 use crate::shrinking::shrunk;
 use define_conflicts::{Counted, Side};
 use pool_model::{Panel, Pool, fits};
-use proof_limits::{Budget, Limit, ProveStop};
+use prove_limits::{Budget, Limit, ProveStop};
 use proof_model::TreeLine;
 use std::alloc::{AllocError, Global};
 

@@ -1,5 +1,5 @@
 //! Why a pool has no quota panel: quotas that can't be met together, as few as can be found; or a quota panel. Stands on the engine of
-//! `prove` (`proof_branching`, `proof_program`, `proof_stages`, `proof_table`, `proof_limits`), which searches, on `pool_model` and
+//! `prove` (`prove_branching`, `prove_program`, `prove_stages`, `prove_table`, `prove_limits`), which searches, on `pool_model` and
 //! `proof_model`, and on the definitions of `define_conflicts`. `command_why` stands on it, and `loosening_by_proof` on its sums.
 //!
 //! Promises: what `why` returns is checked by this crate itself, by adding and comparing whole numbers (`misses`, `covers`). So whatever

@@ -2,18 +2,18 @@
 //! tree that shows this. Stands on the engine of `prove`. Promise: nothing of the budget is given back.
 
 ghost use Rattle.std.specs.Prelude.{◌≡◌, IfOk, length};
-ghost use Rattle.proof_limits.specs.Budgets.{SpendsOn};
+ghost use Rattle.prove_limits.specs.Budgets.{SpendsOn};
 ghost use Rattle.quota_conflicts.specs.Searches.{IsSearch};
 
 use crate::kept::{Kept, is_kept};
 use crate::lines::{Line, lines_of_steps};
 use define_conflicts::Side;
 use pool_model::{Panel, Pool};
-use proof_branching::{Found, prove_empty, search};
-use proof_limits::{Budget, Narrow, ProveStop, Span};
-use proof_program::{Program, QuotaRow};
-use proof_stages::table_of;
-use proof_table::Table;
+use prove_branching::{Found, prove_empty, search};
+use prove_limits::{Budget, Narrow, ProveStop, Span};
+use prove_program::{Program, QuotaRow};
+use prove_stages::table_of;
+use prove_table::Table;
 use std::alloc::{AllocError, Global};
 
 /// The greatest number of a row's span if the row's upper bound isn't kept. No pool has more volunteers.

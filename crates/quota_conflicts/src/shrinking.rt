@@ -1,7 +1,7 @@
 //! Fewer quotas: tries to drop each bound in turn from a list of bounds that no selection meets. A bound is dropped if a search shows that
 //! no selection meets the rest either. Stands on `searches`, `lines` and `kept`; `answers` uses this.
 
-ghost use Rattle.proof_limits.specs.Budgets.{SpendsOn};
+ghost use Rattle.prove_limits.specs.Budgets.{SpendsOn};
 ghost use Rattle.quota_conflicts.specs.Searches.{IsSearch};
 
 use crate::kept::{Kept, SIZE, is_kept, without};
@@ -9,7 +9,7 @@ use crate::lines::{Line, used_bounds};
 use crate::searches::{Search, Tried};
 use define_conflicts::Side;
 use pool_model::{Panel, Pool};
-use proof_limits::{Budget, ProveStop};
+use prove_limits::{Budget, ProveStop};
 use std::alloc::{AllocError, Global};
 
 /// The most bounds that are tried. A pool has at most 1,401 constraints before its first stage, each with two bounds.

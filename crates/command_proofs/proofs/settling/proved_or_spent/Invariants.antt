@@ -1,4 +1,4 @@
-use Rattle.proof_limits.specs.Budgets.{SpendsOn}
+use Rattle.prove_limits.specs.Budgets.{SpendsOn}
 use Rattle.command_proofs.proofs.settling.proved_or_spent.Given as goal
 
 abbrev pub invariant-attempts : goal.invariant-attempts

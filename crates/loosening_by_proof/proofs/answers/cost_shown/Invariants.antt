@@ -1,7 +1,7 @@
 use Rattle.std.proofs.Common.{Some}
 use Rattle.define_proofs.specs.Leaves.{standings}
 use Rattle.define_cost_bounds.specs.CostBounds.{CostsAt}
-use Rattle.proof_limits.specs.Budgets.{SpendsOn}
+use Rattle.prove_limits.specs.Budgets.{SpendsOn}
 use Rattle.loosening_by_proof.specs.Searches.{IsSearch}
 use Rattle.loosening_by_proof.proofs.answers.cost_shown.Given as goal
 

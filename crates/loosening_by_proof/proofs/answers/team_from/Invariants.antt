@@ -1,4 +1,4 @@
-use Rattle.proof_limits.specs.Budgets.{SpendsOn}
+use Rattle.prove_limits.specs.Budgets.{SpendsOn}
 use Rattle.loosening_by_proof.specs.Searches.{IsSearch}
 use Rattle.loosening_by_proof.proofs.answers.team_from.Given as goal
 

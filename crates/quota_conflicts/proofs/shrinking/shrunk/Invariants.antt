@@ -1,4 +1,4 @@
-use Rattle.proof_limits.specs.Budgets.{SpendsOn}
+use Rattle.prove_limits.specs.Budgets.{SpendsOn}
 use Rattle.quota_conflicts.specs.Searches.{IsSearch}
 use Rattle.quota_conflicts.proofs.shrinking.shrunk.Given as goal
 

@@ -1,9 +1,0 @@
-use Rattle.std.proofs.Common.{◌≡◌, length}
-use Rattle.proof_branching.specs.Searches.{LieWithin}
-use Rattle.proof_branching.proofs.nodes.whole_point.Given as goal
-
-abbrev pub invariant-loop-i : goal.invariant-loop-i
-invariant-loop-i l = record {
-  count : length l.point.items ≡ l.i;
-  inside : LieWithin l.root l.point.items l.i;
-}

@@ -1,5 +1,0 @@
-use Rattle.proof_limits.specs.Budgets.{SpendsOn}
-use Rattle.proof_peeling.proofs.class_mixes.ClassMix.generate.Given as goal
-
-abbrev pub invariant-steps : goal.invariant-steps
-invariant-steps l = SpendsOn l.fn.budget l.budget

@@ -1,5 +1,0 @@
-use Rattle.proof_limits.specs.Budgets.{SpendsOn}
-use Rattle.proof_peeling.proofs.class_mixes.ClassMix.settle.Given as goal
-
-abbrev pub invariant-asides : goal.invariant-asides
-invariant-asides l = SpendsOn l.fn.budget l.budget

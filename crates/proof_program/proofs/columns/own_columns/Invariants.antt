@@ -1,7 +1,0 @@
-use Rattle.std.proofs.Common.{◌≡◌, map}
-use Rattle.std.specs.List.{range_with_len}
-use Rattle.proof_program.specs.Programs.{own_column}
-use Rattle.proof_program.proofs.columns.own_columns.Given as goal
-
-abbrev pub invariant-loop-number : goal.invariant-loop-number
-invariant-loop-number l = l.columns.items ≡ map (own_column l.pool) (range_with_len 0 l.number)

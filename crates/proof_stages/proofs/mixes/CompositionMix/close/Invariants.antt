@@ -1,6 +1,0 @@
-use Rattle.std.proofs.Common.{length}
-use Rattle.proof_stages.specs.Shapes.{IsCompositionMix}
-use Rattle.proof_stages.proofs.mixes.CompositionMix.close.Given as goal
-
-abbrev pub invariant-loop-number : goal.invariant-loop-number
-invariant-loop-number l = IsCompositionMix (length l.weights) l.self

@@ -1,5 +1,0 @@
-use Rattle.proof_limits.specs.Budgets.{SpendsOn}
-use Rattle.proof_stages.proofs.quick.Quick.close_by_scales.Given as goal
-
-abbrev pub invariant-scales : goal.invariant-scales
-invariant-scales l = SpendsOn l.fn.budget l.budget

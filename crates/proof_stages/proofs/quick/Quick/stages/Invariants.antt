@@ -1,5 +1,0 @@
-use Rattle.proof_limits.specs.Budgets.{SpendsOn}
-use Rattle.proof_stages.proofs.quick.Quick.stages.Given as goal
-
-abbrev pub invariant-stages : goal.invariant-stages
-invariant-stages l = SpendsOn l.fn.budget l.budget

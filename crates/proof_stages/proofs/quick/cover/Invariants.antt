@@ -1,5 +1,0 @@
-use Rattle.proof_limits.specs.Budgets.{SpendsOn}
-use Rattle.proof_stages.proofs.quick.cover.Given as goal
-
-abbrev pub invariant-searches : goal.invariant-searches
-invariant-searches l = SpendsOn l.fn.budget l.budget

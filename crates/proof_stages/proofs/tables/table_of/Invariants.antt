@@ -1,5 +1,0 @@
-use Rattle.std.proofs.Common.{◌≡◌, length}
-use Rattle.proof_stages.proofs.tables.table_of.Given as goal
-
-abbrev pub invariant-loop-row : goal.invariant-loop-row
-invariant-loop-row l = (l.table.rows ≡ l.row) × (l.table.columns ≡ length l.program.firsts)

@@ -1,7 +1,0 @@
-use Rattle.std.proofs.Common.{◌≡◌}
-use Rattle.define_proofs.specs.LeafSums.{charges_and_rests}
-use Rattle.proof_verify.proofs.leaves.total_charge.Given as goal
-
--- `total` is the sum of the multipliers' charges and of the charges of the first `i` volunteers' rests
-abbrev pub invariant-loop-i : goal.invariant-loop-i
-invariant-loop-i l = l.total ≡ charges_and_rests l.problem l.standings l.i l.leaf

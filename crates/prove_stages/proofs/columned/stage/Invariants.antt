@@ -1,0 +1,16 @@
+use Rattle.std.proofs.Common.{◌≡◌, length}
+use Rattle.std.specs.Prelude.{IfSome}
+use Rattle.prove_stages.specs.Shapes.{IsFinder, IsCompositionMix}
+use Rattle.prove_limits.specs.Budgets.{SpendsOn}
+use Rattle.prove_stages.proofs.columned.stage.Given as goal
+
+abbrev pub invariant-loop-last : goal.invariant-loop-last
+invariant-loop-last l = record {
+  mix : IsCompositionMix (length l.program.firsts) l.mix;
+  finder : IsFinder (length l.program.firsts) l.finder;
+  spends : SpendsOn l.fn.budget l.budget;
+  last : IfSome l.last (λ last. length last.0.items ≡ length l.program.firsts);
+}
+
+abbrev pub decreases-loop-last : goal.decreases-loop-last
+decreases-loop-last l = l.budget.nodes
