@@ -10,8 +10,8 @@ use Rattle.define_cover_texts.specs.CoverText.{IsCover, cover_spelling}
 use Rattle.define_cover_texts.proofs.ReadAgain.{spelled_is_read as cover_is_read}
 use Rattle.define_covers.specs.Covers.{Cover}
 use Rattle.define_covers.specs.CoverVerdict.{verdict as cover_verdict}
-use Rattle.define_leximin.proofs.Leximin.{leximin}
-use Rattle.define_leximin.specs.Leximin.{IsLeximin}
+use Rattle.define_pools.proofs.LeximinParts.{leximin}
+use Rattle.define_pools.specs.Leximin.{IsLeximin}
 use Rattle.outside.specs.Content.{LosesMore, ReadsAll}
 use Rattle.define_pools.specs.Certificate.{Certifies}
 use Rattle.define_proofs.specs.ProofText.{IsProof, proof_spelling}

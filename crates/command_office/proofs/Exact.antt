@@ -1,7 +1,7 @@
 -- If the run is stated, and the pool was told, status 1 comes exactly if the pool has no quota panel and the opening search is within its budget.
 use Rattle.std.specs.Prelude.{◌≢◌, ◌↔◌, ◌≤◌}
 use Rattle.std.proofs.Common.{◌≡◌, ◌∙◌, ℕ, List, [], Option, Some, Ok, ap, refl, sym, subst, arith}
-use Rattle.define_leximin.proofs.Leximin.{leximin, panel_in}
+use Rattle.define_pools.proofs.LeximinParts.{leximin, panel_in}
 use Rattle.define_made_pools.specs.MadePools.{made_pool}
 use Rattle.define_offices.specs.Commands.{Change, Outcome, Solve}
 use Rattle.define_offices.specs.Deciding.{NeedsRun, asked, asked_over, solve_in, solved}

@@ -11,7 +11,7 @@ use Rattle.define_draws.specs.Draw.{Drawn, Refused, SealDiffers, draw, drawn_wit
 use Rattle.define_draws.specs.Seal.{is_seal}
 use Rattle.define_draws.specs.declared.DiceStop.{DiceStop}
 use Rattle.define_draws.specs.declared.Named.{Named}
-use Rattle.define_leximin.proofs.Leximin.{leximin}
+use Rattle.define_pools.proofs.LeximinParts.{leximin}
 use Rattle.define_lines.specs.Lines as lines
 use Rattle.define_made_pools.specs.MadePools.{made_pool}
 use Rattle.define_offices.specs.Commands.{Change, Command, Draw, Keep, Lines, NoPanel, Outcome, Refusal, Refuses, Replies, Solve}

@@ -22,7 +22,7 @@ use Rattle.define_offices.specs.Tables.{Drawn, Open, Round, Sealed, Solved, Tabl
 use Rattle.laws_of_offices.proofs.Pools.{pool_of_has}
 use Rattle.laws_of_offices.proofs.Steps.{same_pools}
 use Rattle.command_meanings.specs.ProvedRounds.{IsOpenWith}
-use Rattle.define_leximin.proofs.Leximin.{leximin}
+use Rattle.define_pools.proofs.LeximinParts.{leximin}
 use Rattle.command_office.proofs.SolvedRounds.{HadBundle, Opened, SettlesRound}
 
 module _ (tables : Tables) (number : ℕ) (proof : Proof) where

@@ -2,7 +2,7 @@
 -- to read the signs, are in docs/PROMISES.md. The law `headline` (src/promises.rt) derives it from the exact contract, `OfficeIsRight`; `OfSeveralCalls`, at the end, is a law there too.
 -- `Headline` and `Keeps`, below, say what is promised; what stands before them are the words that they use.
 --
--- One step behind this page: pools, quota panels, lotteries and certificates (define_pools); what leximin greatest says part by part (define_leximin); when a proof or a cover is
+-- One step behind this page: pools, quota panels, lotteries and certificates (define_pools); what leximin greatest says part by part (define_pools); when a proof or a cover is
 -- valid (define_proofs, define_covers); the stated run (define_runs; with `--share` define_sharing); what the words ask for (`asked`); how an answer is told (`Outcomes`); each command's
 -- meaning, status by status (`TextMeans`, `ProvesWithin`, `LotteryMeans`, `SharedLotteryMeans`, `LegsMeans`, `MakeMeans`; over a store `StepMeans`, `ImportMeans`, `ProvesRound`).
 -- `told` is what the call did: its status, and its source, out, errs and keeper before and after it. Lotteries have whole weights, and are compared with such alone. What a clause says of
@@ -18,7 +18,7 @@ use Rattle.define_covers.specs.Covers.{Cover}
 use Rattle.define_covers.specs.CoverVerdict.{verdict as cover_verdict}
 use Rattle.define_draws.specs.Draw.{Drawn, draw}
 use Rattle.define_draws.specs.Seal.{is_seal}
-use Rattle.define_leximin.specs.Leximin.{IsLeximin}
+use Rattle.define_pools.specs.Leximin.{IsLeximin}
 use Rattle.define_made_pools.specs.MadePools.{made_pool}
 use Rattle.define_made_pools.specs.Summary.{summary_text}
 use Rattle.define_offices.specs.Commands.{SolvedWith}

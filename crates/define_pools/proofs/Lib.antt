@@ -11,3 +11,4 @@ pub mod AllPanels
 pub mod Greatest
 pub mod Increasing
 pub mod BuildingLemmas
+pub mod LeximinParts

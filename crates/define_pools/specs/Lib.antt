@@ -4,3 +4,4 @@ pub mod Building
 pub mod Lottery
 pub mod Certificate
 pub mod WorkedExamples
+pub mod Leximin

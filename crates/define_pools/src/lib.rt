@@ -9,6 +9,8 @@
 //! `certified_is_greatest`. Worked examples are in `laws_worked`.
 #![tactic(auto)]
 
+pub mod leximin;
+
 ghost use Rattle.std.specs.Prelude.{◌≡◌, ◌↔◌, ◌*◌, [], ◌∷◌, List, ℕ, Contains, IsTrue, sum};
 ghost use Rattle.std.specs.List.{list_all};
 ghost use Rattle.define_pools.specs.Pool.{is_of_size, is_quota_panel, Pool, IsPool, panels, limits_for, most_members, most_volunteers};

@@ -6,7 +6,7 @@ use Rattle.std.proofs.lemmas.Bool.{and_parts}
 use Rattle.define_pools.specs.Lottery.{LeximinGreatest, Lottery, LotteryRow}
 use Rattle.define_pools.specs.Pool.{Pool, is_of_size, is_quota_panel, keeps_households, keeps_standings, meets_quotas, panels}
 use Rattle.define_pools.proofs.AllPanels.{each_panel}
-use Rattle.define_leximin.specs.Leximin.{IsLeximin, PartByPart}
+use Rattle.define_pools.specs.Leximin.{IsLeximin, PartByPart}
 
 -- if `part` follows from `test` for each panel, and the panels of all rows pass `test`, they all pass `part`
 each_row : (test part : List ℕ → Bool) → ((panel : List ℕ) → test panel ≡ true → part panel ≡ true) → (rows : List LotteryRow) →
