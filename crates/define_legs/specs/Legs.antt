@@ -1,7 +1,7 @@
 -- The legs of a run: its pivots, counted between the steps that enter a stage, add a column or close a stage. Builds on Run of `define_runs`
--- and on Binomials of `define_binomials`. LegTexts, `laws_of_legs`, `leximin_run` and the meaning of the command `legs` use it.
+-- and on Binomials of `define_rows`. LegTexts, `laws_of_legs`, `leximin_run` and the meaning of the command `legs` use it.
 use Rattle.std.specs.Prelude.{◌≡◌, ℕ, zero, suc, ◌+◌, ◌==◌, ◌||◌, Bool, nat_lt, if◌then◌else◌, List, [], ◌∷◌, ◌++◌, length, sum_by}
-use Rattle.define_binomials.specs.Binomials.{basis_count}
+use Rattle.define_rows.specs.Binomials.{basis_count}
 use Rattle.define_pools.specs.Pool.{Pool}
 use Rattle.define_rows.specs.Table.{Table}
 use Rattle.define_runs.specs.Run.{Ended, Ending, GoOn, Limits, Next, RunLimits, opening, run_limits, step}

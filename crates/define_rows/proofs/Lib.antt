@@ -21,3 +21,4 @@ pub mod Solutions
 pub mod Satisfied
 pub mod SettledKeep
 pub mod Levels
+pub mod BinomialLaws

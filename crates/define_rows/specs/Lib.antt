@@ -10,3 +10,4 @@ pub mod Laws
 pub mod Solutions
 pub mod Settled
 pub mod Levels
+pub mod Binomials

@@ -3,8 +3,8 @@ use Rattle.std.proofs.Common.{◌≡◌, ℕ, suc, ◌+◌, ◌-◌, ◌*◌, �
 use Rattle.std.proofs.lemmas.Bool.{cases_lt}
 use Rattle.std.proofs.lemmas.Nat.{mul-le}
 use Rattle.std.proofs.Math.Nat.{div-add-mod, mul-div_cancel_left, pow-le-pow_right}
-use Rattle.define_binomials.specs.Binomials.{basis_count, binomial}
-use Rattle.define_binomials.proofs.BinomialLaws.{choose_doubles, choose_others, choose_past, choose_product, choose_rises}
+use Rattle.define_rows.specs.Binomials.{basis_count, binomial}
+use Rattle.define_rows.proofs.BinomialLaws.{choose_doubles, choose_others, choose_past, choose_product, choose_rises}
 
 module _ (number factor divisor ratio : ℕ) (some : 0 < divisor) (e : divisor * ratio ≡ factor * number) where
   whole : divisor * ratio ≡ divisor * (number / divisor * factor) + number % divisor * factor

@@ -1,7 +1,7 @@
 //! How many sets of variables could be basic in a table. Bland's rule makes fewer pivots between two changes of the table's size.
 
 ghost use Rattle.std.specs.Prelude.{◌≡◌, ◌≤◌, ◌<◌, ◌+◌, ◌*◌, ◌^◌, ℕ, pos, SomeIff};
-ghost use Rattle.define_binomials.specs.Binomials.{basis_count, binomial};
+ghost use Rattle.define_rows.specs.Binomials.{basis_count, binomial};
 
 /// The greatest bound that is told, 10^38.
 const GREATEST_BOUND: u128 = 100000000000000000000000000000000000000;

@@ -26,7 +26,7 @@ use Rattle.define_runs.proofs.StepCases.{Answers, Begins, Closes, Enters, FindsN
 use Rattle.laws_of_pivots.specs.Chains.{Leads}
 use Rattle.laws_of_pivots.proofs.Frames.{SameFrame, frame-itself, frame-trans, step-from}
 use Rattle.laws_of_pivots.proofs.Leads.{pivots-few}
-use Rattle.define_binomials.specs.Binomials.{basis_count}
+use Rattle.define_rows.specs.Binomials.{basis_count}
 use Rattle.define_legs.specs.declared.Leg.{Leg}
 use Rattle.define_legs.specs.Legs.{leg_bases, leg_from, leg_place, legs_after, legs_to, longer, onward, pivot_limit, traced, with_pivot}
 use Rattle.laws_of_legs.specs.Laws.{LegsHaveFewPivots, LegsAreApart, LegsHavePivots, TracesTheRun}

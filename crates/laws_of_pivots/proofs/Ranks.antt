@@ -1,6 +1,6 @@
 -- Lists of marks of the same length with the same number of marks set are numbered, from 0 to the number of binomial to choose.
 use Rattle.std.proofs.Common.{◌≡◌, ℕ, zero, suc, ◌+◌, ◌<◌, Bool, true, false, List, [], ◌∷◌, length, refl, sym, ap, ap₂, ◌∙◌, arith}
-use Rattle.define_binomials.specs.Binomials.{binomial}
+use Rattle.define_rows.specs.Binomials.{binomial}
 
 -- how many marks are set
 abbrev pub trues : List Bool → ℕ

@@ -10,7 +10,7 @@ use Rattle.define_pools.proofs.Each.{each_mapped}
 use Rattle.define_rows.specs.declared.Var.{Var}
 use Rattle.define_rows.specs.Table.{Table}
 use Rattle.define_rows.specs.InOrder.{IsKnown, IsInOrder}
-use Rattle.define_binomials.specs.Binomials.{binomial}
+use Rattle.define_rows.specs.Binomials.{binomial}
 use Rattle.laws_of_pivots.specs.Chains.{IsChain, HasBasisOf, bases_of, ChainsAreShort}
 use Rattle.laws_of_pivots.proofs.Frames.{SameFrame, frame-sym, frame-trans, known-frame, rows-frame}
 use Rattle.laws_of_pivots.proofs.Places.{place, place-frame, width}

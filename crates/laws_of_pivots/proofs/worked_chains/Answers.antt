@@ -1,5 +1,5 @@
 use Rattle.std.proofs.Common.{refl}
-use Rattle.define_binomials.specs.Binomials.{binomial}
+use Rattle.define_rows.specs.Binomials.{binomial}
 use Rattle.laws_of_pivots.proofs.worked_chains.Goals as goal
 
 pub returns-clause-four : goal.returns-clause-four

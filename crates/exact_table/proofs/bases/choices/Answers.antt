@@ -1,6 +1,6 @@
 use Rattle.std.proofs.Common.{◌≤◌, ◌+◌, ◌^◌, sym, arith}
-use Rattle.define_binomials.specs.Binomials.{binomial}
-use Rattle.define_binomials.proofs.BinomialLaws.{choose_none}
+use Rattle.define_rows.specs.Binomials.{binomial}
+use Rattle.define_rows.proofs.BinomialLaws.{choose_none}
 use Rattle.exact_table.proofs.ChoiceLaws.{few-turns, passes-on, small-product, turn-product}
 use Rattle.exact_table.proofs.bases.choices.Goals as goal
 

@@ -1,5 +1,5 @@
 use Rattle.std.proofs.Common.{◌≡◌, ◌≤◌, ◌+◌, ◌^◌}
-use Rattle.define_binomials.specs.Binomials.{binomial}
+use Rattle.define_rows.specs.Binomials.{binomial}
 use Rattle.exact_table.proofs.bases.choices.Given as goal
 
 -- the ways to choose as many things as there were turns, and as many fewer things

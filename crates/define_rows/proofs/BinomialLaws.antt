@@ -1,7 +1,7 @@
 -- Laws of binomial coefficients, by which they can be computed as a running product.
 use Rattle.std.proofs.Common.{◌≡◌, ℕ, zero, suc, ◌+◌, ◌*◌, ◌^◌, ◌<◌, ◌≤◌, le_of_mul-le-mul_right, mul-le-mul_right, refl, sym, ap, ap₂, ◌∙◌, subst, arith}
 use Rattle.std.proofs.Math.Nat.{two-pow-succ}
-use Rattle.define_binomials.specs.Binomials.{binomial}
+use Rattle.define_rows.specs.Binomials.{binomial}
 
 pub choose_none : (n : ℕ) → binomial n 0 ≡ 1
 unfolding binomial

@@ -1,7 +1,7 @@
 use Rattle.std.proofs.Common.{refl, ◌∙◌}
-use Rattle.define_binomials.specs.Binomials.{binomial}
-use Rattle.define_binomials.proofs.BinomialLaws.{choose_one, choose_others}
-use Rattle.define_binomials.proofs.worked_binomials.Goals as goal
+use Rattle.define_rows.specs.Binomials.{binomial}
+use Rattle.define_rows.proofs.BinomialLaws.{choose_one, choose_others}
+use Rattle.define_rows.proofs.binomials.worked_binomials.Goals as goal
 
 pub returns-clause-none : goal.returns-clause-none
 unfolding binomial

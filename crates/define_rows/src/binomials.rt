@@ -3,10 +3,8 @@
 //! have, and by `exact_table`, which computes it.
 //!
 //! The functions without a body are the promises: laws of the definitions, and worked examples.
-#![tactic(auto)]
-
 ghost use Rattle.std.specs.Prelude.{◌≡◌, ◌≤◌, ◌<◌, ◌+◌, ◌*◌, ◌^◌, ℕ};
-ghost use Rattle.define_binomials.specs.Binomials.{basis_count, binomial};
+ghost use Rattle.define_rows.specs.Binomials.{basis_count, binomial};
 
 /// To choose some of several things is to leave out the others. A coefficient comes from the one of a thing less and a choice less by a
 /// product and a division. It is not below that one, and is at least twice it if at most half of the things are chosen.

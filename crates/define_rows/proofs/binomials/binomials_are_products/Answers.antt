@@ -1,6 +1,6 @@
 use Rattle.std.proofs.Common.{◌≡◌, suc, ◌+◌, sym, arith}
-use Rattle.define_binomials.proofs.BinomialLaws.{choose_doubles, choose_others, choose_product, choose_rises}
-use Rattle.define_binomials.proofs.binomials_are_products.Goals as goal
+use Rattle.define_rows.proofs.BinomialLaws.{choose_doubles, choose_others, choose_product, choose_rises}
+use Rattle.define_rows.proofs.binomials.binomials_are_products.Goals as goal
 
 pub returns : goal.returns
 returns c = record {
