@@ -19,7 +19,7 @@ use Rattle.define_searches.specs.Compositions.{first_composition, price}
 use Rattle.define_searches.specs.Fronts.{sizes_of}
 use Rattle.define_searches.specs.Visits.{first_search}
 use Rattle.define_spreads.specs.Spreading.{TotalPass, spread}
-use Rattle.define_waves.specs.Waves.{best_in_waves}
+use Rattle.define_searches.specs.Waves.{best_in_waves}
 
 -- the width in bits, how many pivots the run may make, and how many visits each of its searches may make
 pub record Limits : Type 0 where

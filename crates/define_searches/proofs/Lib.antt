@@ -18,3 +18,6 @@ pub mod Parting
 pub mod GreatestSum
 pub mod BestSearch
 pub mod NothingToPrice
+pub mod Below
+pub mod Pieces
+pub mod WavesFind

@@ -5,3 +5,6 @@ pub mod Fronts
 pub mod Visits
 pub mod Stages
 pub mod WorkedSearches
+pub mod Below
+pub mod Waves
+pub mod WorkedFronts

@@ -1,11 +1,13 @@
 //! Classes of alike volunteers, compositions, fronts and when a front is live, and the searches with the visits that they count. The
 //! definitions are in `specs/`. Stands on `define_pools` and the rows of `define_rows`. Used by `alike`, which makes classes,
-//! `panel_search`, which searches, `define_checks`, whose check makes classes of its own, `laws_of_fronts`, `define_waves`,
+//! `panel_search`, which searches, `define_checks`, whose check makes classes of its own, `laws_of_fronts`, `define_searches`,
 //! `define_spreads`, `define_runs`, `define_loosenings`, and the crates above these.
 //!
 //! The functions have no body: their contracts are laws over the definitions, and worked examples. Each law is a promise. The laws hold for
 //! every test of who is alike that makes classes, so also for a finer test, such as a check's, which compares weights too.
 #![tactic(auto)]
+
+pub mod waves;
 
 ghost use Rattle.std.specs.Prelude.{◌≡◌, ◌↔◌, ℕ, Bool, List, [], ◌∷◌, map, length, nat_lt, Contains, MatchOption, None, Some, IsTrue, pos};
 ghost use Rattle.std.specs.List.{AllByRecursion, list_all};

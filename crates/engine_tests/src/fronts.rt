@@ -2,7 +2,7 @@
 //! are counted by hand.
 
 ghost use Rattle.std.specs.Prelude.{◌≡◌, true};
-ghost use Rattle.define_waves.specs.Below.{IsFront};
+ghost use Rattle.define_searches.specs.Below.{IsFront};
 
 use crate::small_classes::{APART, classes_of, counts_of, is_small};
 use alike::Classes;

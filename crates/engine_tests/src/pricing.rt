@@ -1,4 +1,4 @@
-//! Pricings of small pools by several workers. The visits are those of `worked_waves` of `define_waves`, which are computed from the
+//! Pricings of small pools by several workers. The visits are those of `worked_waves` of `define_searches`, which are computed from the
 //! definitions.
 
 use crate::small_classes::{APART, classes_of, counts_of, is_small};

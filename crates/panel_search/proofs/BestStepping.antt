@@ -22,7 +22,7 @@ use Rattle.laws_of_fronts.proofs.Tracking.{comes_next}
 use Rattle.panel_search.proofs.Ranges.{LiveBetween, below_next, below_none, live_counts}
 use Rattle.laws_of_fronts.proofs.Fronts.{within_more, placed, front_length}
 use Rattle.laws_of_fronts.proofs.WeightLaws.{weighs_back}
-use Rattle.define_waves.specs.Below.{child_best, search_from}
+use Rattle.define_searches.specs.Below.{child_best, search_from}
 
 -- ---- visits only grow
 

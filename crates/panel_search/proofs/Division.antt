@@ -14,10 +14,10 @@ use Rattle.define_rows.specs.Row.{Row}
 use Rattle.define_searches.specs.Classes.{Class, Classes, KeepsLimits}
 use Rattle.define_searches.specs.Compositions.{counts_of}
 use Rattle.define_searches.specs.Fronts.{is_live_above, is_reachable, optimistic}
-use Rattle.define_waves.specs.Waves.{Pieces, lists_of, piece_depth, pieces, pieces_below, together}
-use Rattle.define_waves.specs.Below.{IsFront}
-use Rattle.define_waves.proofs.Below.{Fits, fitting_is_front, fits_none, front_fits}
-use Rattle.define_waves.proofs.Pieces.{counts_within, depth_within}
+use Rattle.define_searches.specs.Waves.{Pieces, lists_of, piece_depth, pieces, pieces_below, together}
+use Rattle.define_searches.specs.Below.{IsFront}
+use Rattle.define_searches.proofs.Below.{Fits, fitting_is_front, fits_none, front_fits}
+use Rattle.define_searches.proofs.Pieces.{counts_within, depth_within}
 use Rattle.panel_search.specs.Answers.{AnswersPieces}
 use Rattle.panel_search.specs.declared.searching.SearchStop.{SearchStop}
 use Rattle.panel_search.specs.declared.searching.SearchStop.TheVariants.{Spent}

@@ -9,9 +9,9 @@ use Rattle.define_rows.specs.Row.{Row, reach}
 use Rattle.define_searches.specs.Classes.{Class, Classes, KeepsLimits}
 use Rattle.define_searches.specs.Fronts.{HaveEntries, HaveReach, sizes_of}
 use Rattle.define_searches.specs.Visits.{Pricing}
-use Rattle.define_waves.specs.Below.{IsFront}
-use Rattle.define_waves.specs.Waves.{pieces}
-use Rattle.define_waves.proofs.Pieces.{pieces_are}
+use Rattle.define_searches.specs.Below.{IsFront}
+use Rattle.define_searches.specs.Waves.{pieces}
+use Rattle.define_searches.proofs.Pieces.{pieces_are}
 use Rattle.panel_search.specs.Answers.{AnswersBest, AnswersPieces}
 use Rattle.panel_search.specs.Pricers.{AreClosed}
 use Rattle.panel_search.specs.Weights.{IsSummed}

@@ -5,7 +5,7 @@ use Rattle.std.specs.Int.{int_max}
 use Rattle.std.proofs.lemmas.Int.{ints, clamps}
 use Rattle.define_searches.specs.Fronts.{later_than}
 use Rattle.define_searches.specs.Visits.{Pricing}
-use Rattle.define_waves.specs.Below.{child_best}
+use Rattle.define_searches.specs.Below.{child_best}
 use Rattle.panel_search.specs.Answers.{IsKept}
 use Rattle.panel_search.specs.Pricers.{Priced}
 use Rattle.panel_search.specs.Sharing.{IsBounded, IsShared, MayStand, Shares, alone_from, begun_at}

@@ -16,8 +16,8 @@ use Rattle.define_searches.specs.Visits.{Pricing, enter_best}
 use Rattle.define_searches.proofs.BestSearch.{keep, keep_none, told, sought, none_better, enter_best_keeps, whole_from_live}
 use Rattle.define_searches.proofs.Contained.{each_itself, filtered}
 use Rattle.define_searches.proofs.FirstSearch.{InOrder, Split}
-use Rattle.define_waves.specs.Below.{IsFront, begins_with, below, child_best}
-use Rattle.define_waves.proofs.Below.{Fits, below_goes_on, fits_none, fitting_is_front, front_fits, front_splits}
+use Rattle.define_searches.specs.Below.{IsFront, begins_with, below, child_best}
+use Rattle.define_searches.proofs.Below.{Fits, below_goes_on, fits_none, fitting_is_front, front_fits, front_splits}
 use Rattle.laws_of_fronts.specs.Front.{AreWithin, Stands}
 use Rattle.panel_search.specs.Front.{Tracks}
 use Rattle.panel_search.specs.Weights.{Weighs, WeighEach}

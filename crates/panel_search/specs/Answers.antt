@@ -1,9 +1,9 @@
--- What a search under a budget of visits answers. Builds on `Visits` of `define_searches` and `Waves` of `define_waves`. The contracts of
+-- What a search under a budget of visits answers. Builds on `Visits` of `define_searches` and `Waves` of `define_searches`. The contracts of
 -- the searches of this crate and of `pricing_pool` cite it.
 use Rattle.std.specs.Prelude.{◌≡◌, ◌≤◌, ◌<◌, ℕ, ℤ, List, Option, Some, None, Result, Ok, Err, Vec, vec_items}
 use Rattle.std.specs.declared.alloc.Global.{Global}
 use Rattle.define_searches.specs.Visits.{Search, Pricing}
-use Rattle.define_waves.specs.Waves.{Pieces}
+use Rattle.define_searches.specs.Waves.{Pieces}
 use Rattle.panel_search.specs.declared.searching.BudgetSpent.{BudgetSpent}
 use Rattle.panel_search.specs.declared.searching.SearchStop.{SearchStop}
 use Rattle.panel_search.specs.declared.searching.SearchStop.TheVariants.{Spent, OutOfMemory}

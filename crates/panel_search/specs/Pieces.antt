@@ -4,7 +4,7 @@ use Rattle.define_rows.specs.Row.{Row}
 use Rattle.define_searches.specs.Classes.{Class, Classes}
 use Rattle.define_searches.specs.Compositions.{counts_of}
 use Rattle.define_searches.specs.Fronts.{is_live_above}
-use Rattle.define_waves.specs.Below.{IsFront}
+use Rattle.define_searches.specs.Below.{IsFront}
 
 -- `front` has a count for each of the first `depth` classes, and is live with the right side of `row` as the floor
 pub record IsLiveFront (all : Classes) (closed : List Row) (row : Row) (depth : ℕ) (front : List ℕ) : Type 0 where

@@ -9,7 +9,7 @@ use Rattle.panel_search.specs.Weights.{Weighs, WeighEach}
 use Rattle.panel_search.specs.declared.searching.BudgetSpent.{BudgetSpent}
 use Rattle.panel_search.specs.declared.pricing.BestSearch.{BestSearch}
 use Rattle.laws_of_fronts.specs.Front.{AreWithin, CanTake}
-use Rattle.define_waves.specs.Below.{child_best}
+use Rattle.define_searches.specs.Below.{child_best}
 
 -- a search is at a reachable front of the first `depth` classes, and its tally has the classes `later` still to come
 pub record StandsAt (all : Classes) (closed : List Row) (row : Row) (depth : ℕ) (later : List Class) (search : BestSearch) : Type 0 where

@@ -7,7 +7,7 @@ use Rattle.define_searches.specs.Best.{Qualifies}
 use Rattle.define_searches.specs.Classes.{Class, Classes}
 use Rattle.define_searches.specs.Compositions.{weight_in}
 use Rattle.define_searches.specs.Visits.{Pricing}
-use Rattle.define_waves.specs.Below.{IsFront, search_from}
+use Rattle.define_searches.specs.Below.{IsFront, search_from}
 use Rattle.panel_search.specs.Answers.{IsKept}
 use Rattle.panel_search.specs.Pricers.{Priced}
 use Rattle.panel_search.specs.Pricing.{StandsAt, pricing_of}

@@ -7,7 +7,7 @@ ghost use Rattle.panel_search.specs.Answers.{AnswersPieces};
 ghost use Rattle.panel_search.specs.Pieces.{IsLiveFront, live_children};
 ghost use Rattle.panel_search.specs.Terms.{AreTerms};
 ghost use Rattle.define_searches.specs.Fronts.{is_live_above};
-ghost use Rattle.define_waves.specs.Waves.{piece_depth, pieces};
+ghost use Rattle.define_searches.specs.Waves.{piece_depth, pieces};
 
 use crate::fronts::Front;
 use crate::pricing::{BestSearch, Terms};

@@ -8,8 +8,8 @@ ghost use Rattle.panel_search.specs.Answers.{AnswersBest, AnswersPieces, Answers
 ghost use Rattle.panel_search.specs.Pricers.{ArePriced};
 ghost use Rattle.panel_search.specs.Sharing.{AnswersShared, IsBounded, MayStand};
 ghost use Rattle.panel_search.specs.Terms.{AreTerms};
-ghost use Rattle.define_waves.specs.Below.{IsFront, best_below, search_from};
-ghost use Rattle.define_waves.specs.Waves.{pieces};
+ghost use Rattle.define_searches.specs.Below.{IsFront, best_below, search_from};
+ghost use Rattle.define_searches.specs.Waves.{pieces};
 
 use crate::dividing::pieces;
 use crate::fronts::Front;

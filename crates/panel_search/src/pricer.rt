@@ -6,8 +6,8 @@ ghost use Rattle.panel_search.specs.Answers.{AnswersBest, AnswersPieces};
 ghost use Rattle.define_searches.specs.Compositions.{price};
 ghost use Rattle.define_searches.specs.Fronts.{HaveEntries, HaveReach};
 ghost use Rattle.define_searches.specs.Visits.{best_search};
-ghost use Rattle.define_waves.specs.Below.{IsFront, best_below, search_from};
-ghost use Rattle.define_waves.specs.Waves.{pieces};
+ghost use Rattle.define_searches.specs.Below.{IsFront, best_below, search_from};
+ghost use Rattle.define_searches.specs.Waves.{pieces};
 
 use crate::fronts::Front;
 use crate::greatest::Sums;

@@ -14,7 +14,7 @@ ghost use Rattle.panel_search.specs.Weights.{Weighs, WeighEach};
 ghost use Rattle.define_searches.specs.Compositions.{price, weight_in};
 ghost use Rattle.define_searches.specs.Fronts.{HaveEntries, HaveReach, is_live_above, is_reachable, optimistic};
 ghost use Rattle.define_searches.specs.Visits.{best_search, enter_best};
-ghost use Rattle.define_waves.specs.Below.{child_best, search_from};
+ghost use Rattle.define_searches.specs.Below.{child_best, search_from};
 
 use crate::fronts::Front;
 use crate::greatest::Sums;

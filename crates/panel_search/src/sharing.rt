@@ -9,7 +9,7 @@ ghost use Rattle.panel_search.specs.Terms.{AreTerms};
 ghost use Rattle.laws_of_fronts.specs.Front.{AreWithin, CanTake};
 ghost use Rattle.define_searches.specs.Classes.{IsSearchable};
 ghost use Rattle.define_searches.specs.Fronts.{HaveEntries, is_live_above, is_reachable};
-ghost use Rattle.define_waves.specs.Below.{IsFront, child_best};
+ghost use Rattle.define_searches.specs.Below.{IsFront, child_best};
 
 use crate::pricing::{BestSearch, Terms};
 use crate::searching::{BudgetSpent, SearchStop};

@@ -4,8 +4,8 @@ use Rattle.std.specs.Prelude.{slice_index_or}
 use Rattle.define_rows.specs.Row.{Row}
 use Rattle.define_searches.specs.Classes.{Classes}
 use Rattle.define_searches.specs.Visits.{Pricing}
-use Rattle.define_waves.specs.Below.{search_from}
-use Rattle.define_waves.specs.Waves.{take_piece, wave}
+use Rattle.define_searches.specs.Below.{search_from}
+use Rattle.define_searches.specs.Waves.{take_piece, wave}
 use Rattle.panel_search.specs.Answers.{AnswersWeighed}
 use Rattle.panel_search.specs.declared.searching.SearchStop.{SearchStop}
 use Rattle.panel_search.specs.declared.searching.SearchStop.TheVariants.{Spent, OutOfMemory}

@@ -5,7 +5,7 @@ use Rattle.define_searches.specs.Classes.{Class, Classes}
 use Rattle.define_searches.specs.Compositions.{counts_of, weight_in}
 use Rattle.define_searches.specs.Fronts.{is_live_above, later_than}
 use Rattle.define_searches.specs.Visits.{Pricing, enter_best}
-use Rattle.define_waves.specs.Below.{search_from}
+use Rattle.define_searches.specs.Below.{search_from}
 
 -- if P holds at first, and each step of a fold keeps it, P holds at the end
 fold_keeps : {A X : Type 0} (P : A → Type 0) (f : A → X → A) → ((a : A) (x : X) → P a → P (f a x)) → (xs : List X) (a : A) → P a → P (fold f a xs)

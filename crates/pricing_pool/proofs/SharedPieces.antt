@@ -11,9 +11,9 @@ use Rattle.define_searches.specs.Compositions.{weight_in}
 use Rattle.define_searches.specs.Fronts.{HaveEntries, later_than}
 use Rattle.define_searches.specs.Visits.{Pricing}
 use Rattle.define_searches.proofs.BestSearch.{Kept, keep, told, sought}
-use Rattle.define_waves.specs.Below.{search_from}
-use Rattle.define_waves.specs.Waves.{keep_heavier, take_piece, wave}
-use Rattle.define_waves.proofs.Below.{from_keeps}
+use Rattle.define_searches.specs.Below.{search_from}
+use Rattle.define_searches.specs.Waves.{keep_heavier, take_piece, wave}
+use Rattle.define_searches.proofs.Below.{from_keeps}
 use Rattle.panel_search.specs.Answers.{IsKept}
 use Rattle.panel_search.specs.Sharing.{Exceeds, IsShared, MayStand, Shares, begun_at, visits_from}
 use Rattle.panel_search.proofs.SharedSearches.{IsSearch, Shifted, raised, stays}

@@ -14,9 +14,9 @@ use Rattle.define_searches.specs.Fronts.{HaveEntries}
 use Rattle.define_searches.specs.Visits.{Pricing}
 use Rattle.define_searches.proofs.Best.{price_best, price_none_where}
 use Rattle.define_searches.proofs.BestSearch.{Kept, keep, told}
-use Rattle.define_waves.specs.Below.{IsFront}
-use Rattle.define_waves.specs.Waves.{best_in_waves, pieces, wave, waves}
-use Rattle.define_waves.proofs.Waves.{waves_keep_price}
+use Rattle.define_searches.specs.Below.{IsFront}
+use Rattle.define_searches.specs.Waves.{best_in_waves, pieces, wave, waves}
+use Rattle.define_searches.proofs.WavesFind.{waves_keep_price}
 use Rattle.panel_search.specs.Answers.{AnswersPieces}
 use Rattle.panel_search.specs.Pricers.{Priced}
 use Rattle.panel_search.specs.Sharing.{AnswersShared, IsBounded, MayStand, Shares, begun_at, visits_from}

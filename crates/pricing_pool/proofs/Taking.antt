@@ -5,8 +5,8 @@ use Rattle.define_rows.specs.Row.{Row}
 use Rattle.define_searches.specs.Classes.{Classes}
 use Rattle.define_searches.specs.Compositions.{weight_in}
 use Rattle.define_searches.specs.Visits.{Pricing}
-use Rattle.define_waves.specs.Below.{search_from}
-use Rattle.define_waves.specs.Waves.{keep_heavier, take_piece}
+use Rattle.define_searches.specs.Below.{search_from}
+use Rattle.define_searches.specs.Waves.{keep_heavier, take_piece}
 use Rattle.panel_search.specs.Answers.{AnswersWeighed, IsKept}
 use Rattle.panel_search.specs.declared.searching.SearchStop.TheVariants.{Spent, OutOfMemory}
 use Rattle.pricing_pool.specs.Outcomes.{Outcome}

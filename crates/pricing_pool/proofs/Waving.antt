@@ -6,8 +6,8 @@ use Rattle.std.proofs.lemmas.List.Sums.{fold-append}
 use Rattle.define_rows.specs.Row.{Row}
 use Rattle.define_searches.specs.Classes.{Classes}
 use Rattle.define_searches.specs.Visits.{Pricing}
-use Rattle.define_waves.specs.Below.{search_from}
-use Rattle.define_waves.specs.Waves.{wave}
+use Rattle.define_searches.specs.Below.{search_from}
+use Rattle.define_searches.specs.Waves.{wave}
 use Rattle.pricing_pool.proofs.Taking.{pieces_add}
 
 module _ (all : Classes) (closed : List Row) (row : Row) (fronts : List (List ℕ)) where

@@ -5,8 +5,8 @@ use Rattle.define_searches.specs.Classes.{Classes, IsSearchable}
 use Rattle.define_searches.specs.Compositions.{price}
 use Rattle.define_searches.specs.Fronts.{HaveEntries}
 use Rattle.define_searches.specs.Visits.{Pricing}
-use Rattle.define_waves.specs.Waves.{best_in_waves, pieces, wave, waves}
-use Rattle.define_waves.proofs.Waves.{waves_keep_price}
+use Rattle.define_searches.specs.Waves.{best_in_waves, pieces, wave, waves}
+use Rattle.define_searches.proofs.WavesFind.{waves_keep_price}
 use Rattle.panel_search.specs.Answers.{AnswersBest, AnswersPieces}
 use Rattle.panel_search.specs.declared.searching.SearchStop.{SearchStop}
 use Rattle.panel_search.specs.declared.searching.SearchStop.TheVariants.{Spent, OutOfMemory}

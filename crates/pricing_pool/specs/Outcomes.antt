@@ -1,10 +1,10 @@
--- What the searches of a wave's pieces answer, worker by worker. Builds on Visits of `define_searches`, Below of `define_waves`, and
+-- What the searches of a wave's pieces answer, worker by worker. Builds on Visits of `define_searches`, Below of `define_searches`, and
 -- Answers and Pricers of `panel_search`. SoFar and the contracts of `wave`, `workers` and `waves` cite it.
 use Rattle.std.specs.Prelude.{◌≡◌, ℕ, ◌+◌, ◌*◌, ◌/◌, ◌%◌, ◌<◌, ◌≤◌, List, [], length, slice_get, slice_index_or, ◌++◌, Vec, vec_items, ℤ, Option, Some, Result, Ok, Err}
 use Rattle.std.specs.declared.alloc.Global.{Global}
 use Rattle.std.specs.declared.alloc.AllocError.{AllocError}
 use Rattle.define_searches.specs.Visits.{Pricing}
-use Rattle.define_waves.specs.Below.{search_from}
+use Rattle.define_searches.specs.Below.{search_from}
 use Rattle.panel_search.specs.Answers.{AnswersWeighed}
 use Rattle.panel_search.specs.Pricers.{Priced}
 use Rattle.panel_search.specs.declared.searching.SearchStop.{SearchStop}

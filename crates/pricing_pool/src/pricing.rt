@@ -6,8 +6,8 @@ ghost use Rattle.panel_search.specs.Answers.{AnswersBest};
 ghost use Rattle.pricing_pool.specs.SoFar.{GoesOn, pricing_so_far};
 ghost use Rattle.define_searches.specs.Compositions.{price};
 ghost use Rattle.define_searches.specs.Fronts.{HaveEntries, HaveReach};
-ghost use Rattle.define_waves.specs.Below.{IsFront};
-ghost use Rattle.define_waves.specs.Waves.{best_in_waves, wave as wave_of, waves};
+ghost use Rattle.define_searches.specs.Below.{IsFront};
+ghost use Rattle.define_searches.specs.Waves.{best_in_waves, wave as wave_of, waves};
 
 use crate::wave::Wave;
 use crate::waves::SoFar;

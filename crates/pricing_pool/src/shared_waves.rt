@@ -8,7 +8,7 @@ ghost use Rattle.pricing_pool.specs.SoFar.{pricing_so_far};
 ghost use Rattle.panel_search.specs.Sharing.{IsBounded};
 ghost use Rattle.define_searches.specs.Classes.{IsSearchable};
 ghost use Rattle.define_searches.specs.Fronts.{HaveEntries};
-ghost use Rattle.define_waves.specs.Waves.{wave as wave_of};
+ghost use Rattle.define_searches.specs.Waves.{wave as wave_of};
 ghost use Rattle.std.specs.Prelude.{◌∷◌};
 
 use crate::shared_wave::SharedWave;

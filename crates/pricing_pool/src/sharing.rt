@@ -4,8 +4,8 @@ ghost use Rattle.std.specs.Prelude.{◌≡◌, ◌≤◌, ◌<◌, ◌*◌, [], 
 ghost use Rattle.std.specs.List.{AllByRecursion};
 ghost use Rattle.define_searches.specs.Compositions.{price};
 ghost use Rattle.define_searches.specs.Fronts.{HaveEntries, HaveReach};
-ghost use Rattle.define_waves.specs.Below.{IsFront};
-ghost use Rattle.define_waves.specs.Waves.{best_in_waves, wave as wave_of, waves};
+ghost use Rattle.define_searches.specs.Below.{IsFront};
+ghost use Rattle.define_searches.specs.Waves.{best_in_waves, wave as wave_of, waves};
 ghost use Rattle.panel_search.specs.Sharing.{IsBounded};
 ghost use Rattle.pricing_pool.specs.Sharing.{AnswersSharing, SharesOn};
 ghost use Rattle.pricing_pool.specs.SoFar.{pricing_so_far};

@@ -2,7 +2,7 @@
 
 ghost use Rattle.std.specs.Prelude.{◌≡◌, ◌≤◌, ◌<◌, [], length, slice_index_or};
 ghost use Rattle.std.specs.List.{AllByRecursion};
-ghost use Rattle.define_waves.specs.Below.{IsFront};
+ghost use Rattle.define_searches.specs.Below.{IsFront};
 ghost use Rattle.panel_search.specs.Sharing.{AnswersShared, IsBounded, MayStand};
 
 use crate::workers::{Outcome, Pieces};
@@ -24,7 +24,7 @@ pub(crate) struct Wave<'a> {
 impl<'a> Model for Wave<'a> {
     ghost use Rattle.std.specs.Prelude.{◌≤◌, length};
     ghost use Rattle.std.specs.List.{AllByRecursion};
-    ghost use Rattle.define_waves.specs.Below.{IsFront};
+    ghost use Rattle.define_searches.specs.Below.{IsFront};
     ghost use Rattle.pricing_pool.specs.Outcomes.{Wave as Seen};
 
     ghost Value = { Seen };

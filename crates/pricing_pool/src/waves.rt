@@ -5,8 +5,8 @@ ghost use Rattle.std.specs.List.{AllByRecursion};
 ghost use Rattle.pricing_pool.specs.Outcomes.{AreOfAll, HasAnswer, IsAnswer, answers_alone};
 ghost use Rattle.pricing_pool.specs.SoFar.{CameTo, GoesOn, heavier, pricing_so_far};
 ghost use Rattle.panel_search.specs.declared.searching.SearchStop.TheVariants.{OutOfMemory};
-ghost use Rattle.define_waves.specs.Below.{IsFront};
-ghost use Rattle.define_waves.specs.Waves.{wave as wave_of};
+ghost use Rattle.define_searches.specs.Below.{IsFront};
+ghost use Rattle.define_searches.specs.Waves.{wave as wave_of};
 
 use crate::wave::Wave;
 use crate::workers::{Outcome, Pieces, Told, work_side_by_side};

@@ -1,5 +1,5 @@
 use Rattle.std.proofs.Common.{◌≡◌, ◌≤◌, ◌<◌, ℕ, take}
-use Rattle.define_waves.specs.Waves.{lists_of}
+use Rattle.define_searches.specs.Waves.{lists_of}
 use Rattle.panel_search.proofs.dividing.piece_depth.Given as goal
 
 -- the first `depth` classes have `lists` lists of counts, and for each `k` below `depth` the first `k` classes have fewer than 64

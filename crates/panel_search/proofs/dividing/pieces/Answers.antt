@@ -1,7 +1,7 @@
 use Rattle.std.proofs.Common.{sym, ap, ◌∙◌, arith}
 use Rattle.std.specs.List.{flat_map}
-use Rattle.define_waves.specs.Waves.{pieces}
-use Rattle.define_waves.proofs.Pieces.{depth_within}
+use Rattle.define_searches.specs.Waves.{pieces}
+use Rattle.define_searches.proofs.Pieces.{depth_within}
 use Rattle.panel_search.specs.Pieces.{live_children}
 use Rattle.panel_search.proofs.Division.{goes_last, goes_next, goes_too_far, pieces_spent}
 use Rattle.laws_of_fronts.proofs.WeightLaws.{element_at}

@@ -2,7 +2,7 @@ use Rattle.std.proofs.Common.{◌≡◌, ℕ, ◌^◌, ◌<◌, List, length, sy
 use Rattle.define_rows.specs.Row.{Row, reach}
 use Rattle.define_searches.specs.Classes.{Classes, KeepsLimits}
 use Rattle.define_searches.specs.Fronts.{sizes_of}
-use Rattle.define_waves.specs.Below.{IsFront}
+use Rattle.define_searches.specs.Below.{IsFront}
 use Rattle.laws_of_fronts.specs.Front.{AreWithin}
 use Rattle.panel_search.proofs.Kept.{front_within, row_has}
 use Rattle.panel_search.proofs.live.is_live.Goals as goal

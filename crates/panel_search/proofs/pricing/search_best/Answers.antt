@@ -3,7 +3,7 @@ use Rattle.std.specs.Int.{w128}
 use Rattle.std.proofs.lemmas.Int.{to_z-of_z}
 use Rattle.panel_search.proofs.BestStepping.{none_entered}
 use Rattle.panel_search.proofs.pricing.search_best.Goals as goal
-use Rattle.define_waves.specs.Below.{search_from}
+use Rattle.define_searches.specs.Below.{search_from}
 
 pub returns-then-nodes-eq0 : goal.returns-then-nodes-eq0
 returns-then-nodes-eq0 c =

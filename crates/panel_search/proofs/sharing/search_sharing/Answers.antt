@@ -2,7 +2,7 @@ use Rattle.std.proofs.Common.{rules, [], pos, drop, length, ◌∙◌, refl, ari
 use Rattle.std.specs.Int.{int_max, w128}
 use Rattle.std.proofs.lemmas.Int.{ints, clamps, to_z-of_z}
 use Rattle.define_searches.specs.Compositions.{weight_in}
-use Rattle.define_waves.specs.Below.{child_best}
+use Rattle.define_searches.specs.Below.{child_best}
 use Rattle.panel_search.specs.Pricing.{pricing_of}
 use Rattle.panel_search.specs.Sharing.{Shares, begun_at, priced_of}
 use Rattle.panel_search.proofs.SharedAnswers.{begins_higher, begun_same, from_front_on, is_shared}

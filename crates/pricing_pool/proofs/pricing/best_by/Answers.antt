@@ -1,6 +1,6 @@
 use Rattle.std.proofs.Common.{ap, subst}
 use Rattle.panel_search.specs.Answers.{AnswersBest}
-use Rattle.define_waves.specs.Waves.{best_in_waves}
+use Rattle.define_searches.specs.Waves.{best_in_waves}
 use Rattle.pricing_pool.proofs.pricing.best_by.Goals as goal
 
 pub returns-clause-answers : goal.returns-clause-answers

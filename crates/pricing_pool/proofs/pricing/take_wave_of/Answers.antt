@@ -1,5 +1,5 @@
 use Rattle.std.proofs.Common.{subst}
-use Rattle.define_waves.specs.Waves.{wave}
+use Rattle.define_searches.specs.Waves.{wave}
 use Rattle.pricing_pool.specs.SoFar.{GoesOn, pricing_so_far}
 use Rattle.pricing_pool.proofs.pricing.take_wave_of.Goals as goal
 

@@ -1,6 +1,6 @@
 use Rattle.std.proofs.Common.{◌∙◌, ap, sym, arith, length}
 use Rattle.std.proofs.lemmas.Result.{err_from_is_err_and}
-use Rattle.define_waves.specs.Waves.{wave}
+use Rattle.define_searches.specs.Waves.{wave}
 use Rattle.pricing_pool.specs.SoFar.{pricing_so_far}
 use Rattle.pricing_pool.proofs.Waving.{one_more, part}
 use Rattle.pricing_pool.proofs.Whole.{ceiling, wave_stops}

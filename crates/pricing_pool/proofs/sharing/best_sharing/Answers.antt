@@ -1,6 +1,6 @@
 use Rattle.std.proofs.Common.{ap, subst}
 use Rattle.define_searches.specs.Compositions.{price}
-use Rattle.define_waves.specs.Waves.{best_in_waves}
+use Rattle.define_searches.specs.Waves.{best_in_waves}
 use Rattle.pricing_pool.specs.Sharing.{AnswersSharing}
 use Rattle.pricing_pool.proofs.sharing.best_sharing.Goals as goal
 

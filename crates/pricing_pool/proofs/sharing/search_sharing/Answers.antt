@@ -3,7 +3,7 @@ use Rattle.std.specs.Int.{w128}
 use Rattle.std.specs.List.{AllByRecursion}
 use Rattle.std.proofs.lemmas.Int.{ints, to_z-of_z}
 use Rattle.std.proofs.lemmas.Result.{err_from_is_err_and}
-use Rattle.define_waves.specs.Below.{IsFront}
+use Rattle.define_searches.specs.Below.{IsFront}
 use Rattle.pricing_pool.specs.SoFar.{pricing_so_far}
 use Rattle.pricing_pool.proofs.SharedWaves.{fronts_stop, short_fronts, whole_answers, whole_stops}
 use Rattle.pricing_pool.proofs.sharing.search_sharing.Goals as goal

@@ -1,8 +1,8 @@
 use Rattle.std.proofs.Common.{rules, sym, ap, ◌∙◌, subst, FitsSigned, of_z, to_z}
 use Rattle.std.specs.Int.{w128}
 use Rattle.std.proofs.lemmas.Int.{to_z-of_z}
-use Rattle.define_waves.specs.Below.{IsFront, best_below, search_from}
-use Rattle.define_waves.proofs.Below.{finds_best}
+use Rattle.define_searches.specs.Below.{IsFront, best_below, search_from}
+use Rattle.define_searches.proofs.Below.{finds_best}
 use Rattle.panel_search.proofs.Kept.{answers_kept}
 use Rattle.panel_search.proofs.priced.PricedRow.best_from.Goals as goal
 

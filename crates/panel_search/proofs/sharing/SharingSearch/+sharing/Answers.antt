@@ -5,7 +5,7 @@ use Rattle.define_searches.specs.Best.{Qualifies}
 use Rattle.define_searches.specs.Compositions.{weight_in}
 use Rattle.define_searches.specs.Fronts.{is_live_above, is_reachable}
 use Rattle.define_searches.specs.Visits.{Pricing}
-use Rattle.define_waves.specs.Below.{IsFront, child_best}
+use Rattle.define_searches.specs.Below.{IsFront, child_best}
 use Rattle.panel_search.specs.Front.{Tracks}
 use Rattle.panel_search.specs.Pricing.{pricing_of, CanTakeWithin, children_best}
 use Rattle.panel_search.specs.Sharing.{Exceeds, FrontsWithin, Goes, IsBeaten, IsBounded, Shares, priced_of}

@@ -1,7 +1,7 @@
 use Rattle.std.proofs.Common.{[], take, drop, length, sym, ap, ◌∙◌, refl, arith, subst}
 use Rattle.define_searches.specs.Compositions.{weight_in}
 use Rattle.define_searches.specs.Fronts.{is_live_above}
-use Rattle.define_waves.specs.Below.{child_best}
+use Rattle.define_searches.specs.Below.{child_best}
 use Rattle.laws_of_fronts.proofs.Fronts.{front_length}
 use Rattle.panel_search.specs.Pricing.{pricing_of}
 use Rattle.panel_search.specs.Sharing.{Shares}

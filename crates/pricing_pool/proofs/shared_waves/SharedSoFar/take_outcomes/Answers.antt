@@ -2,7 +2,7 @@ use Rattle.std.proofs.Common.{◌+◌, ◌<◌, length, take, sym, subst, arith}
 use Rattle.std.proofs.lemmas.Int.{ints}
 use Rattle.std.proofs.lemmas.List.{take_all}
 use Rattle.std.proofs.lemmas.Result.{err_from_is_err_and}
-use Rattle.define_waves.specs.Waves.{wave}
+use Rattle.define_searches.specs.Waves.{wave}
 use Rattle.panel_search.specs.Sharing.{Shares}
 use Rattle.pricing_pool.specs.Sharing.{answers_shared}
 use Rattle.pricing_pool.specs.SoFar.{pricing_so_far}

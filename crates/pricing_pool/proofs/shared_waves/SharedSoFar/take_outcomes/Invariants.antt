@@ -1,6 +1,6 @@
 use Rattle.std.proofs.Common.{◌≤◌, take}
 use Rattle.std.specs.Prelude.{◌≤ℤ◌}
-use Rattle.define_waves.specs.Waves.{wave}
+use Rattle.define_searches.specs.Waves.{wave}
 use Rattle.panel_search.specs.Sharing.{Shares}
 use Rattle.pricing_pool.specs.SoFar.{pricing_so_far}
 use Rattle.pricing_pool.proofs.shared_waves.SharedSoFar.take_outcomes.Given as goal

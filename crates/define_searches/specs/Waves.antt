@@ -8,7 +8,7 @@ use Rattle.define_searches.specs.Classes.{Class, Classes}
 use Rattle.define_searches.specs.Compositions.{counts_of, weight_in}
 use Rattle.define_searches.specs.Fronts.{is_live_above}
 use Rattle.define_searches.specs.Visits.{Pricing}
-use Rattle.define_waves.specs.Below.{search_from}
+use Rattle.define_searches.specs.Below.{search_from}
 
 -- how many lists of counts these classes have, each count from the class's least to its most
 abbrev pub lists_of : List Class → ℕ

@@ -15,10 +15,10 @@ use Rattle.define_searches.specs.Fronts.{HaveEntries, is_live_above, later_than}
 use Rattle.define_searches.specs.Visits.{Pricing}
 use Rattle.define_searches.proofs.FirstSearch.{InOrder, Split, completions_of_none}
 use Rattle.define_searches.proofs.BestSearch.{Kept, keep, keep_none, keeps_first_greatest, told, sought, none_better}
-use Rattle.define_waves.specs.Below.{search_from}
-use Rattle.define_waves.specs.Waves.{best_in_waves, keep_heavier, piece_depth, pieces, pieces_below, take_piece, wave, waves}
-use Rattle.define_waves.proofs.Below.{finds_greatest, greatest_is}
-use Rattle.define_waves.proofs.Pieces.{IsAtLeast, floor_rises, not_above, pieces_keep, piece_lengths, depth_within}
+use Rattle.define_searches.specs.Below.{search_from}
+use Rattle.define_searches.specs.Waves.{best_in_waves, keep_heavier, piece_depth, pieces, pieces_below, take_piece, wave, waves}
+use Rattle.define_searches.proofs.Below.{finds_greatest, greatest_is}
+use Rattle.define_searches.proofs.Pieces.{IsAtLeast, floor_rises, not_above, pieces_keep, piece_lengths, depth_within}
 
 -- ---- keeping what a piece found
 

@@ -1,5 +1,5 @@
-use Rattle.define_waves.proofs.Pieces.{piece_lengths, pieces_are}
-use Rattle.define_waves.proofs.pieces_are_fronts.Goals as goal
+use Rattle.define_searches.proofs.Pieces.{piece_lengths, pieces_are}
+use Rattle.define_searches.proofs.waves.pieces_are_fronts.Goals as goal
 
 pub returns-clause-fronts : goal.returns-clause-fronts
 returns-clause-fronts c = pieces_are

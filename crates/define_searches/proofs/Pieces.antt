@@ -16,9 +16,9 @@ use Rattle.define_searches.specs.Compositions.{counts_of, counts_down, weight_in
 use Rattle.define_searches.specs.Fronts.{HaveEntries, is_live_above}
 use Rattle.define_searches.proofs.FirstSearch.{InOrder, Split, child_splits}
 use Rattle.define_searches.proofs.BestSearch.{Kept, keep, keep_none, sought, none_better, sought_by_child}
-use Rattle.define_waves.specs.Below.{IsFront}
-use Rattle.define_waves.specs.Waves.{Pieces, lists_of, piece_depth, together, pieces_below, pieces}
-use Rattle.define_waves.proofs.Below.{Fits, fits_none, fitting_is_front}
+use Rattle.define_searches.specs.Below.{IsFront}
+use Rattle.define_searches.specs.Waves.{Pieces, lists_of, piece_depth, together, pieces_below, pieces}
+use Rattle.define_searches.proofs.Below.{Fits, fits_none, fitting_is_front}
 
 -- ---- a floor that has risen
 

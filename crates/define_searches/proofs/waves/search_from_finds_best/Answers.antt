@@ -1,5 +1,5 @@
-use Rattle.define_waves.proofs.Below.{finds_best, found_qualifies, none_where}
-use Rattle.define_waves.proofs.search_from_finds_best.Goals as goal
+use Rattle.define_searches.proofs.Below.{finds_best, found_qualifies, none_where}
+use Rattle.define_searches.proofs.waves.search_from_finds_best.Goals as goal
 
 pub returns-clause-best : goal.returns-clause-best
 returns-clause-best c = finds_best

@@ -3,8 +3,6 @@
 //! threads; `define_runs`, whose pricing counts the visits of this search; and `leximin_run`, which prices by it.
 //!
 //! The functions have no body. They are the promises: laws over the definitions, and worked examples.
-#![tactic(auto)]
-
 ghost use Rattle.std.specs.Prelude.{◌≡◌, ◌↔◌, ℕ, List, [], ◌∷◌, ◌++◌, filter, map, length, None, Some, IsTrue, IsFalse, pos, ℤ, int_lt};
 ghost use Rattle.std.specs.List.{AllByRecursion};
 ghost use Rattle.define_rows.specs.Row.{Row};
@@ -12,9 +10,9 @@ ghost use Rattle.define_searches.specs.Classes.{Classes, IsSearchable, classes_o
 ghost use Rattle.define_searches.specs.Compositions.{all_counts, attains, is_composition, price, weight_in};
 ghost use Rattle.define_searches.specs.Fronts.{HaveEntries, later_than};
 ghost use Rattle.define_searches.specs.WorkedSearches.{either, apart, row};
-ghost use Rattle.define_waves.specs.Below.{IsFront, QualifiesBelow, below, best_below, search_from};
-ghost use Rattle.define_waves.specs.Waves.{best_in_waves, piece_depth, pieces};
-ghost use Rattle.define_waves.specs.WorkedFronts.{first_gone, first_seated};
+ghost use Rattle.define_searches.specs.Below.{IsFront, QualifiesBelow, below, best_below, search_from};
+ghost use Rattle.define_searches.specs.Waves.{best_in_waves, piece_depth, pieces};
+ghost use Rattle.define_searches.specs.WorkedFronts.{first_gone, first_seated};
 
 /// The compositions that begin with a front are exactly the compositions among the lists that continue it with a count for each later
 /// class.

@@ -16,7 +16,7 @@ use Rattle.define_searches.proofs.Best.{none_above}
 use Rattle.define_searches.proofs.BestSearch.{Kept, keep, keep_none, keeps_first_greatest, told, sought, none_better, enter_best_keeps}
 use Rattle.define_searches.proofs.Contained.{each_itself, filtered}
 use Rattle.define_searches.proofs.FirstSearch.{InOrder, Split, completions}
-use Rattle.define_waves.specs.Below.{IsFront, QualifiesBelow, begins_with, below, best_below, search_from}
+use Rattle.define_searches.specs.Below.{IsFront, QualifiesBelow, begins_with, below, best_below, search_from}
 
 -- ---- fronts, class by class
 
