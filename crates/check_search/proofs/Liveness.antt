@@ -7,9 +7,9 @@ use Rattle.define_searches.specs.declared.Bounds.{Bounds}
 use Rattle.define_searches.specs.Classes.{Class, Classes, HasPlaces, KeepsLimits}
 use Rattle.define_searches.specs.Compositions.{is_of_household, takes_one_of, takes_one_a_household}
 use Rattle.define_searches.specs.Fronts.{is_reachable, size_reachable, values_reachable}
-use Rattle.laws_of_fronts.specs.Front.{FrontTally, Tracks, Stands}
-use Rattle.laws_of_fronts.specs.Tallies.{AllReach}
-use Rattle.laws_of_fronts.proofs.Liveness.{decided, reach_of_child, size_of_child, values_of_child}
+use Rattle.define_searches.specs.Front.{FrontTally, Tracks, Stands}
+use Rattle.define_searches.specs.Tallies.{AllReach}
+use Rattle.define_searches.proofs.Liveness.{decided, reach_of_child, size_of_child, values_of_child}
 use Rattle.check_search.specs.Tallies.{OneFails}
 use Rattle.define_searches.proofs.FirstSearch.{taken_none}
 

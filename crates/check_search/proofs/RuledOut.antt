@@ -4,7 +4,7 @@ use Rattle.std.specs.Prelude.{slice_get, slice_index, slice_index_or}
 use Rattle.std.proofs.lemmas.Bool.{and_parts, false_from_ne_true, leb-true, lt-leb, ltb-false, ltb-true}
 use Rattle.std.proofs.lemmas.Option.{get_or_from_slice_get, slice_get-get_or}
 use Rattle.define_searches.specs.declared.Bounds.{Bounds}
-use Rattle.laws_of_fronts.specs.Tallies.{HasBound, HaveBounds, cell, reaches}
+use Rattle.define_searches.specs.Tallies.{HasBound, HaveBounds, cell, reaches}
 use Rattle.check_search.specs.Tallies.{OneFails}
 
 -- the bound that the code reads is that of the value that `values` has in category `c`

@@ -9,12 +9,12 @@ use Rattle.define_searches.specs.Classes.{Class, Classes}
 use Rattle.define_searches.specs.Fronts.{is_reachable, is_live_above, optimistic, taken_by}
 use Rattle.check_search.specs.Front.{Tracks}
 use Rattle.check_search.specs.Steps.{Begins, StandsAt}
-use Rattle.laws_of_fronts.specs.Front.{CanTake, AreWithin}
+use Rattle.define_searches.specs.Front.{CanTake, AreWithin}
 use Rattle.check_search.specs.Weights.{Weighs, WeighEach}
 use Rattle.check_search.specs.declared.searching.Search.{Search}
-use Rattle.laws_of_fronts.proofs.ClosedRows.{each_back}
-use Rattle.laws_of_fronts.proofs.Fronts.{within_more, placed, front_length}
-use Rattle.laws_of_fronts.proofs.WeightLaws.{weighs_back}
+use Rattle.define_searches.proofs.ClosedRows.{each_back}
+use Rattle.define_searches.proofs.Fronts.{within_more, placed, front_length}
+use Rattle.define_searches.proofs.WeightLaws.{weighs_back}
 use Rattle.define_searches.proofs.FirstSearch.{taken_none}
 
 -- If only the tally changes, and it then tracks the front with the classes `rest'` still to come, the search is still at the front.

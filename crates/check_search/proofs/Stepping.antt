@@ -12,10 +12,10 @@ use Rattle.define_searches.specs.Visits.{Search as Due, one_by_one}
 use Rattle.check_search.specs.Steps.{StandsAt, Steps, StepsFrom, child_above, children_above, counts_at, counts_of_first}
 use Rattle.check_search.specs.declared.searching.BudgetSpent.{BudgetSpent}
 use Rattle.check_search.specs.declared.searching.Search.{Search}
-use Rattle.laws_of_fronts.specs.Front.{Stands}
-use Rattle.laws_of_fronts.proofs.InTurn.{after_nothing, at_least_one, found_at_once, found_later, then_next}
-use Rattle.laws_of_fronts.proofs.Tracking.{comes_next}
-use Rattle.laws_of_fronts.proofs.WeightLaws.{element_at}
+use Rattle.define_searches.specs.Front.{Stands}
+use Rattle.define_searches.proofs.InTurn.{after_nothing, at_least_one, found_at_once, found_later, then_next}
+use Rattle.define_searches.proofs.Tracking.{comes_next}
+use Rattle.define_searches.proofs.WeightLaws.{element_at}
 
 -- The children's search is that of the first child, and then that of the others.
 children_more : (all : Classes) (closed : List Row) (row : Row) (later : List Class) (front : List ℕ) (c : ℕ) (counts : List ℕ) →

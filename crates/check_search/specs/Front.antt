@@ -1,10 +1,10 @@
--- What the code's tally of a front means, in the terms of `laws_of_fronts`.
+-- What the code's tally of a front means, in the terms of `define_searches`.
 use Rattle.std.specs.Prelude.{ℕ, List}
 use Rattle.define_searches.specs.Classes.{Class, Classes}
-use Rattle.laws_of_fronts.specs.Front as laws
+use Rattle.define_searches.specs.Front as laws
 use Rattle.check_search.specs.declared.tally.Tally.{Tally}
 
--- the tally in the form of `laws_of_fronts`
+-- the tally in the form of `define_searches`
 abbrev pub numbers : Tally → laws.FrontTally
 numbers tally = record { taken = tally.taken; held = tally.held.items; later_taken = tally.later_taken; later = tally.later.items; homes = tally.homes.items }
 

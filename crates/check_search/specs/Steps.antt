@@ -6,7 +6,7 @@ use Rattle.define_searches.specs.Classes.{Class, Classes}
 use Rattle.define_searches.specs.Compositions.{counts_of}
 use Rattle.define_searches.specs.Fronts.{is_live_above, is_reachable}
 use Rattle.define_searches.specs.Visits.{Search as Due, one_by_one}
-use Rattle.laws_of_fronts.specs.Front.{AreWithin}
+use Rattle.define_searches.specs.Front.{AreWithin}
 use Rattle.check_search.specs.Front.{Tracks}
 use Rattle.check_search.specs.Weights.{Weighs, WeighEach}
 use Rattle.check_search.specs.declared.searching.BudgetSpent.{BudgetSpent}

@@ -1,7 +1,7 @@
 -- Values that rule out a count. The contracts of src/tallies.rt cite it.
 use Rattle.std.specs.Prelude.{◌≡◌, ℕ, ◌<◌, false, List, length, slice_index}
 use Rattle.define_searches.specs.declared.Bounds.{Bounds}
-use Rattle.laws_of_fronts.specs.Tallies.{HasBound, reaches}
+use Rattle.define_searches.specs.Tallies.{HasBound, reaches}
 
 -- if `count` more members who have `values` are taken, the bounds of one of these values can't be met any more
 abbrev pub OneFails : List (List Bounds) → List ℕ → List ℕ → List ℕ → ℕ → Type 0

@@ -3,7 +3,7 @@ use Rattle.std.specs.Prelude.{◌≡◌, ◌∷◌, List, map}
 use Rattle.define_checks.specs.Caps.{classes_at, stage_row}
 use Rattle.define_pools.specs.Certificate.{Stage}
 use Rattle.define_pools.specs.Pool.{Pool}
-use Rattle.laws_of_fronts.specs.Weights.{AreNarrow, EachNarrow}
+use Rattle.define_searches.specs.Weights.{AreNarrow, EachNarrow}
 use Rattle.check_search.specs.Weights.{IsSummed, SumEach}
 use Rattle.check_search.specs.declared.terms.Terms.{Terms}
 

@@ -1,8 +1,8 @@
--- The greatest sums and the weights that the code keeps, as the lists of `laws_of_fronts`.
+-- The greatest sums and the weights that the code keeps, as the lists of `define_searches`.
 use Rattle.std.specs.Prelude.{ℕ, List, ℤ}
 use Rattle.define_rows.specs.Row.{Row}
 use Rattle.define_searches.specs.Classes.{Classes}
-use Rattle.laws_of_fronts.specs.Weights as laws
+use Rattle.define_searches.specs.Weights as laws
 use Rattle.check_search.specs.declared.greatest.Sums.{Sums}
 use Rattle.check_search.specs.declared.weighing.Weights.{Weights}
 

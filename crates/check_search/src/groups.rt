@@ -2,7 +2,7 @@
 
 ghost use Rattle.std.specs.Prelude.{◌≡◌, ◌<◌, length, take};
 ghost use Rattle.define_searches.specs.Classes.{HasPlaces, KeepsLimits, least_taken, most_taken, volunteer_count};
-ghost use Rattle.laws_of_fronts.specs.Front.{Stands};
+ghost use Rattle.define_searches.specs.Front.{Stands};
 
 use define_pools::Standing;
 use define_searches::Bounds;

@@ -2,7 +2,7 @@
 
 ghost use Rattle.std.specs.Prelude.{◌≡◌, ◌≤◌, length};
 ghost use Rattle.define_searches.specs.Classes.{IsKnownHousehold};
-ghost use Rattle.laws_of_fronts.specs.Homes.{AreFew, HasMoreAt, CanGiveAt, has_room};
+ghost use Rattle.define_searches.specs.Homes.{AreFew, HasMoreAt, CanGiveAt, has_room};
 
 // Adds `count` to the counter of a household, if there is one.
 pub(crate) fn add_at(homes: &mut [usize], household: Option<usize>, count: usize)

@@ -3,10 +3,10 @@
 
 ghost use Rattle.std.specs.Prelude.{◌≡◌, ◌≤◌, ◌<◌, ◌+◌, [], ◌∷◌, ◌++◌, true, false, ◌&&◌, length, take, drop, int_le, int_lt, IfOk, OnOk, OnErr};
 ghost use Rattle.std.specs.List.{list_all};
-ghost use Rattle.laws_of_fronts.specs.Answers.{AnswersWithin};
+ghost use Rattle.define_searches.specs.Answers.{AnswersWithin};
 ghost use Rattle.check_search.specs.Answers.{Answers};
 ghost use Rattle.check_search.specs.Steps.{Begins, Finds, StandsAt, Steps, child_above, children_above, counts_at};
-ghost use Rattle.laws_of_fronts.specs.Front.{CanTake};
+ghost use Rattle.define_searches.specs.Front.{CanTake};
 ghost use Rattle.check_search.specs.Terms.{AreTerms};
 ghost use Rattle.check_search.specs.Weights.{Weighs, WeighEach};
 ghost use Rattle.define_checks.specs.Visits.{above_search, enter_above};

@@ -2,7 +2,7 @@
 //! `tally`.
 
 ghost use Rattle.std.specs.Prelude.{◌≡◌, ℕ, List, true, false, ◌≤◌, ◌<◌, ◌+◌, ◌^◌, length};
-ghost use Rattle.laws_of_fronts.specs.Tallies.{HaveCells, CanGive, AreAtMost, HasMore, HaveBounds, AllReach, FitCells, EachReaches, SomeFails, within_reach};
+ghost use Rattle.define_searches.specs.Tallies.{HaveCells, CanGive, AreAtMost, HasMore, HaveBounds, AllReach, FitCells, EachReaches, SomeFails, within_reach};
 ghost use Rattle.check_search.specs.Tallies.{OneFails};
 
 use crate::groups::ValueBounds;

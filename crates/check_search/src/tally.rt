@@ -1,9 +1,9 @@
 //! What a front takes, in all, of each value and of each household, and the most that the classes after it can give.
 
 ghost use Rattle.std.specs.Prelude.{◌≡◌, ℕ, false, ◌+◌, ◌-◌, ◌*◌, ◌≤◌, ◌<◌, ◌++◌, ◌^◌, [], ◌∷◌, IfOk, true, nat_le, ◌&&◌, drop, length, slice_index_or};
-ghost use Rattle.laws_of_fronts.specs.Front.{Gives};
+ghost use Rattle.define_searches.specs.Front.{Gives};
 ghost use Rattle.check_search.specs.Front.{Tracks};
-ghost use Rattle.laws_of_fronts.specs.Tallies.{AreAtMost, HasBound};
+ghost use Rattle.define_searches.specs.Tallies.{AreAtMost, HasBound};
 ghost use Rattle.define_searches.specs.declared.Bounds.{Bounds};
 ghost use Rattle.define_searches.specs.Compositions.{takes_one_a_household};
 ghost use Rattle.define_searches.specs.Fronts.{is_reachable, size_reachable, taken_by, value_reachable, values_reachable};

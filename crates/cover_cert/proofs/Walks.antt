@@ -3,8 +3,8 @@ use Rattle.std.proofs.Common.{◌≡◌, ℕ, ◌+◌, ◌≤◌, ◌<◌, List,
 use Rattle.std.proofs.lemmas.List.{length-take-le, take_more}
 use Rattle.define_searches.specs.Classes.{Classes, KeepsLimits}
 use Rattle.define_searches.specs.Fronts.{taken_by}
-use Rattle.laws_of_fronts.specs.Front.{AreWithin, FrontTally, Tracks}
-use Rattle.laws_of_fronts.proofs.WeightLaws.{within_few, within_first}
+use Rattle.define_searches.specs.Front.{AreWithin, FrontTally, Tracks}
+use Rattle.define_searches.proofs.WeightLaws.{within_few, within_first}
 
 module _ (all : Classes) (front : List ℕ) (place : ℕ) (below : place < length front) where
   abbrev first : List ℕ

@@ -6,7 +6,7 @@ ghost use Rattle.check_search.specs.Terms.{AreTerms};
 ghost use Rattle.cover_model.specs.Causes.{seen_cause};
 ghost use Rattle.define_covers.specs.Causes.{applies, closed_fails as fails_closed, value_fails as fails_value};
 ghost use Rattle.define_searches.specs.Fronts.{optimistic, taken_by};
-ghost use Rattle.laws_of_fronts.specs.Front.{AreWithin};
+ghost use Rattle.define_searches.specs.Front.{AreWithin};
 
 use crate::steps::Steps;
 use check_search::{Classes, Tally, Terms, optimistic_weight};

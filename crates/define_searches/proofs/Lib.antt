@@ -21,3 +21,17 @@ pub mod NothingToPrice
 pub mod Below
 pub mod Pieces
 pub mod WavesFind
+pub mod Adding
+pub mod Beside
+pub mod ClosedRows
+pub mod Filters
+pub mod Fronts
+pub mod HouseholdTallies
+pub mod InTurn
+pub mod Liveness
+pub mod MadeClasses
+pub mod Places
+pub mod Taken
+pub mod Tracking
+pub mod UnitSums
+pub mod WeightLaws

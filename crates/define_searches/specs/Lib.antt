@@ -8,3 +8,9 @@ pub mod WorkedSearches
 pub mod Below
 pub mod Waves
 pub mod WorkedFronts
+pub mod Answers
+pub mod Beside
+pub mod Front
+pub mod Homes
+pub mod Tallies
+pub mod Weights

@@ -1,6 +1,6 @@
 //! Classes of alike volunteers, compositions, fronts and when a front is live, and the searches with the visits that they count. The
 //! definitions are in `specs/`. Stands on `define_pools` and the rows of `define_rows`. Used by `alike`, which makes classes,
-//! `panel_search`, which searches, `define_checks`, whose check makes classes of its own, `laws_of_fronts`, `define_searches`,
+//! `panel_search`, which searches, `define_checks`, whose check makes classes of its own, `define_searches`, `define_searches`,
 //! `define_spreads`, `define_runs`, `define_loosenings`, and the crates above these.
 //!
 //! The functions have no body: their contracts are laws over the definitions, and worked examples. Each law is a promise. The laws hold for

@@ -6,7 +6,7 @@ use Rattle.std.proofs.lemmas.Bool.{and_parts, eqb-true, false≢true, lt-ltb, le
 use Rattle.std.proofs.lemmas.List.{drop_all}
 use Rattle.std.proofs.lemmas.List.Elements.{recursion_from_All}
 use Rattle.define_searches.specs.Classes.{Class, Classes, KeepsLimits}
-use Rattle.laws_of_fronts.specs.Front.{AreWithin}
+use Rattle.define_searches.specs.Front.{AreWithin}
 use Rattle.define_covers.specs.FrontOrder.{continues, filled, turned, turned_at}
 use Rattle.laws_of_covers.specs.Counts.{Fits}
 

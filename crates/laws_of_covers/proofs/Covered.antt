@@ -17,7 +17,7 @@ use Rattle.define_checks.specs.Caps.{alike_at, classes_at, composition_above, fi
 use Rattle.define_checks.proofs.PassedCaps.{capped_where_none}
 use Rattle.define_checks.proofs.StageRows.{rows_have_entries}
 use Rattle.define_proofs.specs.TreeLines.{fault}
-use Rattle.laws_of_fronts.proofs.Tracking.{split_at}
+use Rattle.define_searches.proofs.Tracking.{split_at}
 use Rattle.define_covers.specs.Causes.{applies}
 use Rattle.define_covers.specs.Covers.{FrontLine}
 use Rattle.define_covers.specs.CoverVerdict.{fault_from, tree_fault}

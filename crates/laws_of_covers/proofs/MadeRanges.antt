@@ -19,7 +19,7 @@ use Rattle.define_covers.specs.Causes.{all_values, applies}
 use Rattle.define_covers.specs.Covers.{ByCap, ByClosed, ByHousehold, ByValue, Cause, FrontLine}
 use Rattle.define_covers.specs.CoverRanges.{is_cause, is_front_line, is_numbered, most_count, value_count}
 use Rattle.define_covers.specs.FrontOrder.{are_in_order, continues, turned}
-use Rattle.laws_of_fronts.proofs.WeightLaws.{count_few}
+use Rattle.define_searches.proofs.WeightLaws.{count_few}
 use Rattle.laws_of_covers.specs.Counts.{BeginningFits, Fits}
 use Rattle.laws_of_covers.specs.FirstCause.{causes, first_cause}
 use Rattle.laws_of_covers.specs.Made.{InRangesWhereSearched, SameValueCount}

@@ -1,5 +1,5 @@
 //! Laws of covers: a valid cover shows that the caps of its certificate hold, so that its lottery is leximin greatest. Stands on
-//! `define_covers` and the definitions below it, and on the laws of fronts (`laws_of_fronts`). Used by `cover_cert`, which checks covers
+//! `define_covers` and the definitions below it, and on the laws of fronts (`define_searches`). Used by `cover_cert`, which checks covers
 //! and makes them.
 //!
 //! The functions have no body. Their contracts are the laws, and the promises of this crate.

@@ -11,17 +11,17 @@ use Rattle.define_searches.specs.Fronts.{is_reachable, is_live_above, optimistic
 use Rattle.define_searches.specs.Visits.{Pricing, best_search, enter_best}
 use Rattle.panel_search.specs.Front.{Tracks}
 use Rattle.panel_search.specs.Pricing.{BeginsAt, StandsAt, Moves, children_best}
-use Rattle.laws_of_fronts.specs.Front.{CanTake, AreWithin, Stands}
+use Rattle.define_searches.specs.Front.{CanTake, AreWithin, Stands}
 use Rattle.panel_search.specs.Steps.{counts_below}
-use Rattle.laws_of_fronts.specs.Weights.{AreNarrow, EachNarrow}
+use Rattle.define_searches.specs.Weights.{AreNarrow, EachNarrow}
 use Rattle.panel_search.specs.Weights.{Weighs, WeighEach}
 use Rattle.panel_search.specs.declared.searching.BudgetSpent.{BudgetSpent}
 use Rattle.panel_search.specs.declared.pricing.BestSearch.{BestSearch}
-use Rattle.laws_of_fronts.proofs.ClosedRows.{each_back}
-use Rattle.laws_of_fronts.proofs.Tracking.{comes_next}
+use Rattle.define_searches.proofs.ClosedRows.{each_back}
+use Rattle.define_searches.proofs.Tracking.{comes_next}
 use Rattle.panel_search.proofs.Ranges.{LiveBetween, below_next, below_none, live_counts}
-use Rattle.laws_of_fronts.proofs.Fronts.{within_more, placed, front_length}
-use Rattle.laws_of_fronts.proofs.WeightLaws.{weighs_back}
+use Rattle.define_searches.proofs.Fronts.{within_more, placed, front_length}
+use Rattle.define_searches.proofs.WeightLaws.{weighs_back}
 use Rattle.define_searches.specs.Below.{child_best, search_from}
 
 -- ---- visits only grow

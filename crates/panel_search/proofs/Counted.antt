@@ -5,9 +5,9 @@ use Rattle.std.proofs.lemmas.List.{take_more, length-take-le}
 use Rattle.define_searches.specs.Classes.{Class, Classes, KeepsLimits}
 use Rattle.define_searches.specs.Compositions.{taken_of}
 use Rattle.define_searches.specs.Fronts.{most_given}
-use Rattle.laws_of_fronts.specs.Front.{AreWithin, Stands}
-use Rattle.laws_of_fronts.proofs.Tracking.{comes_next, most_more, most_of_none, taken_more, taken_within_all}
-use Rattle.laws_of_fronts.proofs.WeightLaws.{within_few, within_first}
+use Rattle.define_searches.specs.Front.{AreWithin, Stands}
+use Rattle.define_searches.proofs.Tracking.{comes_next, most_more, most_of_none, taken_more, taken_within_all}
+use Rattle.define_searches.proofs.WeightLaws.{within_few, within_first}
 use Rattle.panel_search.specs.Groups.{HasCategory}
 use Rattle.panel_search.specs.declared.counting.Group.{Group}
 

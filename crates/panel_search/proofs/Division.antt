@@ -23,10 +23,10 @@ use Rattle.panel_search.specs.declared.searching.SearchStop.{SearchStop}
 use Rattle.panel_search.specs.declared.searching.SearchStop.TheVariants.{Spent}
 use Rattle.panel_search.specs.Pieces.{IsLiveFront, counts_first, live_among, live_children}
 use Rattle.panel_search.specs.Steps.{counts_below}
-use Rattle.laws_of_fronts.specs.Front.{Stands}
-use Rattle.laws_of_fronts.proofs.Fronts.{class_limits}
+use Rattle.define_searches.specs.Front.{Stands}
+use Rattle.define_searches.proofs.Fronts.{class_limits}
 use Rattle.panel_search.proofs.Ranges.{LiveBetween, below_next, below_none, live_counts}
-use Rattle.laws_of_fronts.proofs.Tracking.{comes_next, stands_there}
+use Rattle.define_searches.proofs.Tracking.{comes_next, stands_there}
 
 -- ---- how many classes the front of a piece has
 

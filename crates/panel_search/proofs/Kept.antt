@@ -17,8 +17,8 @@ use Rattle.panel_search.specs.Pricers.{AreClosed}
 use Rattle.panel_search.specs.Weights.{IsSummed}
 use Rattle.panel_search.specs.declared.greatest.Sums.{Sums}
 use Rattle.panel_search.specs.declared.searching.SearchStop.{SearchStop}
-use Rattle.laws_of_fronts.specs.Front.{AreWithin}
-use Rattle.laws_of_fronts.proofs.Beside.{get_pushed}
+use Rattle.define_searches.specs.Front.{AreWithin}
+use Rattle.define_searches.proofs.Beside.{get_pushed}
 
 -- if a row with one entry per class and a reach below 2 ^ 127 is appended with its greatest sums, `AreClosed` still holds
 pub closed_more : (all : Classes) (rows : List Row) (sums : List Sums) (row : Row) (here : Sums) → AreClosed all rows sums → HaveEntries all (row ∷ []) → HaveReach all (row ∷ []) →

@@ -10,14 +10,14 @@ use Rattle.define_searches.specs.Classes.{Class, Classes, HasPlaces, KeepsLimits
 use Rattle.define_searches.specs.Compositions.{counts_down, counts_of, takes_one_a_household}
 use Rattle.define_searches.specs.Fronts.{is_reachable, size_reachable, values_reachable}
 use Rattle.panel_search.specs.Front.{Tracks}
-use Rattle.laws_of_fronts.specs.Front.{Stands}
-use Rattle.laws_of_fronts.specs.Homes.{has_room}
+use Rattle.define_searches.specs.Front.{Stands}
+use Rattle.define_searches.specs.Homes.{has_room}
 use Rattle.panel_search.specs.Steps.{counts_below}
-use Rattle.laws_of_fronts.specs.Tallies.{AllReach, HasBound, reaches}
+use Rattle.define_searches.specs.Tallies.{AllReach, HasBound, reaches}
 use Rattle.panel_search.specs.Tallies.{AreSmallBounds}
 use Rattle.panel_search.specs.declared.tally.Tally.{Tally}
-use Rattle.laws_of_fronts.proofs.Households.{child_households}
-use Rattle.laws_of_fronts.proofs.Liveness.{size_of_child, values_of_child, reach_of_child}
+use Rattle.define_searches.proofs.HouseholdTallies.{child_households}
+use Rattle.define_searches.proofs.Liveness.{size_of_child, values_of_child, reach_of_child}
 
 -- ---- the counts that keep the values within reach
 

@@ -18,12 +18,12 @@ use Rattle.define_searches.proofs.Contained.{each_itself, filtered}
 use Rattle.define_searches.proofs.FirstSearch.{InOrder, Split}
 use Rattle.define_searches.specs.Below.{IsFront, begins_with, below, child_best}
 use Rattle.define_searches.proofs.Below.{Fits, below_goes_on, fits_none, fitting_is_front, front_fits, front_splits}
-use Rattle.laws_of_fronts.specs.Front.{AreWithin, Stands}
+use Rattle.define_searches.specs.Front.{AreWithin, Stands}
 use Rattle.panel_search.specs.Front.{Tracks}
 use Rattle.panel_search.specs.Weights.{Weighs, WeighEach}
 use Rattle.panel_search.specs.declared.searching.BudgetSpent.{BudgetSpent}
 use Rattle.panel_search.specs.declared.pricing.BestSearch.{BestSearch}
-use Rattle.laws_of_fronts.proofs.Tracking.{comes_next}
+use Rattle.define_searches.proofs.Tracking.{comes_next}
 use Rattle.panel_search.specs.Pricers.{Priced}
 use Rattle.panel_search.specs.Pricing.{StandsAt, children_best, pricing_of}
 use Rattle.panel_search.specs.Sharing.{Exceeds, FrontsWithin, Goes, IsBeaten, IsBounded, Shares, begun_at}

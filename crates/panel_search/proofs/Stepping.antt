@@ -10,9 +10,9 @@ use Rattle.panel_search.specs.Steps.{StandsAt, Steps, StepsFrom, child_first, ch
 use Rattle.panel_search.specs.declared.searching.BudgetSpent.{BudgetSpent}
 use Rattle.panel_search.specs.declared.searching.Search.{Search}
 use Rattle.panel_search.proofs.Ranges.{LiveBetween, below_next, below_none, live_counts}
-use Rattle.laws_of_fronts.specs.Front.{Stands}
-use Rattle.laws_of_fronts.proofs.InTurn.{after_nothing, at_least_one, found_at_once, found_later, then_next}
-use Rattle.laws_of_fronts.proofs.Tracking.{comes_next}
+use Rattle.define_searches.specs.Front.{Stands}
+use Rattle.define_searches.proofs.InTurn.{after_nothing, at_least_one, found_at_once, found_later, then_next}
+use Rattle.define_searches.proofs.Tracking.{comes_next}
 
 -- to search the children with the counts `c ∷ counts` is to search the child with `c` and then, if nothing was found, those with `counts`
 children_more : (all : Classes) (later : List Class) (front : List ℕ) (c : ℕ) (counts : List ℕ) →

@@ -13,10 +13,10 @@ use Rattle.define_rows.proofs.SumLaws.{abs_sum_le}
 use Rattle.define_searches.specs.Classes.{Class, Classes}
 use Rattle.define_searches.specs.Fronts.{most_given, put_falling, falling, units, sum_of}
 use Rattle.define_searches.proofs.GreatestSum.{AtMost, Falls, falling_falls, length-falling, length-replicate}
-use Rattle.laws_of_fronts.specs.Weights.{at, units_from}
-use Rattle.laws_of_fronts.proofs.Tracking.{most_more, most_of_none}
-use Rattle.laws_of_fronts.proofs.UnitSums.{sum_more, width, same_units_width}
-use Rattle.laws_of_fronts.proofs.WeightLaws.{weight_fits}
+use Rattle.define_searches.specs.Weights.{at, units_from}
+use Rattle.define_searches.proofs.Tracking.{most_more, most_of_none}
+use Rattle.define_searches.proofs.UnitSums.{sum_more, width, same_units_width}
+use Rattle.define_searches.proofs.WeightLaws.{weight_fits}
 use Rattle.panel_search.proofs.Counted.{drop_all}
 use Rattle.panel_search.specs.Units.{IsBeside, heavier, heavier_sum, no_lighter, units_with}
 use Rattle.panel_search.specs.declared.units.Beside.{Beside}

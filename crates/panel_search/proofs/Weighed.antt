@@ -4,9 +4,9 @@ use Rattle.std.specs.Prelude.{unsigned_abs}
 use Rattle.std.proofs.lemmas.List.{take_more, length-take-le}
 use Rattle.define_searches.specs.Classes.{Classes, KeepsLimits}
 use Rattle.define_searches.specs.Compositions.{weight_in}
-use Rattle.laws_of_fronts.specs.Front.{AreWithin}
-use Rattle.laws_of_fronts.specs.Weights.{at, AreNarrow}
-use Rattle.laws_of_fronts.proofs.WeightLaws.{child_narrow, weight_more, within_first}
+use Rattle.define_searches.specs.Front.{AreWithin}
+use Rattle.define_searches.specs.Weights.{at, AreNarrow}
+use Rattle.define_searches.proofs.WeightLaws.{child_narrow, weight_more, within_first}
 
 module _ (all : Classes) (entries : List ℤ) (front : List ℕ) (place : ℕ) (narrow : AreNarrow all entries) (below : place < length front) (few : length front ≤ length all.classes) where
   long : length (take place front) ≡ place

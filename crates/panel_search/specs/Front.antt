@@ -1,10 +1,10 @@
--- The code's tally of the front that a search is at, as the record `FrontTally` of `laws_of_fronts`.
+-- The code's tally of the front that a search is at, as the record `FrontTally` of `define_searches`.
 use Rattle.std.specs.Prelude.{ℕ, List}
 use Rattle.define_searches.specs.Classes.{Class, Classes}
-use Rattle.laws_of_fronts.specs.Front as laws
+use Rattle.define_searches.specs.Front as laws
 use Rattle.panel_search.specs.declared.tally.Tally.{Tally}
 
--- a tally as the record of `laws_of_fronts`
+-- a tally as the record of `define_searches`
 abbrev pub numbers : Tally → laws.FrontTally
 numbers tally = record { taken = tally.taken; held = tally.held.items; later_taken = tally.later_taken; later = tally.later.items; homes = tally.homes.items }
 

@@ -4,7 +4,7 @@ use Rattle.std.specs.Prelude.{List, ◌∷◌}
 use Rattle.define_rows.specs.Row.{Row}
 use Rattle.define_searches.specs.Classes.{Classes}
 use Rattle.define_searches.specs.Fronts.{HaveEntries, HaveReach}
-use Rattle.laws_of_fronts.specs.Weights.{AreNarrow, EachNarrow}
+use Rattle.define_searches.specs.Weights.{AreNarrow, EachNarrow}
 use Rattle.panel_search.specs.Weights.{IsSummed, SumEach}
 use Rattle.panel_search.specs.declared.greatest.Sums.{Sums}
 

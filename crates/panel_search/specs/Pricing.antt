@@ -8,7 +8,7 @@ use Rattle.panel_search.specs.Front.{Tracks}
 use Rattle.panel_search.specs.Weights.{Weighs, WeighEach}
 use Rattle.panel_search.specs.declared.searching.BudgetSpent.{BudgetSpent}
 use Rattle.panel_search.specs.declared.pricing.BestSearch.{BestSearch}
-use Rattle.laws_of_fronts.specs.Front.{AreWithin, CanTake}
+use Rattle.define_searches.specs.Front.{AreWithin, CanTake}
 use Rattle.define_searches.specs.Below.{child_best}
 
 -- a search is at a reachable front of the first `depth` classes, and its tally has the classes `later` still to come

@@ -1,7 +1,7 @@
 -- Bounds that are so small that a search's sums with them fit 64 bits. The contracts of `tallies` cite it.
 use Rattle.std.specs.Prelude.{ℕ, ◌≤◌, ◌<◌, List, length}
 use Rattle.define_searches.specs.declared.Bounds.{Bounds}
-use Rattle.laws_of_fronts.specs.Tallies.{HasBound}
+use Rattle.define_searches.specs.Tallies.{HasBound}
 
 -- each upper bound is at most 999
 abbrev pub AreSmallBounds : List (List Bounds) → Type 0

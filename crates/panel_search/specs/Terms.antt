@@ -1,5 +1,5 @@
 -- What a search for the best composition reads. The contracts of `pricing`, `priced` and `dividing` cite it.
-use Rattle.laws_of_fronts.specs.Weights.{AreNarrow, EachNarrow}
+use Rattle.define_searches.specs.Weights.{AreNarrow, EachNarrow}
 use Rattle.panel_search.specs.Weights.{IsSummed, SumEach}
 use Rattle.panel_search.specs.declared.pricing.Terms.{Terms}
 

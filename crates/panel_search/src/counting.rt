@@ -4,7 +4,7 @@
 ghost use Rattle.std.specs.Prelude.{◌≡◌, ◌≤◌, if◌then◌else◌, drop, length};
 ghost use Rattle.define_searches.specs.Compositions.{is_of_household, taken_of};
 ghost use Rattle.define_searches.specs.Fronts.{most_given};
-ghost use Rattle.laws_of_fronts.specs.Front.{AreWithin};
+ghost use Rattle.define_searches.specs.Front.{AreWithin};
 ghost use Rattle.panel_search.specs.Groups.{HasCategory, is_in_group};
 
 use alike::{Class, Classes};

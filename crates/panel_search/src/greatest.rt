@@ -2,7 +2,7 @@
 //! entry. `weighing` reads the table.
 
 ghost use Rattle.std.specs.Prelude.{◌≡◌, ◌+◌, ◌<◌, ◌≤◌, drop, length, IfOk};
-ghost use Rattle.laws_of_fronts.specs.Weights.{AreNarrow, CanAdd, HasUnit, IsGreater, AreGreatest, HoldsSums, units_from};
+ghost use Rattle.define_searches.specs.Weights.{AreNarrow, CanAdd, HasUnit, IsGreater, AreGreatest, HoldsSums, units_from};
 ghost use Rattle.panel_search.specs.Weights.{IsSummed};
 ghost use Rattle.define_searches.specs.Fronts.{greatest_sum};
 

@@ -1,6 +1,6 @@
 //! The searches for the first composition of a pool's classes, and for the best one in a row, under a budget of visits. Stands on `alike`,
 //! which makes the classes, on `define_searches` and `define_searches`, which say what a visit is and what a search finds, on `define_rows`
-//! for rows, and on `laws_of_fronts`. Used by `pricing_pool`, which searches the pieces on threads, by `leximin_run`, and by the command
+//! for rows, and on `define_searches`. Used by `pricing_pool`, which searches the pieces on threads, by `leximin_run`, and by the command
 //! `panel`; `engine_tests` tests it.
 //!
 //! Promises: `first`, `best`, `pieces` and `best_from`, and the calls of `Pricer` and `PricedRow`, which keep the tables that each search

@@ -6,8 +6,8 @@ ghost use Rattle.std.specs.List.{enumerate_from, list_all};
 ghost use Rattle.define_searches.specs.Compositions.{taken_of, takes_one_a_household, takes_one_of};
 ghost use Rattle.define_searches.specs.Fronts.{HaveEntries, HaveReach, is_live_above, is_reachable, most_given, optimistic, size_reachable, taken_by, value_reachable, values_reachable};
 ghost use Rattle.define_searches.specs.Below.{IsFront};
-ghost use Rattle.laws_of_fronts.specs.Front.{AreWithin};
-ghost use Rattle.laws_of_fronts.specs.Weights.{EachNarrow};
+ghost use Rattle.define_searches.specs.Front.{AreWithin};
+ghost use Rattle.define_searches.specs.Weights.{EachNarrow};
 ghost use Rattle.panel_search.specs.Groups.{HasCategory, is_in_group};
 
 use crate::counting::{Group, given, taken};

@@ -6,7 +6,7 @@ ghost use Rattle.std.specs.List.{list_all};
 ghost use Rattle.panel_search.specs.Answers.{AnswersBest, AnswersBestWithin, AnswersWeighed, AnswersWeighedWithin, IsKept};
 ghost use Rattle.panel_search.specs.Front.{Tracks};
 ghost use Rattle.panel_search.specs.Pricing.{BeginsAt, StandsAt, Moves, EndsWithin, pricing_of, CanTakeWithin, children_best};
-ghost use Rattle.laws_of_fronts.specs.Front.{CanTake, AreWithin};
+ghost use Rattle.define_searches.specs.Front.{CanTake, AreWithin};
 ghost use Rattle.panel_search.specs.Pieces.{live_among, live_children};
 ghost use Rattle.panel_search.specs.Steps.{counts_below, LiveWithin};
 ghost use Rattle.panel_search.specs.Terms.{AreTerms};

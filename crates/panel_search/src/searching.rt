@@ -1,7 +1,7 @@
 //! The search for the first composition, front by front: classes in their order, the greatest count first.
 
 ghost use Rattle.std.specs.Prelude.{◌≡◌, true, ◌≤◌, ◌<◌, ◌+◌, [], ◌∷◌, ◌++◌, length, take, drop, IfOk, OnOk, OnErr};
-ghost use Rattle.laws_of_fronts.specs.Answers.{AnswersWithin};
+ghost use Rattle.define_searches.specs.Answers.{AnswersWithin};
 ghost use Rattle.panel_search.specs.Answers.{Answers};
 ghost use Rattle.define_searches.specs.Compositions.{first_composition};
 ghost use Rattle.panel_search.specs.Front.{Tracks};

@@ -6,7 +6,7 @@ ghost use Rattle.panel_search.specs.Pricing.{BeginsAt, StandsAt, pricing_of, Can
 ghost use Rattle.panel_search.specs.Sharing.{AnswersShared, FrontsWithin, Goes, IsBounded, MayStand, Shared, Shares, begun_at, priced_of};
 ghost use Rattle.panel_search.specs.Steps.{counts_below, LiveWithin};
 ghost use Rattle.panel_search.specs.Terms.{AreTerms};
-ghost use Rattle.laws_of_fronts.specs.Front.{AreWithin, CanTake};
+ghost use Rattle.define_searches.specs.Front.{AreWithin, CanTake};
 ghost use Rattle.define_searches.specs.Classes.{IsSearchable};
 ghost use Rattle.define_searches.specs.Fronts.{HaveEntries, is_live_above, is_reachable};
 ghost use Rattle.define_searches.specs.Below.{IsFront, child_best};

@@ -2,7 +2,7 @@
 //! `tally`.
 
 ghost use Rattle.std.specs.Prelude.{◌≡◌, ℕ, true, false, ◌≤◌, ◌<◌, ◌+◌, ◌^◌, [], length, slice_index_or};
-ghost use Rattle.laws_of_fronts.specs.Tallies.{HaveCells, CanGive, AreAtMost, HasMore, HaveBounds, AllReach, FitCells, HasBound, EachReaches, SomeFails, within_reach};
+ghost use Rattle.define_searches.specs.Tallies.{HaveCells, CanGive, AreAtMost, HasMore, HaveBounds, AllReach, FitCells, HasBound, EachReaches, SomeFails, within_reach};
 ghost use Rattle.panel_search.specs.Tallies.{AreSmallBounds};
 
 use alike::{Bounds, ValueBounds};

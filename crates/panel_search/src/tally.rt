@@ -2,9 +2,9 @@
 //! give. The searches of `searching` and `pricing` keep one.
 
 ghost use Rattle.std.specs.Prelude.{◌≡◌, ℕ, ◌+◌, ◌-◌, ◌*◌, ◌≤◌, ◌<◌, ◌++◌, ◌^◌, [], ◌∷◌, IfOk, true, nat_le, ◌&&◌, drop, length};
-ghost use Rattle.laws_of_fronts.specs.Front.{Gives, AreWithin};
+ghost use Rattle.define_searches.specs.Front.{Gives, AreWithin};
 ghost use Rattle.panel_search.specs.Front.{Tracks};
-ghost use Rattle.laws_of_fronts.specs.Tallies.{AreAtMost};
+ghost use Rattle.define_searches.specs.Tallies.{AreAtMost};
 ghost use Rattle.define_searches.specs.Compositions.{takes_one_a_household};
 ghost use Rattle.define_searches.specs.Fronts.{is_reachable, size_reachable, taken_by, values_reachable};
 

@@ -4,8 +4,8 @@
 ghost use Rattle.std.specs.Prelude.{◌≡◌, ◌-◌, ◌≤◌, ◌&&◌, if◌then◌else◌, true, nat_le, drop, length};
 ghost use Rattle.define_searches.specs.Compositions.{weight_in};
 ghost use Rattle.define_searches.specs.Fronts.{greatest_sum, most_given, optimistic, taken_by};
-ghost use Rattle.laws_of_fronts.specs.Front.{AreWithin};
-ghost use Rattle.laws_of_fronts.specs.Weights.{AreNarrow, units_from};
+ghost use Rattle.define_searches.specs.Front.{AreWithin};
+ghost use Rattle.define_searches.specs.Weights.{AreNarrow, units_from};
 ghost use Rattle.panel_search.specs.Units.{IsBeside};
 
 use crate::weighing::with_count;

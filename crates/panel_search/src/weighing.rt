@@ -2,11 +2,11 @@
 
 ghost use Rattle.std.specs.Prelude.{◌≡◌, ◌+◌, ◌-◌, ◌*◌, ◌<◌, ◌≤◌, ◌^◌, ◌++◌, [], ◌∷◌, true, length, pos, ◌+ℤ◌, ◌*ℤ◌, unsigned_abs, int_le, IfOk};
 ghost use Rattle.std.specs.List.{list_all};
-ghost use Rattle.laws_of_fronts.specs.Weights.{AreNarrow, EachNarrow};
+ghost use Rattle.define_searches.specs.Weights.{AreNarrow, EachNarrow};
 ghost use Rattle.panel_search.specs.Weights.{IsSummed, SumEach, Weighs, WeighEach};
 ghost use Rattle.define_searches.specs.Fronts.{optimistic, taken_by};
 ghost use Rattle.define_searches.specs.Compositions.{weight_in};
-ghost use Rattle.laws_of_fronts.specs.Front.{AreWithin};
+ghost use Rattle.define_searches.specs.Front.{AreWithin};
 
 use crate::greatest::Sums;
 use alike::Classes;

@@ -8,9 +8,9 @@ use Rattle.define_searches.specs.declared.Bounds.{Bounds}
 use Rattle.define_searches.specs.Classes.{Class, Classes, KeepsLimits}
 use Rattle.define_searches.specs.Compositions.{has_value, taken_of}
 use Rattle.define_searches.specs.Fronts.{later_than, most_given, size_reachable, taken_by}
-use Rattle.laws_of_fronts.specs.Front.{FrontTally, Tracks}
-use Rattle.laws_of_fronts.specs.Tallies.{cell}
-use Rattle.laws_of_fronts.proofs.Tracking.{few_places, most_of_none}
+use Rattle.define_searches.specs.Front.{FrontTally, Tracks}
+use Rattle.define_searches.specs.Tallies.{cell}
+use Rattle.define_searches.proofs.Tracking.{few_places, most_of_none}
 use Rattle.define_loosenings.specs.Costs.{cost, sure_cost, surely_missed}
 use Rattle.define_loosenings.specs.Teams.{missed_by}
 use Rattle.quota_loosen.specs.Sums.{missed_in, missed_in_all}

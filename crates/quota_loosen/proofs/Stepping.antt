@@ -8,9 +8,9 @@ use Rattle.define_loosenings.specs.CostSearch.{CostSearch, cheapest_search, ente
 use Rattle.define_searches.specs.Classes.{Class, Classes}
 use Rattle.define_searches.specs.Compositions.{counts_down, counts_of, takes_one_a_household}
 use Rattle.define_searches.specs.Fronts.{size_reachable, taken_by}
-use Rattle.laws_of_fronts.specs.Front.{Stands}
-use Rattle.laws_of_fronts.proofs.Fronts.{front_of, front_length, placed}
-use Rattle.laws_of_fronts.proofs.Tracking.{comes_next}
+use Rattle.define_searches.specs.Front.{Stands}
+use Rattle.define_searches.proofs.Fronts.{front_of, front_length, placed}
+use Rattle.define_searches.proofs.Tracking.{comes_next}
 use Rattle.quota_loosen.proofs.Liveness.{whole_cost}
 use Rattle.quota_loosen.proofs.LoosenedParts.{all_taken}
 use Rattle.quota_loosen.specs.Front.{Tracks}

@@ -4,7 +4,7 @@ use Rattle.std.specs.Prelude.{ℕ, ◌≤◌, ◌<◌, All, List, slice_index, s
 use Rattle.std.specs.List.{enumerate_from}
 use Rattle.define_loosenings.specs.Costs.{surely_missed}
 use Rattle.define_searches.specs.declared.Bounds.{Bounds}
-use Rattle.laws_of_fronts.specs.Tallies.{cell}
+use Rattle.define_searches.specs.Tallies.{cell}
 
 -- each value's lower bound is at most its upper bound, which is at most 999
 abbrev pub AreLimited : List (List Bounds) → Type 0

@@ -2,7 +2,7 @@
 
 ghost use Rattle.std.specs.Prelude.{◌≡◌, ◌≤◌, ◌<◌, ◌+◌, ◌*◌, All, length};
 ghost use Rattle.define_loosenings.specs.Costs.{surely_missed};
-ghost use Rattle.laws_of_fronts.specs.Tallies.{HaveCells, CanGive, AreAtMost, FitCells, HasMore};
+ghost use Rattle.define_searches.specs.Tallies.{HaveCells, CanGive, AreAtMost, FitCells, HasMore};
 ghost use Rattle.quota_loosen.specs.Sums.{AreLimited, AreSmallIn, missed_in, missed_in_all};
 
 use alike::{Bounds, ValueBounds};

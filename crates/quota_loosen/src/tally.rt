@@ -5,8 +5,8 @@ ghost use Rattle.std.specs.Prelude.{◌≡◌, ◌+◌, ◌*◌, ◌≤◌, ◌<
 ghost use Rattle.define_loosenings.specs.Costs.{sure_cost};
 ghost use Rattle.define_searches.specs.Compositions.{takes_one_a_household};
 ghost use Rattle.define_searches.specs.Fronts.{size_reachable, taken_by};
-ghost use Rattle.laws_of_fronts.specs.Front.{Gives};
-ghost use Rattle.laws_of_fronts.specs.Tallies.{AreAtMost};
+ghost use Rattle.define_searches.specs.Front.{Gives};
+ghost use Rattle.define_searches.specs.Tallies.{AreAtMost};
 ghost use Rattle.quota_loosen.specs.Front.{Tracks};
 
 use crate::homes;

@@ -2,7 +2,7 @@ use Rattle.std.proofs.Common.{◌≡◌, true}
 use Rattle.define_pools.specs.Lists.{is_increasing}
 use Rattle.define_searches.specs.Compositions.{first_panel}
 use Rattle.define_searches.proofs.PoolClasses.{first_panel_rises}
-use Rattle.laws_of_fronts.proofs.Taken.{members_are}
+use Rattle.define_searches.proofs.Taken.{members_are}
 use Rattle.alike.proofs.composing.first_panel.Goals as goal
 
 pub unreachable-requires : goal.unreachable-requires

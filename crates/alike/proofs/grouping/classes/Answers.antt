@@ -1,7 +1,7 @@
 use Rattle.std.proofs.Common.{◌∙◌, ap}
 use Rattle.define_searches.specs.Classes.{are_alike, bounds_of}
 use Rattle.define_searches.proofs.AlikeClasses.{alike_makes}
-use Rattle.laws_of_fronts.proofs.MadeClasses.{keeps_limits, made_classes, made_parts}
+use Rattle.define_searches.proofs.MadeClasses.{keeps_limits, made_classes, made_parts}
 use Rattle.alike.proofs.grouping.classes.Goals as goal
 
 pub new-requires : goal.new-requires

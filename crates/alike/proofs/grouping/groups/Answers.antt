@@ -1,7 +1,7 @@
 use Rattle.std.proofs.Common.{◌∙◌, ℕ, Bool, not, Vec, Global, sym, ap}
 use Rattle.std.specs.List.{list_any, range_with_len}
 use Rattle.define_searches.specs.Classes.{Class, are_alike as alike, class_by}
-use Rattle.laws_of_fronts.proofs.Filters.{mapped_passed, mapped_taken}
+use Rattle.define_searches.proofs.Filters.{mapped_passed, mapped_taken}
 use Rattle.alike.proofs.grouping.groups.Goals.{then-leads+in_ok-group+in_ok-push, else-leads}
 use Rattle.alike.proofs.grouping.groups.Goals as goal
 

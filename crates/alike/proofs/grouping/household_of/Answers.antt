@@ -1,7 +1,7 @@
 use Rattle.std.proofs.Common.{◌∙◌, length}
 use Rattle.std.proofs.lemmas.Bool.{false≢true}
 use Rattle.define_searches.specs.Classes.{shared_household as shared}
-use Rattle.laws_of_fronts.proofs.Places.{made_at, made_within}
+use Rattle.define_searches.proofs.Places.{made_at, made_within}
 use Rattle.alike.proofs.grouping.household_of.Goals as goal
 
 pub returns-in-Some : goal.returns-in-Some

@@ -1,7 +1,7 @@
 use Rattle.std.proofs.Common.{◌∙◌, ◌||◌, sym, ap, not, arith}
 use Rattle.define_searches.specs.Classes.{are_alike as alike}
 use Rattle.define_searches.proofs.ByClass.{any_true}
-use Rattle.laws_of_fronts.proofs.Filters.{any_next}
+use Rattle.define_searches.proofs.Filters.{any_next}
 use Rattle.alike.proofs.grouping.leads.Goals as goal
 
 pub returns-then-are_alike : goal.returns-then-are_alike

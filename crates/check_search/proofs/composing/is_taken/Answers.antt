@@ -2,7 +2,7 @@ use Rattle.std.proofs.Common.{sym, ◌∙◌, rules, tests}
 use Rattle.std.specs.Iterator.Adapters.{zip_first, zip_second}
 use Rattle.std.proofs.lemmas.Iterator.{YieldsList-from_slice, YieldsList-from_zip}
 use Rattle.std.proofs.lemmas.Iterator.Search.{any_from_yields_List}
-use Rattle.laws_of_fronts.proofs.Taken.{gives, is_taken-zip}
+use Rattle.define_searches.proofs.Taken.{gives, is_taken-zip}
 use Rattle.check_search.proofs.composing.is_taken.Goals as goal
 
 pub returns : goal.returns

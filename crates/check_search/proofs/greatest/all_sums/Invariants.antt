@@ -1,4 +1,4 @@
-use Rattle.laws_of_fronts.specs.Beside.{FirstHave}
+use Rattle.define_searches.specs.Beside.{FirstHave}
 use Rattle.check_search.specs.Weights.{IsSummed}
 use Rattle.check_search.proofs.greatest.all_sums.Given as goal
 

@@ -1,5 +1,5 @@
 use Rattle.std.proofs.Common.{◌≡◌, ◌+◌, ◌++◌, length, replicate}
-use Rattle.laws_of_fronts.specs.Weights.{at, AreGreatest, units_from}
+use Rattle.define_searches.specs.Weights.{at, AreGreatest, units_from}
 use Rattle.check_search.proofs.greatest.put_class.Given as goal
 
 abbrev pub invariant-loop-done : goal.invariant-loop-done

@@ -3,8 +3,8 @@ use Rattle.std.specs.Prelude.{unsigned_abs}
 use Rattle.std.specs.Int.{w128}
 use Rattle.std.proofs.lemmas.Int.{to_z-of_z, fits_signed_from_abs}
 use Rattle.define_rows.proofs.SumLaws.{abs_sum_le}
-use Rattle.laws_of_fronts.specs.Weights.{at, IsGreater}
-use Rattle.laws_of_fronts.proofs.UnitSums.{PutFrom, put_next, put_all}
+use Rattle.define_searches.specs.Weights.{at, IsGreater}
+use Rattle.define_searches.proofs.UnitSums.{PutFrom, put_next, put_all}
 use Rattle.check_search.proofs.greatest.put_unit.Goals as goal
 
 pub loop-done-preserved : goal.loop-done-preserved

@@ -1,4 +1,4 @@
-use Rattle.laws_of_fronts.proofs.UnitSums.{PutFrom}
+use Rattle.define_searches.proofs.UnitSums.{PutFrom}
 use Rattle.check_search.proofs.greatest.put_unit.Given as goal
 
 abbrev pub invariant-loop-done : goal.invariant-loop-done

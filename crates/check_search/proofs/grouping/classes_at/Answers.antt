@@ -2,7 +2,7 @@ use Rattle.std.proofs.Common.{map, ◌∙◌, ap}
 use Rattle.define_checks.proofs.CheckClasses.{alike_at_makes}
 use Rattle.define_searches.specs.Classes.{bounds_of, class_by}
 use Rattle.check_search.specs.Likeness.{is_alike, stages_of}
-use Rattle.laws_of_fronts.proofs.MadeClasses.{keeps_limits}
+use Rattle.define_searches.proofs.MadeClasses.{keeps_limits}
 use Rattle.check_search.proofs.grouping.classes_at.Goals as goal
 
 pub new-requires : goal.new-requires

@@ -1,5 +1,5 @@
 use Rattle.std.proofs.Common.{take}
-use Rattle.laws_of_fronts.specs.Front.{Gives}
+use Rattle.define_searches.specs.Front.{Gives}
 use Rattle.check_search.proofs.tally.add_all.Given as goal
 
 abbrev pub invariant-loop-class : goal.invariant-loop-class

@@ -1,5 +1,5 @@
 use Rattle.std.proofs.Common.{[]}
-use Rattle.laws_of_fronts.specs.Beside.{FirstHave}
+use Rattle.define_searches.specs.Beside.{FirstHave}
 use Rattle.check_search.specs.Weights.{Weighs}
 use Rattle.check_search.proofs.weighing.all_weights.Given as goal
 

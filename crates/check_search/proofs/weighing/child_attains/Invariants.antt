@@ -1,4 +1,4 @@
-use Rattle.laws_of_fronts.proofs.ClosedRows.{WeighedTo}
+use Rattle.define_searches.proofs.ClosedRows.{WeighedTo}
 use Rattle.check_search.specs.Weights.{weights_of}
 use Rattle.check_search.proofs.weighing.child_attains.Given as goal
 

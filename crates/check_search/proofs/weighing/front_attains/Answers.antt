@@ -2,7 +2,7 @@ use Rattle.std.proofs.Common.{Some, ap, ◌∙◌, arith, sym}
 use Rattle.std.specs.Prelude.{int_le}
 use Rattle.std.proofs.lemmas.Option.{slice_get-get_or, slice_get_within}
 use Rattle.define_searches.specs.Fronts.{optimistic}
-use Rattle.laws_of_fronts.proofs.Beside.{each_passes}
+use Rattle.define_searches.proofs.Beside.{each_passes}
 use Rattle.check_search.proofs.weighing.front_attains.Goals as goal
 
 pub optimistic-requires-clause-narrow : goal.optimistic-requires-clause-narrow

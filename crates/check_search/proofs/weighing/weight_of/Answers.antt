@@ -5,9 +5,9 @@ use Rattle.std.proofs.lemmas.Int.{to_z-of_z}
 use Rattle.std.proofs.lemmas.List.{length-take-le, take_more}
 use Rattle.define_searches.specs.Classes.{Classes, KeepsLimits}
 use Rattle.define_searches.specs.Compositions.{weight_in}
-use Rattle.laws_of_fronts.specs.Front.{AreWithin}
-use Rattle.laws_of_fronts.specs.Weights.{AreNarrow, at}
-use Rattle.laws_of_fronts.proofs.WeightLaws.{child_narrow, weight_more, within_first}
+use Rattle.define_searches.specs.Front.{AreWithin}
+use Rattle.define_searches.specs.Weights.{AreNarrow, at}
+use Rattle.define_searches.proofs.WeightLaws.{child_narrow, weight_more, within_first}
 use Rattle.check_search.proofs.weighing.weight_of.Goals as goal
 
 module _ (all : Classes) (entries : List ℤ) (front : List ℕ) (place : ℕ) (narrow : AreNarrow all entries) (few : length front ≤ length all.classes) (within : AreWithin all front) (below : place < length front) where

@@ -1,5 +1,5 @@
 use Rattle.std.proofs.Common.{arith}
-use Rattle.laws_of_fronts.proofs.WeightLaws.{within_few}
+use Rattle.define_searches.proofs.WeightLaws.{within_few}
 use Rattle.cover_cert.proofs.judging.does_apply.Goals as goal
 
 pub reaches_size-requires-clause-few : goal.reaches_size-requires-clause-few

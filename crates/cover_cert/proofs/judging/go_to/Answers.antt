@@ -1,5 +1,5 @@
 use Rattle.std.proofs.Common.{arith}
-use Rattle.laws_of_fronts.proofs.WeightLaws.{count_few}
+use Rattle.define_searches.proofs.WeightLaws.{count_few}
 use Rattle.cover_cert.proofs.Walks.{small}
 use Rattle.cover_cert.proofs.judging.go_to.Goals as goal
 

@@ -7,7 +7,7 @@ use Rattle.define_pools.proofs.Sums.{total, sum_by-is-total}
 use lib.Signed.{lt_z}
 use Rattle.define_rows.specs.Row.{sum_of_sizes}
 use Rattle.define_searches.specs.Classes.{Class}
-use Rattle.laws_of_fronts.specs.Weights.{at}
+use Rattle.define_searches.specs.Weights.{at}
 use Rattle.engine_tests.proofs.small_classes.is_small.Goals as goal
 
 small_sum : (classes : List Class) (xs : List ℤ) (m : ℕ) → ((t : ℕ) → t < length xs → unsigned_abs (at xs t) ≤ m) → sum_of_sizes (map (λ class. length class.members) classes) xs ≤ total (λ class. length class.members) classes * m

@@ -1,6 +1,6 @@
 use Rattle.std.proofs.Common.{ℕ, ◌<◌, ◌≤◌}
 use Rattle.std.specs.Prelude.{unsigned_abs}
-use Rattle.laws_of_fronts.specs.Weights.{at}
+use Rattle.define_searches.specs.Weights.{at}
 use Rattle.engine_tests.proofs.small_classes.is_small.Given as goal
 
 abbrev pub invariant-loop-entry : goal.invariant-loop-entry

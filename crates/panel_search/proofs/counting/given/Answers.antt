@@ -1,5 +1,5 @@
 use Rattle.std.proofs.Common.{◌≡◌, cond, length, ap, ◌∙◌, arith}
-use Rattle.laws_of_fronts.proofs.Tracking.{most_small}
+use Rattle.define_searches.proofs.Tracking.{most_small}
 use Rattle.panel_search.specs.Groups.{is_in_group}
 use Rattle.panel_search.proofs.Counted.{category_same, given_end, given_more}
 use Rattle.panel_search.proofs.counting.given.Goals as goal

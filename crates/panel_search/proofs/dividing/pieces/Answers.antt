@@ -4,7 +4,7 @@ use Rattle.define_searches.specs.Waves.{pieces}
 use Rattle.define_searches.proofs.Pieces.{depth_within}
 use Rattle.panel_search.specs.Pieces.{live_children}
 use Rattle.panel_search.proofs.Division.{goes_last, goes_next, goes_too_far, pieces_spent}
-use Rattle.laws_of_fronts.proofs.WeightLaws.{element_at}
+use Rattle.define_searches.proofs.WeightLaws.{element_at}
 use Rattle.panel_search.proofs.dividing.pieces.Goals as goal
 
 pub returns-in_err-visits : goal.returns-in_err-visits

@@ -1,7 +1,7 @@
 use Rattle.std.proofs.Common.{◌≡◌, ◌+◌, ◌-◌, ◌++◌, length, arith, sym, ap, ◌∙◌, subst}
 use Rattle.std.proofs.lemmas.List.{with_items_is}
-use Rattle.laws_of_fronts.specs.Weights.{HoldsSums, units_from}
-use Rattle.laws_of_fronts.proofs.UnitSums.{table_more, greatest_same}
+use Rattle.define_searches.specs.Weights.{HoldsSums, units_from}
+use Rattle.define_searches.proofs.UnitSums.{table_more, greatest_same}
 use Rattle.panel_search.proofs.greatest.greatest_sums.Goals as goal
 
 pub loop-later-preserved : goal.loop-later-preserved

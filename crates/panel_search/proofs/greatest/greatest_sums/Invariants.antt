@@ -1,5 +1,5 @@
 use Rattle.std.proofs.Common.{◌≡◌, ℕ, ◌+◌, length}
-use Rattle.laws_of_fronts.specs.Weights.{AreGreatest, HoldsSums, units_from}
+use Rattle.define_searches.specs.Weights.{AreGreatest, HoldsSums, units_from}
 use Rattle.panel_search.proofs.greatest.greatest_sums.Given as goal
 
 abbrev pub invariant-loop-later : goal.invariant-loop-later

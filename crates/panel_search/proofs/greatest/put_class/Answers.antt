@@ -2,9 +2,9 @@ use Rattle.std.proofs.Common.{rules, ◌≡◌, ◌+◌, ◌++◌, replicate, su
 use Rattle.std.specs.Int.{w128}
 use Rattle.std.specs.Prelude.{unsigned_abs}
 use Rattle.std.proofs.lemmas.Int.{to_z-of_z}
-use Rattle.laws_of_fronts.specs.Weights.{at, CanAdd, HasUnit, AreGreatest, units_from}
-use Rattle.laws_of_fronts.proofs.Tracking.{most_of_class}
-use Rattle.laws_of_fronts.proofs.UnitSums.{unit_fits, units_more, units_few, units_next, greatest_more}
+use Rattle.define_searches.specs.Weights.{at, CanAdd, HasUnit, AreGreatest, units_from}
+use Rattle.define_searches.proofs.Tracking.{most_of_class}
+use Rattle.define_searches.proofs.UnitSums.{unit_fits, units_more, units_few, units_next, greatest_more}
 use Rattle.panel_search.proofs.greatest.put_class.Goals as goal
 use Rattle.define_searches.proofs.GreatestSum.{length-replicate}
 

@@ -1,6 +1,6 @@
 use Rattle.std.proofs.Common.{length, arith}
-use Rattle.laws_of_fronts.proofs.Tracking.{most_small, taken_within_all}
-use Rattle.laws_of_fronts.proofs.WeightLaws.{within_few}
+use Rattle.define_searches.proofs.Tracking.{most_small, taken_within_all}
+use Rattle.define_searches.proofs.WeightLaws.{within_few}
 use Rattle.panel_search.specs.Groups.{is_in_group}
 use Rattle.panel_search.proofs.live.can_reach.Goals as goal
 

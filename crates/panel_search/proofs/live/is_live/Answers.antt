@@ -3,7 +3,7 @@ use Rattle.define_rows.specs.Row.{Row, reach}
 use Rattle.define_searches.specs.Classes.{Classes, KeepsLimits}
 use Rattle.define_searches.specs.Fronts.{sizes_of}
 use Rattle.define_searches.specs.Below.{IsFront}
-use Rattle.laws_of_fronts.specs.Front.{AreWithin}
+use Rattle.define_searches.specs.Front.{AreWithin}
 use Rattle.panel_search.proofs.Kept.{front_within, row_has}
 use Rattle.panel_search.proofs.live.is_live.Goals as goal
 

@@ -1,7 +1,7 @@
 use Rattle.std.proofs.Common.{◌<◌, ℕ}
 use Rattle.std.specs.Prelude.{IsTrue}
 use Rattle.define_searches.specs.declared.Bounds.{Bounds}
-use Rattle.laws_of_fronts.specs.Tallies.{HasBound, reaches}
+use Rattle.define_searches.specs.Tallies.{HasBound, reaches}
 use Rattle.panel_search.proofs.tallies.all_within_reach.Given as goal
 
 abbrev pub invariant-loop-category : goal.invariant-loop-category

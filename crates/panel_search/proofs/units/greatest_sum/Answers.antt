@@ -2,8 +2,8 @@ use Rattle.std.proofs.Common.{rules, ◌≡◌, ◌+◌, ◌-◌, ◌*◌, ◌<�
 use Rattle.std.specs.Int.{w128}
 use Rattle.std.specs.Prelude.{unsigned_abs}
 use Rattle.std.proofs.lemmas.Int.{to_z-of_z}
-use Rattle.laws_of_fronts.specs.Weights.{units_from}
-use Rattle.laws_of_fronts.proofs.UnitSums.{units_narrow}
+use Rattle.define_searches.specs.Weights.{units_from}
+use Rattle.define_searches.proofs.UnitSums.{units_narrow}
 use Rattle.panel_search.specs.Units.{IsBeside}
 use Rattle.panel_search.proofs.UnitsBeside.{enough_units, fits_at_level, level_from, no_level_from, no_level_more, nothing_taken, sum_at_level}
 use Rattle.panel_search.proofs.units.greatest_sum.Goals as goal

@@ -1,5 +1,5 @@
 use Rattle.std.proofs.Common.{ℕ, ◌≤◌, ◌<◌}
-use Rattle.laws_of_fronts.specs.Weights.{at, units_from}
+use Rattle.define_searches.specs.Weights.{at, units_from}
 use Rattle.panel_search.proofs.UnitsBeside.{IsLevel}
 use Rattle.panel_search.proofs.units.greatest_sum.Given as goal
 

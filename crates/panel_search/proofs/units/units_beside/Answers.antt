@@ -2,8 +2,8 @@ use Rattle.std.proofs.Common.{rules, ◌≡◌, ◌+◌, ◌*◌, ◌<◌, ◌^�
 use Rattle.std.specs.Int.{w128}
 use Rattle.std.specs.Prelude.{int_le, int_lt, unsigned_abs}
 use Rattle.std.proofs.lemmas.Int.{to_z-of_z}
-use Rattle.laws_of_fronts.specs.Weights.{units_from}
-use Rattle.laws_of_fronts.proofs.UnitSums.{units_few, units_narrow, units_next}
+use Rattle.define_searches.specs.Weights.{units_from}
+use Rattle.define_searches.proofs.UnitSums.{units_few, units_narrow, units_next}
 use Rattle.panel_search.specs.Units.{heavier, no_lighter}
 use Rattle.panel_search.specs.declared.units.Beside.{Beside}
 use Rattle.panel_search.proofs.UnitsBeside.{IsBesideSome, beside_all, beside_fits, beside_more, beside_none, units_end, with_class, with_few}

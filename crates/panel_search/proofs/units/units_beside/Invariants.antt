@@ -1,4 +1,4 @@
-use Rattle.laws_of_fronts.specs.Weights.{units_from}
+use Rattle.define_searches.specs.Weights.{units_from}
 use Rattle.panel_search.proofs.UnitsBeside.{IsBesideSome}
 use Rattle.panel_search.proofs.units.units_beside.Given as goal
 

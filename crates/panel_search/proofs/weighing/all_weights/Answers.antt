@@ -1,7 +1,7 @@
 use Rattle.std.proofs.Common.{◌+◌, Some, sym, ap, ◌∙◌, subst}
 use Rattle.std.proofs.lemmas.Option.{slice_get-get_or}
-use Rattle.laws_of_fronts.specs.Beside.{FirstHave}
-use Rattle.laws_of_fronts.proofs.Beside.{first_more}
+use Rattle.define_searches.specs.Beside.{FirstHave}
+use Rattle.define_searches.proofs.Beside.{first_more}
 use Rattle.panel_search.specs.Weights.{Weighs}
 use Rattle.panel_search.proofs.weighing.all_weights.Goals as goal
 

@@ -1,4 +1,4 @@
-use Rattle.laws_of_fronts.specs.Beside.{FirstHave}
+use Rattle.define_searches.specs.Beside.{FirstHave}
 use Rattle.panel_search.specs.Weights.{Weighs}
 use Rattle.panel_search.proofs.weighing.all_weights.Given as goal
 

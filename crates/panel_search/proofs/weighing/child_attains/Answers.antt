@@ -4,8 +4,8 @@ use Rattle.std.proofs.lemmas.Int.{ints}
 use borrow.Author.Differences.{true_is_le}
 use Rattle.std.proofs.lemmas.Option.{slice_get-get_or, slice_get_within}
 use Rattle.define_searches.specs.Fronts.{optimistic}
-use Rattle.laws_of_fronts.proofs.ClosedRows.{weighed_next, still_weighed, weighed_at, all_weighed}
-use Rattle.laws_of_fronts.proofs.Beside.{each_passes}
+use Rattle.define_searches.proofs.ClosedRows.{weighed_next, still_weighed, weighed_at, all_weighed}
+use Rattle.define_searches.proofs.Beside.{each_passes}
 use Rattle.panel_search.proofs.weighing.child_attains.Goals as goal
 
 pub child-requires-clause-narrow : goal.child-requires-clause-narrow

@@ -1,4 +1,4 @@
-use Rattle.laws_of_fronts.proofs.Adding.{SharesUpTo}
+use Rattle.define_searches.proofs.Adding.{SharesUpTo}
 use Rattle.quota_loosen.proofs.tallies.add_to.Given as goal
 
 abbrev pub invariant-loop-category : goal.invariant-loop-category

@@ -3,7 +3,7 @@ use Rattle.std.specs.Prelude.{slice_index}
 use Rattle.std.proofs.lemmas.List.Elements.{All-get_or}
 use Rattle.define_loosenings.specs.Costs.{surely_missed}
 use Rattle.define_searches.specs.declared.Bounds.{Bounds}
-use Rattle.laws_of_fronts.specs.Tallies.{cell}
+use Rattle.define_searches.specs.Tallies.{cell}
 use Rattle.quota_loosen.specs.Sums.{missed_in}
 use Rattle.quota_loosen.proofs.Missed.{sums_next}
 use Rattle.quota_loosen.proofs.tallies.missed_by.Goals as goal

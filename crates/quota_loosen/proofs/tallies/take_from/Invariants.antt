@@ -1,4 +1,4 @@
-use Rattle.laws_of_fronts.proofs.Adding.{SharesUpTo}
+use Rattle.define_searches.proofs.Adding.{SharesUpTo}
 use Rattle.quota_loosen.proofs.tallies.take_from.Given as goal
 
 abbrev pub invariant-loop-category : goal.invariant-loop-category

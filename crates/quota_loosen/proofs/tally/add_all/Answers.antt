@@ -1,5 +1,5 @@
 use Rattle.std.proofs.Common.{◌<◌, length, ap, arith, refl, true}
-use Rattle.laws_of_fronts.proofs.Tracking.{stands_there, places_of_class, most_of_class, first_small, few_given, small_same}
+use Rattle.define_searches.proofs.Tracking.{stands_there, places_of_class, most_of_class, first_small, few_given, small_same}
 use Rattle.quota_loosen.proofs.tally.add_all.Goals as goal
 
 pub add_to-requires-clause-small : goal.add_to-requires-clause-small

@@ -2,8 +2,8 @@ use Rattle.std.proofs.Common.{rules, ◌≡◌, ◌+◌, ◌-◌, ◌*◌, lengt
 use Rattle.std.specs.Int.{w128}
 use Rattle.std.proofs.lemmas.Int.{to_z-of_z}
 use Rattle.std.proofs.lemmas.List.{get_or_read}
-use Rattle.laws_of_fronts.specs.Weights.{at, cell_of}
-use Rattle.laws_of_fronts.proofs.WeightLaws.{cell_within}
+use Rattle.define_searches.specs.Weights.{at, cell_of}
+use Rattle.define_searches.proofs.WeightLaws.{cell_within}
 use Rattle.check_search.proofs.greatest.Sums.greatest_of.Goals as goal
 
 pub returns : goal.returns

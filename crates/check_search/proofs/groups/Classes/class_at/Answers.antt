@@ -1,4 +1,4 @@
-use Rattle.laws_of_fronts.proofs.Tracking.{places_of_class, stands_there}
+use Rattle.define_searches.proofs.Tracking.{places_of_class, stands_there}
 use Rattle.check_search.proofs.groups.Classes.class_at.Goals as goal
 
 pub returns-clause-stands : goal.returns-clause-stands

@@ -2,10 +2,10 @@ use Rattle.std.proofs.Common.{rules, ◌≡◌, ℕ, ◌+◌, ◌-◌, ◌<◌, 
 use Rattle.define_checks.specs.Visits.{enter_above}
 use Rattle.define_searches.specs.Fronts.{is_reachable}
 use Rattle.check_search.specs.Front.{Tracks}
-use Rattle.laws_of_fronts.specs.Front.{CanTake, Stands}
+use Rattle.define_searches.specs.Front.{CanTake, Stands}
 use Rattle.check_search.specs.Steps.{StandsAt, Steps, children_above, counts_at}
-use Rattle.laws_of_fronts.proofs.Tracking.{stands_there}
-use Rattle.laws_of_fronts.proofs.Fronts.{same_class, class_limits, child_tracks, from_front, from_front_more, front_length, placed, front_of, at_child}
+use Rattle.define_searches.proofs.Tracking.{stands_there}
+use Rattle.define_searches.proofs.Fronts.{same_class, class_limits, child_tracks, from_front, from_front_more, front_length, placed, front_of, at_child}
 use Rattle.check_search.proofs.Stands.{stands_with, child_stands, parent_stands, child_live}
 use Rattle.check_search.proofs.Stepping.{steps_err, steps_true, steps_false, first_spent, first_found, last_none, next_steps, enter_visits, enter_due, none_left, only_within, child_due}
 use Rattle.check_search.proofs.searching.Search.+search.Goals as goal

@@ -1,5 +1,5 @@
 use Rattle.std.proofs.Common.{sym, subst}
-use Rattle.laws_of_fronts.specs.Weights.{EachNarrow}
+use Rattle.define_searches.specs.Weights.{EachNarrow}
 use Rattle.check_search.proofs.searching.Search.new.Goals as goal
 
 pub all_weights-requires : goal.all_weights-requires

@@ -1,10 +1,10 @@
 use Rattle.std.proofs.Common.{◌++◌, ◌∷◌, [], take, sym, subst, ◌∙◌}
 use Rattle.std.proofs.lemmas.List.{with_items_is}
-use Rattle.laws_of_fronts.specs.Front.{AreWithin}
-use Rattle.laws_of_fronts.specs.Weights.{EachNarrow}
+use Rattle.define_searches.specs.Front.{AreWithin}
+use Rattle.define_searches.specs.Weights.{EachNarrow}
 use Rattle.check_search.specs.Weights.{Weighs, WeighEach}
 use Rattle.check_search.proofs.Stands.{child_within}
-use Rattle.laws_of_fronts.proofs.WeightLaws.{weighs_front}
+use Rattle.define_searches.proofs.WeightLaws.{weighs_front}
 use Rattle.check_search.proofs.searching.Search.weights_allow.Goals as goal
 use Rattle.check_search.proofs.searching.Search.weights_allow.Goals.{After-child-reached, After-deref}
 

@@ -2,8 +2,8 @@ use Rattle.std.proofs.Common.{◌++◌, ◌∷◌, [], ◌&&◌, sym, ap, ◌∙
 use Rattle.std.proofs.lemmas.Bool.{and_parts}
 use Rattle.define_searches.specs.Compositions.{takes_one_a_household}
 use Rattle.define_searches.specs.Fronts.{size_reachable, values_reachable}
-use Rattle.laws_of_fronts.specs.Homes.{has_room}
-use Rattle.laws_of_fronts.proofs.Households.{child_households, few_homes, few_same}
+use Rattle.define_searches.specs.Homes.{has_room}
+use Rattle.define_searches.proofs.HouseholdTallies.{child_households, few_homes, few_same}
 use Rattle.check_search.proofs.tally.Tally.allows.Goals as goal
 
 pub has_room-requires-clause-small : goal.has_room-requires-clause-small

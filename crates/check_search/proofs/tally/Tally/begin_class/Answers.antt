@@ -1,6 +1,6 @@
 use Rattle.std.proofs.Common.{◌+◌, drop, length, refl, sym, ap, ◌∙◌, arith, true}
 use Rattle.std.proofs.lemmas.List.{with_items_is}
-use Rattle.laws_of_fronts.proofs.Tracking.{cells_of_class, can_leave, cells_same, give_same, more_same, most_more, with_next, begun}
+use Rattle.define_searches.proofs.Tracking.{cells_of_class, can_leave, cells_same, give_same, more_same, most_more, with_next, begun}
 use Rattle.check_search.proofs.tally.Tally.begin_class.Goals as goal
 
 pub take_from-requires-clause-cells : goal.take_from-requires-clause-cells

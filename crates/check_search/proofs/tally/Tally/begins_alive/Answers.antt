@@ -1,7 +1,7 @@
 use Rattle.std.proofs.Common.{◌≡◌, ℕ, ◌+◌, ◌&&◌, leb, length, [], refl, sym, ap, ◌∙◌, arith, true}
 use Rattle.check_search.proofs.Liveness.{begins_reachable}
-use Rattle.laws_of_fronts.proofs.Tracking.{fit_same, fit_cells, small_same, few_later, small_held, most_small, each_same, some_same}
-use Rattle.laws_of_fronts.proofs.Liveness.{front_live, front_dead}
+use Rattle.define_searches.proofs.Tracking.{fit_same, fit_cells, small_same, few_later, small_held, most_small, each_same, some_same}
+use Rattle.define_searches.proofs.Liveness.{front_live, front_dead}
 use Rattle.check_search.proofs.tally.Tally.begins_alive.Goals as goal
 use Rattle.define_searches.proofs.FirstSearch.{taken_none}
 

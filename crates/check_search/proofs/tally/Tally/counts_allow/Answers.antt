@@ -1,5 +1,5 @@
 use Rattle.std.proofs.Common.{◌+◌, ◌&&◌, leb, length, sym, ap, ◌∙◌, arith, true}
-use Rattle.laws_of_fronts.proofs.Tracking.{cells_of_class, bounds_of_class, bounds_same, cells_same, small_same, few_later, few_held, few_taken, most_small, reach_same}
+use Rattle.define_searches.proofs.Tracking.{cells_of_class, bounds_of_class, bounds_same, cells_same, small_same, few_later, few_held, few_taken, most_small, reach_same}
 use Rattle.check_search.proofs.Liveness.{fails_same, child_live, child_dead}
 use Rattle.check_search.proofs.tally.Tally.counts_allow.Goals as goal
 

@@ -1,6 +1,6 @@
 use Rattle.std.proofs.Common.{◌+◌, drop, length, refl, sym, ap, ◌∙◌, arith, true}
 use Rattle.std.proofs.lemmas.List.{with_items_is}
-use Rattle.laws_of_fronts.proofs.Tracking.{most_of_class, cells_of_class, cells_same, small_same, more_same, few_later, most_small, from_next, ended}
+use Rattle.define_searches.proofs.Tracking.{most_of_class, cells_of_class, cells_same, small_same, more_same, few_later, most_small, from_next, ended}
 use Rattle.check_search.proofs.tally.Tally.end_class.Goals as goal
 
 pub add_to-requires-clause-cells : goal.add_to-requires-clause-cells

@@ -1,5 +1,5 @@
 use Rattle.std.proofs.Common.{◌++◌, ◌∷◌, [], arith}
-use Rattle.laws_of_fronts.proofs.WeightLaws.{taken_few, taken_next}
+use Rattle.define_searches.proofs.WeightLaws.{taken_few, taken_next}
 use Rattle.check_search.proofs.tally.Tally.lack.Goals as goal
 
 pub overflow_add-result : goal.overflow_add-result

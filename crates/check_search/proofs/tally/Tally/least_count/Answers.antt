@@ -1,6 +1,6 @@
 use Rattle.std.proofs.Common.{◌+◌, ◌-◌, true, length, ap, ◌∙◌, arith}
 use Rattle.check_search.proofs.Liveness.{fails_same, lacking_dead}
-use Rattle.laws_of_fronts.proofs.Tracking.{few_held, few_later, few_taken, most_small, small_same}
+use Rattle.define_searches.proofs.Tracking.{few_held, few_later, few_taken, most_small, small_same}
 use Rattle.check_search.proofs.tally.Tally.least_count.Goals as goal
 
 pub overflow_add-self : goal.overflow_add-self

@@ -1,5 +1,5 @@
 use Rattle.std.proofs.Common.{◌≡◌, ℕ, ◌+◌, ◌&&◌, leb, length, refl, ◌∙◌, arith, true}
-use Rattle.laws_of_fronts.proofs.Tracking.{most_small}
+use Rattle.define_searches.proofs.Tracking.{most_small}
 use Rattle.check_search.proofs.tally.Tally.reaches_size.Goals as goal
 
 pub size_allows-requires : goal.size_allows-requires

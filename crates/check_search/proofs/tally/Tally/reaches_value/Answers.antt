@@ -5,8 +5,8 @@ use Rattle.std.proofs.lemmas.Option.{get_or_from_slice_get}
 use Rattle.define_searches.specs.declared.Bounds.{Bounds}
 use Rattle.define_searches.specs.Compositions.{has_value, taken_of}
 use Rattle.define_searches.specs.Fronts.{later_than, most_given}
-use Rattle.laws_of_fronts.specs.Tallies.{HasBound, cell, within_reach}
-use Rattle.laws_of_fronts.proofs.Tracking.{few_places, most_small, taken_within_all}
+use Rattle.define_searches.specs.Tallies.{HasBound, cell, within_reach}
+use Rattle.define_searches.proofs.Tracking.{few_places, most_small, taken_within_all}
 use Rattle.check_search.proofs.tally.Tally.reaches_value.Goals as goal
 use Rattle.check_search.proofs.tally.Tally.reaches_value.Goals.{After-index-2}
 

@@ -1,4 +1,4 @@
-use Rattle.laws_of_fronts.proofs.Households.{few_same, small_homes}
+use Rattle.define_searches.proofs.HouseholdTallies.{few_same, small_homes}
 use Rattle.check_search.proofs.tally.Tally.takes_one_a_household.Goals as goal
 
 pub has_room-requires-clause-small : goal.has_room-requires-clause-small

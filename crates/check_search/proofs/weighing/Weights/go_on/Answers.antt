@@ -3,8 +3,8 @@ use Rattle.std.specs.Int.{w128}
 use Rattle.std.specs.Prelude.{unsigned_abs}
 use Rattle.std.proofs.lemmas.Int.{to_z-of_z}
 use Rattle.define_searches.specs.Compositions.{weight_in}
-use Rattle.laws_of_fronts.specs.Weights.{at}
-use Rattle.laws_of_fronts.proofs.WeightLaws.{child_narrow, weight_more, weighs_child}
+use Rattle.define_searches.specs.Weights.{at}
+use Rattle.define_searches.proofs.WeightLaws.{child_narrow, weight_more, weighs_child}
 use Rattle.check_search.proofs.weighing.Weights.go_on.Goals as goal
 
 pub with_count-weight-requires : goal.with_count-weight-requires

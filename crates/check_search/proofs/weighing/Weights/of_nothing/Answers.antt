@@ -1,7 +1,7 @@
 use Rattle.std.proofs.Common.{rules, ◌≡◌, ◌+◌, length, replicate, ap, arith, ◌∙◌, pos}
 use Rattle.std.proofs.lemmas.List.{get_or-replicate, length-replicate}
-use Rattle.laws_of_fronts.specs.Weights.{at}
-use Rattle.laws_of_fronts.proofs.WeightLaws.{weighs_none}
+use Rattle.define_searches.specs.Weights.{at}
+use Rattle.define_searches.proofs.WeightLaws.{weighs_none}
 use Rattle.check_search.proofs.weighing.Weights.of_nothing.Goals as goal
 
 pub returns : goal.returns

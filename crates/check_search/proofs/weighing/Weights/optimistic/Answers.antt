@@ -4,7 +4,7 @@ use Rattle.std.specs.Prelude.{unsigned_abs}
 use Rattle.std.proofs.lemmas.Int.{to_z-of_z, fits_signed_from_abs}
 use Rattle.define_searches.specs.Compositions.{weight_in}
 use Rattle.define_searches.specs.Fronts.{greatest_sum, optimistic}
-use Rattle.laws_of_fronts.proofs.WeightLaws.{front_narrow}
+use Rattle.define_searches.proofs.WeightLaws.{front_narrow}
 use Rattle.check_search.proofs.weighing.Weights.optimistic.Goals as goal
 
 -- The sum that the code makes is the front's weight plus the greatest sum of units of the classes after the front.

@@ -4,9 +4,9 @@ use Rattle.define_searches.specs.Visits.{enter_best}
 use Rattle.panel_search.specs.Front.{Tracks}
 use Rattle.panel_search.specs.Pricing.{pricing_of, CanTakeWithin}
 use Rattle.panel_search.specs.Steps.{LiveWithin}
-use Rattle.laws_of_fronts.specs.Front.{Stands}
-use Rattle.laws_of_fronts.proofs.Tracking.{stands_there}
-use Rattle.laws_of_fronts.proofs.Fronts.{front_length, from_front, from_front_more, placed, front_of, at_child, same_class, class_limits, child_tracks}
+use Rattle.define_searches.specs.Front.{Stands}
+use Rattle.define_searches.proofs.Tracking.{stands_there}
+use Rattle.define_searches.proofs.Fronts.{front_length, from_front, from_front_more, placed, front_of, at_child, same_class, class_limits, child_tracks}
 use Rattle.panel_search.proofs.Ranges.{between}
 use Rattle.panel_search.proofs.BestStepping.{moves_err, moves_same, children_within, child_within, children_none, children_next, enter_more, enter_children, stands_with, child_stands, parent_stands, child_due}
 use Rattle.panel_search.proofs.pricing.BestSearch.+search.Goals as goal

@@ -1,5 +1,5 @@
 use Rattle.std.proofs.Common.{length, ap, arith}
-use Rattle.laws_of_fronts.proofs.Fronts.{class_limits, same_class}
+use Rattle.define_searches.proofs.Fronts.{class_limits, same_class}
 use Rattle.panel_search.proofs.Division.{among_all, stands_after}
 use Rattle.panel_search.proofs.Ranges.{between}
 use Rattle.panel_search.proofs.pricing.BestSearch.begin.Goals as goal

@@ -1,6 +1,6 @@
 use Rattle.std.proofs.Common.{take, ap, arith}
 use Rattle.define_searches.specs.Fronts.{taken_by}
-use Rattle.laws_of_fronts.proofs.WeightLaws.{within_few}
+use Rattle.define_searches.proofs.WeightLaws.{within_few}
 use Rattle.panel_search.proofs.pricing.BestSearch.is_live.Goals as goal
 
 pub is_alive-requires-clause-small : goal.is_alive-requires-clause-small

@@ -3,10 +3,10 @@ use Rattle.define_searches.specs.Fronts.{is_reachable}
 use Rattle.define_searches.specs.Visits.{enter_first}
 use Rattle.panel_search.specs.Front.{Tracks}
 use Rattle.panel_search.specs.Steps.{LiveWithin, StandsAt}
-use Rattle.laws_of_fronts.specs.Front.{Stands}
-use Rattle.laws_of_fronts.proofs.Fronts.{class_limits, at_front, from_front, from_front_more, front_length, placed, front_of, at_child}
+use Rattle.define_searches.specs.Front.{Stands}
+use Rattle.define_searches.proofs.Fronts.{class_limits, at_front, from_front, from_front_more, front_length, placed, front_of, at_child}
 use Rattle.panel_search.proofs.Ranges.{between}
-use Rattle.laws_of_fronts.proofs.Tracking.{stands_there}
+use Rattle.define_searches.proofs.Tracking.{stands_there}
 use Rattle.panel_search.proofs.Stepping.{steps_err, steps_true, steps_false, first_spent, first_found, next_steps, children_within, enter_visits, enter_due, child_due}
 use Rattle.panel_search.proofs.searching.Search.+search.Goals as goal
 use Rattle.panel_search.proofs.searching.Search.+search.Goals.{enter-After-children, enter-After-most, try_child-After-deref-2}

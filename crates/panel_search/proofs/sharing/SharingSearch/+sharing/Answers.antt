@@ -12,9 +12,9 @@ use Rattle.panel_search.specs.Sharing.{Exceeds, FrontsWithin, Goes, IsBeaten, Is
 use Rattle.panel_search.specs.Weights.{Weighs, WeighEach}
 use Rattle.panel_search.specs.Steps.{LiveWithin, counts_below}
 use Rattle.panel_search.specs.declared.pricing.BestSearch.{BestSearch}
-use Rattle.laws_of_fronts.specs.Front.{Stands}
-use Rattle.laws_of_fronts.proofs.Tracking.{stands_there}
-use Rattle.laws_of_fronts.proofs.Fronts.{front_length, from_front, from_front_more, placed, front_of, at_child, same_class, class_limits, child_tracks}
+use Rattle.define_searches.specs.Front.{Stands}
+use Rattle.define_searches.proofs.Tracking.{stands_there}
+use Rattle.define_searches.proofs.Fronts.{front_length, from_front, from_front_more, placed, front_of, at_child, same_class, class_limits, child_tracks}
 use Rattle.panel_search.proofs.Ranges.{LiveBetween, below_next, between}
 use Rattle.panel_search.proofs.BestStepping.{child_at, children_none, children_within, stands_with, child_stands, parent_stands}
 use Rattle.panel_search.proofs.SharedFronts.{below_children, below_front, beats, bounded_on, child_part, children_part, front_part, fronts_next, goes_err, goes_on, is_passed, kept_whole, keeps_whole, live_is, qualifies, spent_here, stands_kept, whole_front, with_children}

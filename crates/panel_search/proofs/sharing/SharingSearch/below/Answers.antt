@@ -2,7 +2,7 @@ use Rattle.std.proofs.Common.{[], take, drop, length, sym, ap, ◌∙◌, refl, 
 use Rattle.define_searches.specs.Compositions.{weight_in}
 use Rattle.define_searches.specs.Fronts.{is_live_above}
 use Rattle.define_searches.specs.Below.{child_best}
-use Rattle.laws_of_fronts.proofs.Fronts.{front_length}
+use Rattle.define_searches.proofs.Fronts.{front_length}
 use Rattle.panel_search.specs.Pricing.{pricing_of}
 use Rattle.panel_search.specs.Sharing.{Shares}
 use Rattle.panel_search.proofs.SharedFronts.{below_front, bounded_on, front_part, is_passed}

@@ -1,5 +1,5 @@
 use Rattle.std.proofs.Common.{take, arith}
-use Rattle.laws_of_fronts.proofs.WeightLaws.{count_few, within_few, within_first}
+use Rattle.define_searches.proofs.WeightLaws.{count_few, within_few, within_first}
 use Rattle.panel_search.proofs.tally.Tally.at_front.Goals as goal
 
 pub take-requires-clause-small : goal.take-requires-clause-small

@@ -1,7 +1,7 @@
 use Rattle.std.proofs.Common.{◌+◌, drop, length, refl, sym, ap, ◌∙◌, arith, true}
 use Rattle.std.proofs.lemmas.List.{with_items_is}
-use Rattle.laws_of_fronts.proofs.Households.{gives_same, home_gives, home_same}
-use Rattle.laws_of_fronts.proofs.Tracking.{cells_of_class, can_give_back, cells_same, give_same, more_same, taken_more, given_back}
+use Rattle.define_searches.proofs.HouseholdTallies.{gives_same, home_gives, home_same}
+use Rattle.define_searches.proofs.Tracking.{cells_of_class, can_give_back, cells_same, give_same, more_same, taken_more, given_back}
 use Rattle.panel_search.proofs.tally.Tally.give_back.Goals as goal
 
 pub take_from-requires-clause-cells : goal.take_from-requires-clause-cells

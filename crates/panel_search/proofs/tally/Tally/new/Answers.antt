@@ -1,6 +1,6 @@
 use Rattle.std.proofs.Common.{rules, ◌≡◌, ◌*◌, length, replicate, ap, arith, refl, sym, ◌∙◌}
 use Rattle.std.proofs.lemmas.List.{with_items_is}
-use Rattle.laws_of_fronts.proofs.Tracking.{starts, zero_cells}
+use Rattle.define_searches.proofs.Tracking.{starts, zero_cells}
 use Rattle.panel_search.proofs.tally.Tally.new.Goals as goal
 
 pub returns : goal.returns

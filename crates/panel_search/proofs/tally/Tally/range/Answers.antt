@@ -1,8 +1,8 @@
 use Rattle.std.proofs.Common.{◌+◌, true, length, sym, ap, ◌∙◌, arith, subst}
-use Rattle.laws_of_fronts.specs.Homes.{has_room}
+use Rattle.define_searches.specs.Homes.{has_room}
 use Rattle.panel_search.specs.Tallies.{AreSmallBounds}
 use Rattle.panel_search.proofs.Ranges.{small_bounds, reached_live, live_reached}
-use Rattle.laws_of_fronts.proofs.Tracking.{small_same, few_later, few_held, few_taken, most_small, reach_same}
+use Rattle.define_searches.proofs.Tracking.{small_same, few_later, few_held, few_taken, most_small, reach_same}
 use Rattle.panel_search.proofs.tally.Tally.range.Goals as goal
 
 pub overflow_add-self : goal.overflow_add-self

@@ -1,7 +1,7 @@
 use Rattle.std.proofs.Common.{rules, arith, FitsSigned, refl, ◌∙◌, ◌+ℤ◌}
 use Rattle.std.specs.Int.{w128}
 use Rattle.std.proofs.lemmas.Int.{to_z-of_z, fits_signed_from_abs}
-use Rattle.laws_of_fronts.proofs.WeightLaws.{child_is, weight_more}
+use Rattle.define_searches.proofs.WeightLaws.{child_is, weight_more}
 use Rattle.panel_search.proofs.weighing.Weights.child.Goals as goal
 
 pub overflow_add-result : goal.overflow_add-result

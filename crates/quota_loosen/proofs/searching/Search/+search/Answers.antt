@@ -2,9 +2,9 @@ use Rattle.std.proofs.Common.{rules, ◌≡◌, ℕ, ◌+◌, ◌-◌, ◌<◌, 
 use Rattle.define_loosenings.specs.CostSearch.{enter_cheapest}
 use Rattle.define_searches.specs.Compositions.{counts_down}
 use Rattle.define_searches.specs.Fronts.{taken_by}
-use Rattle.laws_of_fronts.specs.Front.{Stands}
-use Rattle.laws_of_fronts.proofs.Fronts.{at_child, child_tracks, class_limits, front_length, front_of, from_front, from_front_more, placed}
-use Rattle.laws_of_fronts.proofs.WeightLaws.{taken_next}
+use Rattle.define_searches.specs.Front.{Stands}
+use Rattle.define_searches.proofs.Fronts.{at_child, child_tracks, class_limits, front_length, front_of, from_front, from_front_more, placed}
+use Rattle.define_searches.proofs.WeightLaws.{taken_next}
 use Rattle.quota_loosen.specs.Front.{Tracks}
 use Rattle.quota_loosen.specs.Steps.{child_cheapest, children_cheapest, search_of}
 use Rattle.quota_loosen.proofs.Stepping.{child_stands, child_within, enter_children, enter_more, enter_whole, last_child, moves_err, moves_same, next_child, parent_stands, stands_with, taken_if_live}

@@ -2,10 +2,10 @@ use Rattle.std.proofs.Common.{◌<◌, length, Some, sym, ap, ◌∙◌, arith}
 use Rattle.std.proofs.lemmas.Option.{slice_get-get_or, slice_get_within}
 use Rattle.define_searches.specs.Classes.{Class}
 use Rattle.define_searches.specs.Compositions.{takes_one_of}
-use Rattle.laws_of_fronts.specs.Homes.{has_room}
-use Rattle.laws_of_fronts.proofs.Beside.{each_next, each_passes}
-use Rattle.laws_of_fronts.proofs.Households.{small_homes, few_same, home_alive}
-use Rattle.laws_of_fronts.proofs.Tracking.{stands_there}
+use Rattle.define_searches.specs.Homes.{has_room}
+use Rattle.define_searches.proofs.Beside.{each_next, each_passes}
+use Rattle.define_searches.proofs.HouseholdTallies.{small_homes, few_same, home_alive}
+use Rattle.define_searches.proofs.Tracking.{stands_there}
 use Rattle.quota_loosen.proofs.tally.Tally.homes_alive.Goals as goal
 
 pub has_one-requires-clause-small : goal.has_one-requires-clause-small

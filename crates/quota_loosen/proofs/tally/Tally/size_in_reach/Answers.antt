@@ -1,5 +1,5 @@
 use Rattle.std.proofs.Common.{◌+◌, ◌&&◌, leb, length, sym, ap, ◌∙◌, arith, true}
-use Rattle.laws_of_fronts.proofs.Tracking.{most_small}
+use Rattle.define_searches.proofs.Tracking.{most_small}
 use Rattle.quota_loosen.proofs.Liveness.{size_of_front}
 use Rattle.quota_loosen.proofs.tally.Tally.size_in_reach.Goals as goal
 

@@ -1,5 +1,5 @@
 use Rattle.std.proofs.Common.{length, refl, sym, ap, ◌∙◌, arith}
-use Rattle.laws_of_fronts.proofs.Tracking.{few_later, fit_cells, fit_same, small_held, small_same}
+use Rattle.define_searches.proofs.Tracking.{few_later, fit_cells, fit_same, small_held, small_same}
 use Rattle.quota_loosen.proofs.Liveness.{missed_is_cost}
 use Rattle.quota_loosen.specs.Sums.{missed_in_all}
 use Rattle.quota_loosen.proofs.tally.Tally.sure_cost.Goals as goal

@@ -1,7 +1,7 @@
 use Rattle.std.proofs.Common.{◌+◌, drop, length, refl, sym, ap, ◌∙◌, arith}
 use Rattle.std.proofs.lemmas.List.{with_items_is}
-use Rattle.laws_of_fronts.proofs.Households.{small_homes, few_same, home_same}
-use Rattle.laws_of_fronts.proofs.Tracking.{cells_of_class, cells_same, small_same, more_same, small_held, taken_on}
+use Rattle.define_searches.proofs.HouseholdTallies.{small_homes, few_same, home_same}
+use Rattle.define_searches.proofs.Tracking.{cells_of_class, cells_same, small_same, more_same, small_held, taken_on}
 use Rattle.quota_loosen.proofs.tally.Tally.take.Goals as goal
 
 pub add_to-requires-clause-cells : goal.add_to-requires-clause-cells

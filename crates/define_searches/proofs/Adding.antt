@@ -1,7 +1,7 @@
 -- Counts that are added to the cells of values, category by category.
 use Rattle.std.proofs.Common.{◌≡◌, ℕ, ◌+◌, ◌*◌, ◌≤◌, ◌<◌, List, length}
 use Rattle.std.specs.Prelude.{slice_index}
-use Rattle.laws_of_fronts.specs.Tallies.{cell, added_at}
+use Rattle.define_searches.specs.Tallies.{cell, added_at}
 
 -- In the first `done` categories, the cells of `values` have `count` members more than before; the other cells are unchanged.
 pub record SharesUpTo (done : ℕ) (values : List ℕ) (count : ℕ) (before after : List ℕ) : Type 0 where

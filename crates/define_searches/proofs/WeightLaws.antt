@@ -15,10 +15,10 @@ use Rattle.define_rows.proofs.SumLaws.{abs_sum_le}
 use Rattle.define_searches.specs.Classes.{Class, Classes, KeepsLimits}
 use Rattle.define_searches.specs.Compositions.{taken_of, takes_one_a_household, weight_in}
 use Rattle.define_searches.specs.Fronts.{sizes_of, is_reachable, size_reachable, values_reachable, taken_by, units, greatest_sum, optimistic}
-use Rattle.laws_of_fronts.specs.Front.{AreWithin}
-use Rattle.laws_of_fronts.specs.Weights.{at, cell_of, AreNarrow, HoldsSums, Weighs}
-use Rattle.laws_of_fronts.proofs.UnitSums.{width, greatest_width, units_width}
-use Rattle.laws_of_fronts.proofs.Tracking.{taken_more}
+use Rattle.define_searches.specs.Front.{AreWithin}
+use Rattle.define_searches.specs.Weights.{at, cell_of, AreNarrow, HoldsSums, Weighs}
+use Rattle.define_searches.proofs.UnitSums.{width, greatest_width, units_width}
+use Rattle.define_searches.proofs.Tracking.{taken_more}
 
 -- If a front takes `count` of the next class, its weight grows by `count` times the class's entry.
 pub weight_more : (entries : List ℤ) (front : List ℕ) (count : ℕ) → length front < length entries → weight_in entries (front ++ count ∷ []) ≡ weight_in entries front +ℤ pos count *ℤ at entries (length front)

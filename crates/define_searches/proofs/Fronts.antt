@@ -10,8 +10,8 @@ use Rattle.std.proofs.lemmas.List.Sums.{get_or-le-sum_by}
 use Rattle.std.proofs.lemmas.Option.{slice_get-get_or}
 use Rattle.define_searches.specs.Classes.{Class, Classes, KeepsLimits}
 use Rattle.define_searches.specs.Fronts.{sizes_of}
-use Rattle.laws_of_fronts.specs.Front.{AreWithin, CanTake, FrontTally, Tracks, Stands}
-use Rattle.laws_of_fronts.proofs.WeightLaws.{element_at}
+use Rattle.define_searches.specs.Front.{AreWithin, CanTake, FrontTally, Tracks, Stands}
+use Rattle.define_searches.proofs.WeightLaws.{element_at}
 
 -- if there are at least `depth` counts, the front made of the first `depth` of them has the length `depth`
 pub front_length : (depth : ℕ) (counts : List ℕ) (n : ℕ) → length counts ≡ n → depth ≤ n → length (take depth counts) ≡ depth

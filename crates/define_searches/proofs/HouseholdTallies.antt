@@ -7,9 +7,9 @@ use Rattle.define_pools.proofs.Each.{each_from_list_all, list_all_implies}
 use Rattle.define_searches.specs.Classes.{Class, Classes, IsKnownHousehold, KeepsLimits, volunteer_count}
 use Rattle.define_searches.specs.Compositions.{taken_of, is_of_household, takes_one_of, takes_one_a_household}
 use Rattle.define_searches.specs.Fronts.{is_reachable, taken_by}
-use Rattle.laws_of_fronts.specs.Front.{FrontTally, Tracks, Stands}
-use Rattle.laws_of_fronts.specs.Homes.{AreFew, CanGiveAt, HasMoreAt, has_room}
-use Rattle.laws_of_fronts.proofs.Tracking.{few_taken, taken_more, taken_within_all}
+use Rattle.define_searches.specs.Front.{FrontTally, Tracks, Stands}
+use Rattle.define_searches.specs.Homes.{AreFew, CanGiveAt, HasMoreAt, has_room}
+use Rattle.define_searches.proofs.Tracking.{few_taken, taken_more, taken_within_all}
 
 -- ---- the household of a class
 

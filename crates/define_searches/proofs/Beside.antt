@@ -3,7 +3,7 @@ use Rattle.std.proofs.Common.{◌≡◌, ℕ, zero, suc, ◌+◌, ◌<◌, Bool,
 use Rattle.std.specs.Prelude.{slice_get}
 use Rattle.std.specs.List.{list_all}
 use Rattle.std.proofs.lemmas.Bool.{and_from, eqb-true, eqb-false}
-use Rattle.laws_of_fronts.specs.Beside.{FirstHave}
+use Rattle.define_searches.specs.Beside.{FirstHave}
 
 pub get_set_same : {X : Type 0} (xs : List X) (i j : ℕ) (x y : X) → j ≡ i → slice_get (set xs i x) j ≡ Some y → y ≡ x
 get_set_same [] i j x y e h = cc

@@ -8,9 +8,9 @@ use Rattle.define_searches.specs.declared.Bounds.{Bounds}
 use Rattle.define_searches.specs.Classes.{Class, Classes, HasPlaces, KeepsLimits}
 use Rattle.define_searches.specs.Compositions.{taken_of, has_value, takes_one_a_household}
 use Rattle.define_searches.specs.Fronts.{most_given, is_reachable, size_reachable, value_reachable, values_reachable, later_than}
-use Rattle.laws_of_fronts.specs.Tallies.{cell, HasBound, reaches, AllReach, EachReaches, SomeFails}
-use Rattle.laws_of_fronts.specs.Front.{FrontTally, Tracks, Stands}
-use Rattle.laws_of_fronts.proofs.Tracking.{comes_next, few_places, most_more, taken_more, own_value}
+use Rattle.define_searches.specs.Tallies.{cell, HasBound, reaches, AllReach, EachReaches, SomeFails}
+use Rattle.define_searches.specs.Front.{FrontTally, Tracks, Stands}
+use Rattle.define_searches.proofs.Tracking.{comes_next, few_places, most_more, taken_more, own_value}
 
 -- ---- a test of each element with its place
 

@@ -4,7 +4,7 @@ use Rattle.std.specs.Prelude.{◌≡◌, ℕ, ◌*◌, ◌≤◌, ◌<◌, true,
 use Rattle.define_searches.specs.Classes.{Class, Classes, volunteer_count}
 use Rattle.define_searches.specs.Compositions.{taken_of, has_value, is_of_household}
 use Rattle.define_searches.specs.Fronts.{sizes_of, taken_by, most_given}
-use Rattle.laws_of_fronts.specs.Tallies.{cell}
+use Rattle.define_searches.specs.Tallies.{cell}
 
 -- what a search counts: the members taken, in all (`taken`), of each value (`held`) and of each household (`homes`); and the most that the
 -- later classes give, in all (`later_taken`) and of each value (`later`)

@@ -2,7 +2,7 @@
 -- Compositions and Fronts of `define_searches`. `panel_search` and `check_search` keep both as tables.
 use Rattle.std.specs.Prelude.{◌≡◌, ℕ, ◌+◌, ◌*◌, ◌^◌, ◌≤◌, ◌<◌, List, length, drop, take, ℤ, pos, ◌+ℤ◌, unsigned_abs, slice_index_or, slice_get, Some}
 use Rattle.std.specs.Int.{int_max}
-use Rattle.laws_of_fronts.specs.Beside.{EachHas}
+use Rattle.define_searches.specs.Beside.{EachHas}
 use Rattle.define_rows.specs.Row.{Row, sum_of_sizes}
 use Rattle.define_searches.specs.Classes.{Classes}
 use Rattle.define_searches.specs.Compositions.{weight_in}

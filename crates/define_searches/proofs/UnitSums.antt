@@ -18,9 +18,9 @@ use Rattle.define_rows.proofs.SumLaws.{abs_sum_le}
 use Rattle.define_searches.specs.Classes.{Class, Classes, KeepsLimits}
 use Rattle.define_searches.specs.Fronts.{most_given, put_falling, falling, units, sum_of, greatest_sum}
 use Rattle.define_searches.proofs.GreatestSum.{AtMost, Falls, falling_falls, length-falling, length-replicate}
-use Rattle.laws_of_fronts.specs.Front.{Stands}
-use Rattle.laws_of_fronts.specs.Weights.{cell_of, HoldsSums, IsGreater, HasUnit, AreGreatest, AreNarrow, at, units_from}
-use Rattle.laws_of_fronts.proofs.Tracking.{comes_next, most_more, most_small}
+use Rattle.define_searches.specs.Front.{Stands}
+use Rattle.define_searches.specs.Weights.{cell_of, HoldsSums, IsGreater, HasUnit, AreGreatest, AreNarrow, at, units_from}
+use Rattle.define_searches.proofs.Tracking.{comes_next, most_more, most_small}
 
 -- ---- the sum of a list with one more number
 

@@ -13,9 +13,9 @@ use Rattle.define_searches.specs.Classes.{Class, Classes, HasPlaces, KeepsLimits
 use Rattle.define_searches.specs.Compositions.{taken_of, has_value, is_of_household, takes_one_a_household}
 use Rattle.define_searches.specs.Fronts.{most_given, taken_by, is_reachable, size_reachable, values_reachable}
 use Rattle.define_searches.proofs.FirstSearch.{Split, taken_split, taken_none}
-use Rattle.laws_of_fronts.specs.Tallies.{cell, HaveCells, CanGive, AreAtMost, HasMore, HaveBounds, AllReach, FitCells, EachReaches, SomeFails}
-use Rattle.laws_of_fronts.specs.Front.{FrontTally, Gives, Tracks, Stands}
-use Rattle.laws_of_fronts.specs.Homes.{HasMoreAt}
+use Rattle.define_searches.specs.Tallies.{cell, HaveCells, CanGive, AreAtMost, HasMore, HaveBounds, AllReach, FitCells, EachReaches, SomeFails}
+use Rattle.define_searches.specs.Front.{FrontTally, Gives, Tracks, Stands}
+use Rattle.define_searches.specs.Homes.{HasMoreAt}
 
 -- ---- a class: its place, its limits and its cells
 

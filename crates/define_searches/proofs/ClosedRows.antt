@@ -7,9 +7,9 @@ use Rattle.std.proofs.lemmas.Option.{slice_get_within}
 use Rattle.define_rows.specs.Row.{Row}
 use Rattle.define_searches.specs.Classes.{Classes}
 use Rattle.define_searches.specs.Fronts.{optimistic}
-use Rattle.laws_of_fronts.specs.Weights.{Weighs, WeighEach}
-use Rattle.laws_of_fronts.proofs.Beside.{get_set_other, get_set_same, same_at}
-use Rattle.laws_of_fronts.proofs.WeightLaws.{weighs_back, weighs_front}
+use Rattle.define_searches.specs.Weights.{Weighs, WeighEach}
+use Rattle.define_searches.proofs.Beside.{get_set_other, get_set_same, same_at}
+use Rattle.define_searches.proofs.WeightLaws.{weighs_back, weighs_front}
 
 -- The first `done` rows have the child's weights, and the child's optimistic weight in each is at least the row's right side. The other
 -- rows have the front's weights.
