@@ -10,12 +10,12 @@ use Rattle.frac128.specs.Fractions.{Fraction}
 use Rattle.define_pools.specs.Lists.{is_increasing}
 use Rattle.define_pools.specs.Lottery.{LotteryRow}
 use Rattle.define_searches.specs.Classes.{Classes}
-use Rattle.define_spreads.specs.Spreading.{arcs, arcs_between, cuts, dial, panel_at, rows_of}
-use Rattle.define_spreads.proofs.Cuts.{cuts_increase}
-use Rattle.define_spreads.proofs.Dials.{Cut, cuts_are}
-use Rattle.define_spreads.proofs.Lotteries.{row_at}
+use Rattle.define_runs.specs.Spreading.{arcs, arcs_between, cuts, dial, panel_at, rows_of}
+use Rattle.define_runs.proofs.Cuts.{cuts_increase}
+use Rattle.define_runs.proofs.Dials.{Cut, cuts_are}
+use Rattle.define_runs.proofs.Lotteries.{row_at}
 use Rattle.alike.specs.Steps.{arc_row}
-use Rattle.define_spreads.proofs.FewPanels.{length-arcs}
+use Rattle.define_runs.proofs.FewPanels.{length-arcs}
 
 -- ---- arcs by their number
 

@@ -6,7 +6,7 @@ use Rattle.std.proofs.Math.Nat.{mul-pos, mul-le-mul_left, mul-le-mul_right, lt-m
 use Rattle.std.proofs.Math.Seq.{drop-cons}
 use Rattle.frac128.specs.Divisors.{lcm_of, IsLeastCommonMultiple}
 use Rattle.frac128.proofs.DivisorLaws.{IsLeastCommonMultiple-lcm_of}
-use Rattle.define_spreads.proofs.CommonTotals.{lcm_of-positive}
+use Rattle.define_runs.proofs.CommonTotals.{lcm_of-positive}
 
 -- two numbers above 0 are at most their least common multiple
 pub lcm_of-beyond : (x y : ℕ) → 0 < x → 0 < y → (x ≤ lcm_of x y) × (y ≤ lcm_of x y)

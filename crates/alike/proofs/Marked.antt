@@ -6,8 +6,8 @@ use Rattle.std.proofs.Math.Seq.{take-append-add}
 use Rattle.std.proofs.Math.Bool.{or_assoc}
 use Rattle.define_pools.specs.Lists.{includes}
 use Rattle.alike.specs.Steps.{AreMarked}
-use Rattle.define_spreads.specs.Spreading.{turned}
-use Rattle.define_spreads.proofs.Cuts.{includes-append}
+use Rattle.define_runs.specs.Spreading.{turned}
+use Rattle.define_runs.proofs.Cuts.{includes-append}
 
 -- ---- windows in two pieces
 

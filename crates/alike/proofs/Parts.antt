@@ -8,8 +8,8 @@ use Rattle.std.proofs.Math.Bool.{or-false, or_assoc}
 use Rattle.define_pools.proofs.Each.{each_map}
 use Rattle.define_pools.specs.Lists.{includes}
 use Rattle.define_searches.specs.Classes.{Class, Classes}
-use Rattle.define_spreads.specs.Spreading.{dial, is_given, is_partly_taken, partly_taken, turned}
-use Rattle.define_spreads.proofs.Dials.{Divided, IsPartly, divided_dial, each_partly}
+use Rattle.define_runs.specs.Spreading.{dial, is_given, is_partly_taken, partly_taken, turned}
+use Rattle.define_runs.proofs.Dials.{Divided, IsPartly, divided_dial, each_partly}
 
 -- `partly_taken` of the first `k + 1` classes is that of the first `k`, and then the size of class `k` if it is taken in part
 pub partly-more : (classes : List Class) (counts : List ℕ) (k : ℕ) (class : Class) (count : ℕ) → k < length classes → k < length counts → class ≡ get_or classes k class → count ≡ get_or counts k count →

@@ -10,8 +10,8 @@ use Rattle.std.proofs.lemmas.List.Sorted.{Contains-permutation, IsPermutation-sy
 use Rattle.std.proofs.Math.Bool.{or-true}
 use Rattle.define_pools.specs.Lists.{includes, is_increasing, rising}
 use Rattle.define_pools.proofs.Increasing.{is_increasing-from_neighbours}
-use Rattle.define_spreads.specs.Spreading.{once_each}
-use Rattle.define_spreads.proofs.Cuts.{once_increases, includes-once_rising}
+use Rattle.define_runs.specs.Spreading.{once_each}
+use Rattle.define_runs.proofs.Cuts.{once_increases, includes-once_rising}
 
 -- if `x` is below all numbers of a list and `z` is at most `x`, then `z` is not in the list
 none_above : (x z : ℕ) (xs : List ℕ) → list_all (λ y. ltb x y) xs ≡ true → z ≤ x → includes xs z ≡ false

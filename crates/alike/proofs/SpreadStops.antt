@@ -5,7 +5,7 @@ use Rattle.std.specs.List.{flat_map}
 use Rattle.frac128.specs.Fractions.{Fraction}
 use Rattle.define_pools.specs.Lottery.{LotteryRow, Lottery}
 use Rattle.define_searches.specs.Classes.{Classes}
-use Rattle.define_spreads.specs.Spreading.{lottery_of, rows_of, spread, total_from}
+use Rattle.define_runs.specs.Spreading.{lottery_of, rows_of, spread, total_from}
 use Rattle.alike.specs.declared.spreading.SpreadStop.{SpreadStop}
 use Rattle.alike.specs.declared.spreading.SpreadStop.TheVariants.{TotalPasses, OutOfMemory}
 use Rattle.alike.specs.Spreads.{IsStop}

@@ -10,11 +10,11 @@ use Rattle.std.proofs.Math.Bool.{or_assoc}
 use Rattle.define_pools.proofs.Lists.{slice_get-at, filter_range_same}
 use Rattle.define_pools.specs.Lists.{includes}
 use Rattle.define_searches.specs.Classes.{Class, Classes}
-use Rattle.define_spreads.specs.Spreading.{dial, is_partly_taken, partly_taken, turned}
-use Rattle.define_spreads.proofs.Dials.{Divided, divided_dial, each_included, includes-partly}
-use Rattle.define_spreads.specs.Spreading.{is_given}
+use Rattle.define_runs.specs.Spreading.{dial, is_partly_taken, partly_taken, turned}
+use Rattle.define_runs.proofs.Dials.{Divided, divided_dial, each_included, includes-partly}
+use Rattle.define_runs.specs.Spreading.{is_given}
 use Rattle.alike.specs.Steps.{AreMarked}
-use Rattle.define_spreads.proofs.Cuts.{includes-append}
+use Rattle.define_runs.proofs.Cuts.{includes-append}
 use Rattle.alike.proofs.Parts.{given-more, given-whole}
 
 pub some_size : (class : Class) (count : ℕ) → is_partly_taken class count ≡ true → 0 < length class.members

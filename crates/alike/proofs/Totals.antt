@@ -7,8 +7,8 @@ use Rattle.std.proofs.Math.Seq.{drop-cons}
 use Rattle.frac128.specs.Divisors.{lcm_of}
 use Rattle.frac128.specs.Fractions.{Fraction}
 use Rattle.define_searches.specs.Classes.{Classes}
-use Rattle.define_spreads.specs.Spreading.{AreParts, IsCommonTotal, dial, greatest_total, total_from}
-use Rattle.define_spreads.proofs.Parts.{sum_is_total}
+use Rattle.define_runs.specs.Spreading.{AreParts, IsCommonTotal, dial, greatest_total, total_from}
+use Rattle.define_runs.proofs.PartsOfWhole.{sum_is_total}
 use Rattle.alike.specs.Steps.{IsTotalOf}
 
 cut_here : (parts : List (List ℕ × Fraction)) (place : ℕ) (part : List ℕ × Fraction) → place < length parts → part ≡ get_or parts place part → drop place parts ≡ part ∷ drop (suc place) parts

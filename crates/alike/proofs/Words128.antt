@@ -4,7 +4,7 @@ use Rattle.std.specs.Prelude.{unsigned_abs}
 use Rattle.std.specs.Int.{w128}
 use Rattle.std.proofs.lemmas.Bool.{ltb-true}
 use Rattle.std.proofs.lemmas.Int.{to_z-of_z, to_z_pos, ints}
-use Rattle.define_spreads.specs.Spreading.{greatest_total}
+use Rattle.define_runs.specs.Spreading.{greatest_total}
 
 pub unsigned_is : (r : ℕ) (z : ℤ) (n : ℕ) → r ≡ unsigned_abs (to_z w128 (of_z w128 z)) → FitsSigned w128 z → z ≡ pos n → r ≡ n
 unsigned_is r z n e f g = e ∙ ap unsigned_abs (to_z-of_z w128 z f ∙ g)

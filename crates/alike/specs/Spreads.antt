@@ -1,8 +1,8 @@
--- What `spread` and its helpers may return. Builds on Spreading of `define_spreads`. The contracts of src/spreading.rt cite it, and so does
+-- What `spread` and its helpers may return. Builds on Spreading of `define_runs`. The contracts of src/spreading.rt cite it, and so does
 -- a proof of `leximin_run`.
 use Rattle.std.specs.Prelude.{◌≡◌, ℕ, Result, Ok, Err, pos}
 use Rattle.define_pools.specs.Lottery.{Lottery}
-use Rattle.define_spreads.specs.Spreading.{TotalPass}
+use Rattle.define_runs.specs.Spreading.{TotalPass}
 use Rattle.alike.specs.declared.spreading.SpreadStop.{SpreadStop}
 use Rattle.alike.specs.declared.spreading.SpreadStop.TheVariants.{TotalPasses, OutOfMemory}
 

@@ -5,7 +5,7 @@ use Rattle.std.specs.Int.{◌∣◌}
 use Rattle.frac128.specs.Fractions.{Fraction}
 use Rattle.define_pools.specs.Lottery.{LotteryRow}
 use Rattle.define_searches.specs.Classes.{Classes}
-use Rattle.define_spreads.specs.Spreading.{dial, greatest_total, panel_at}
+use Rattle.define_runs.specs.Spreading.{dial, greatest_total, panel_at}
 
 -- `total` suits the part: it is from 1 to 10 ^ 38 and a multiple of the part's denominator times its dial's length, and the part's fraction
 -- of it is at most `total`

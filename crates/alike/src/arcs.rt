@@ -7,7 +7,7 @@ ghost use Rattle.std.specs.List.{range_with_len};
 ghost use Rattle.alike.specs.Steps.{AreMarked};
 ghost use Rattle.define_pools.specs.Lists.{includes};
 ghost use Rattle.define_searches.specs.Classes.{PartVolunteers, volunteer_count};
-ghost use Rattle.define_spreads.specs.Spreading.{dial, is_given, is_partly_taken, panel_at, turned};
+ghost use Rattle.define_runs.specs.Spreading.{dial, is_given, is_partly_taken, panel_at, turned};
 
 use crate::dials::is_partly_taken;
 use crate::groups::{Class, Classes};

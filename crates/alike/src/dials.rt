@@ -6,7 +6,7 @@ ghost use Rattle.std.specs.Int.{◌∣◌};
 ghost use Rattle.std.specs.List.{fold, flat_map};
 ghost use Rattle.frac128.specs.Divisors.{lcm_of};
 ghost use Rattle.define_pools.specs.Lists.{rising};
-ghost use Rattle.define_spreads.specs.Spreading.{greatest_total, is_partly_taken, marks, once_each, partly_taken};
+ghost use Rattle.define_runs.specs.Spreading.{greatest_total, is_partly_taken, marks, once_each, partly_taken};
 
 use crate::groups::Class;
 use frac128::lcm;

@@ -1,5 +1,5 @@
 //! Classes of volunteers who are alike, the first panel of a composition, and the lottery that spreads compositions over panels. Contracts
-//! see them as the records and lists of `define_searches` and `define_spreads`. Stands on `pool_model`, `define_rows` for `Composition`,
+//! see them as the records and lists of `define_searches` and `define_runs`. Stands on `pool_model`, `define_rows` for `Composition`,
 //! and `frac128`. Used by `panel_search`, `pricing_pool` and `quota_loosen`, which search over classes; `leximin_run`, which spreads; the
 //! command `panel`; the engine of `prove`.
 //!

@@ -9,7 +9,7 @@ ghost use Rattle.frac128.specs.Divisors.{lcm_of};
 ghost use Rattle.define_pools.specs.Lottery.{IsLottery};
 ghost use Rattle.define_pools.specs.Pool.{Pool};
 ghost use Rattle.define_searches.specs.Classes.{MakesClasses, classes_by};
-ghost use Rattle.define_spreads.specs.Spreading.{AreParts, HasEvenChances, arcs, cuts as cuts_of, dial, greatest_total, rows_of, spread, total_from};
+ghost use Rattle.define_runs.specs.Spreading.{AreParts, HasEvenChances, arcs, cuts as cuts_of, dial, greatest_total, rows_of, spread, total_from};
 
 use crate::arcs::panel_at;
 use crate::dials::{GREATEST_TOTAL, common_multiple, cuts, partly_taken, places};

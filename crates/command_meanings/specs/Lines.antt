@@ -7,7 +7,7 @@ use Rattle.define_rows.specs.declared.Op.{Op}
 use Rattle.define_rows.specs.declared.Op.TheVariants.{Mul, Sub, Add}
 use Rattle.define_rows.specs.declared.Pass.{Pass}
 use Rattle.define_rows.specs.Table.{Table}
-use Rattle.define_spreads.specs.Spreading.{TotalPass}
+use Rattle.define_runs.specs.Spreading.{TotalPass}
 use Rattle.command_shell.specs.Lines.{line}
 
 -- the line of a panel: the ids of its members

@@ -2,7 +2,7 @@
 -- in src/panel.rt and src/lottery.rt cite it.
 use Rattle.std.specs.Prelude.{◌≡◌, ◌<◌, ◌≤◌, ℕ, List, [], Option, Some, None, Result, Ok, Err, ⊤}
 use Rattle.define_pools.specs.Pool.{Pool, panels}
-use Rattle.define_spreads.specs.Spreading.{TotalPass}
+use Rattle.define_runs.specs.Spreading.{TotalPass}
 use Rattle.define_runs.specs.Run.{Limits}
 use Rattle.panel_search.specs.declared.searching.SearchStop.{SearchStop}
 use Rattle.panel_search.specs.declared.searching.SearchStop.TheVariants as search

@@ -2,7 +2,7 @@
 
 ghost use Rattle.std.specs.Prelude.{◌≡◌, ◌++◌, IfOk, OnOk, IsTrue};
 ghost use Rattle.define_pools.specs.Pool.{is_quota_panel};
-ghost use Rattle.define_spreads.specs.Spreading.{TotalPass};
+ghost use Rattle.define_runs.specs.Spreading.{TotalPass};
 ghost use Rattle.define_lines.specs.Lines.{tabbed};
 ghost use Rattle.leximin_run.specs.Answers.{IsTotalPass, stood};
 ghost use Rattle.command_meanings.specs.Lines.{

@@ -8,3 +8,14 @@ pub mod Priced
 pub mod Kept
 pub mod Parts
 pub mod Work
+pub mod CommonTotals
+pub mod PartsOfWhole
+pub mod Shares
+pub mod Windows
+pub mod Cuts
+pub mod Dials
+pub mod Arcs
+pub mod Panels
+pub mod Lotteries
+pub mod FewPanels
+pub mod SpreadPanels

@@ -11,7 +11,7 @@ use Rattle.define_searches.specs.Classes.{Classes}
 use Rattle.define_searches.specs.Compositions.{first_composition, price}
 use Rattle.define_searches.specs.Fronts.{sizes_of}
 use Rattle.define_searches.specs.Visits.{first_search}
-use Rattle.define_spreads.specs.Spreading.{spread}
+use Rattle.define_runs.specs.Spreading.{spread}
 use Rattle.define_runs.specs.OtherLimits.{is_spent}
 use Rattle.define_runs.specs.Run.{RunLimits, Ending, Ends, Next, GoOn, Ended, NodesSpent, PivotsSpent, answered, closed_rows, follow, opened, opening, parts_of, pivoted, priced, pricing_visits, started, step, step_in_stage}
 use Rattle.define_runs.proofs.Following.{stays_ended}

@@ -19,7 +19,7 @@ use Rattle.define_rows.specs.Solutions.{SolutionStands, numerator_over}
 use Rattle.define_rows.proofs.Satisfied.{solution-stands}
 use Rattle.define_searches.specs.Classes.{Classes}
 use Rattle.define_searches.specs.Compositions.{compositions}
-use Rattle.define_spreads.specs.Spreading.{AreParts}
+use Rattle.define_runs.specs.Spreading.{AreParts}
 use Rattle.define_runs.specs.Run.{RunLimits, parts_of}
 use Rattle.define_runs.specs.Keeps.{KeepsRun}
 

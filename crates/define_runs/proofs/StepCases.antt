@@ -12,7 +12,7 @@ use Rattle.define_searches.specs.Classes.{Classes}
 use Rattle.define_searches.specs.Compositions.{first_composition, price}
 use Rattle.define_searches.specs.Fronts.{sizes_of}
 use Rattle.define_searches.specs.Visits.{first_search}
-use Rattle.define_spreads.specs.Spreading.{spread}
+use Rattle.define_runs.specs.Spreading.{spread}
 use Rattle.define_runs.specs.Run.{Next, GoOn, Ended, NoPanel, TooWide, NodesSpent, PivotsSpent, RunLimits, answered, closed_rows, opened, opening, parts_of, pivoted, priced, pricing_visits, started, step, step_in_stage}
 
 -- the cases of a step from `table`. In each, `next` is where the step leads

@@ -10,7 +10,7 @@ use Rattle.define_rows.specs.Table.{Table, row_at}
 use Rattle.define_searches.specs.Classes.{Classes, KeepsLimits}
 use Rattle.define_searches.specs.Compositions.{compositions, price}
 use Rattle.define_searches.specs.Fronts.{sizes_of}
-use Rattle.define_spreads.specs.Spreading.{AreParts}
+use Rattle.define_runs.specs.Spreading.{AreParts}
 use Rattle.define_runs.specs.Run.{Limits, RunLimits, GoOn, closed_rows, follow, opening, parts_of, run_limits}
 
 -- the width and the budget of pivots are in their ranges; the budgets of visits may be any numbers

@@ -3,3 +3,5 @@ pub mod Keeps
 pub mod OtherLimits
 pub mod Work
 pub mod WorkedRuns
+pub mod Spreading
+pub mod WorkedSpreads

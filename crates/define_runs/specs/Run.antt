@@ -18,7 +18,7 @@ use Rattle.define_searches.specs.Classes.{Classes, class_number, classes_of, vol
 use Rattle.define_searches.specs.Compositions.{first_composition, price}
 use Rattle.define_searches.specs.Fronts.{sizes_of}
 use Rattle.define_searches.specs.Visits.{first_search}
-use Rattle.define_spreads.specs.Spreading.{TotalPass, spread}
+use Rattle.define_runs.specs.Spreading.{TotalPass, spread}
 use Rattle.define_searches.specs.Waves.{best_in_waves}
 
 -- the width in bits, how many pivots the run may make, and how many visits each of its searches may make

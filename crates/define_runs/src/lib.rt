@@ -1,10 +1,12 @@
 //! The run that finds the lottery: the opening search, then stage by stage pivots, pricing and closing, and how the run ends. The
 //! definitions are in `specs/`. Stands on the table of `define_rows`, the searches of `define_searches` and `define_searches`, and the
-//! spreading of `define_spreads`. Used by `laws_of_runs`, which proves what each ending says about the pool; by `leximin_run`, which
+//! spreading of `define_runs`. Used by `laws_of_runs`, which proves what each ending says about the pool; by `leximin_run`, which
 //! executes the run; by the commands and the office, for `Limits` and `Workers`; and by the summary, which prints `RunSizes`.
 //!
 //! The functions without a body are the promises: laws over the definitions, and worked examples.
 #![tactic(auto)]
+
+pub mod spreads;
 
 ghost use Rattle.std.specs.Prelude.{◌≡◌, None, Some, pos};
 ghost use Rattle.define_pools.specs.Pool.{Pool};

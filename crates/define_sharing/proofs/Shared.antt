@@ -9,7 +9,7 @@ use Rattle.define_rows.specs.Steps.{enter_stage, open_row}
 use Rattle.define_rows.specs.Table.{Table, row_at}
 use Rattle.define_searches.specs.Classes.{Classes}
 use Rattle.define_searches.specs.Compositions.{price}
-use Rattle.define_spreads.specs.Spreading.{TotalPass, spread}
+use Rattle.define_runs.specs.Spreading.{TotalPass, spread}
 use Rattle.define_runs.specs.Keeps.{IsReached}
 use Rattle.define_runs.specs.Run.{Ended, Ending, GoOn, Next, NodesSpent, NoPanel, Found, TooWide, TotalPasses, PivotsSpent, RunLimits, answered, closed_rows, follow, opening, parts_of, priced, step, step_in_stage}
 use Rattle.define_runs.proofs.Following.{comes_to_end, same_ending, stays_ended}

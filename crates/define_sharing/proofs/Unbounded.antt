@@ -8,7 +8,7 @@ use Rattle.define_rows.specs.Steps.{enter_stage, open_row}
 use Rattle.define_rows.specs.Table.{Table, row_at}
 use Rattle.define_searches.specs.Classes.{Classes, KeepsLimits}
 use Rattle.define_searches.specs.Compositions.{price}
-use Rattle.define_spreads.specs.Spreading.{spread}
+use Rattle.define_runs.specs.Spreading.{spread}
 use Rattle.define_runs.specs.Keeps.{AreRunLimits, KeepsRun}
 use Rattle.define_runs.specs.Run.{Ended, Ending, GoOn, Next, NodesSpent, RunLimits, answered, closed_rows, follow, opening, parts_of, priced, pricing_visits, step, step_in_stage}
 use Rattle.define_runs.specs.Work.{work_left}

@@ -18,7 +18,7 @@ use Rattle.define_rows.specs.Width.{all_in_turn, reach_operations, width_limit}
 use Rattle.define_rows.proofs.PivotLaws.{after-Ok_parts}
 use Rattle.define_searches.specs.Classes.{Classes, KeepsLimits}
 use Rattle.define_searches.specs.Fronts.{sizes_of}
-use Rattle.define_spreads.specs.Spreading.{TotalPass, spread}
+use Rattle.define_runs.specs.Spreading.{TotalPass, spread}
 use Rattle.define_runs.specs.Keeps.{AreRunLimits, KeepsRun}
 use Rattle.define_runs.specs.Run.{Ended, Ending, Found, GoOn, Next, NoPanel, NodesSpent, PivotsSpent, RunLimits, TooWide, TotalPasses, answered, follow, opening, parts_of, step}
 use Rattle.define_runs.proofs.Kept.{opening_kept, step_kept}

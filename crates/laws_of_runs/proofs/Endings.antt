@@ -7,7 +7,7 @@ use Rattle.define_runs.specs.Run.{Ending, RunLimits, Next, GoOn, Ended, NoPanel,
 use Rattle.define_searches.specs.Classes.{Classes}
 use Rattle.define_searches.specs.Compositions.{first_composition}
 use Rattle.define_searches.specs.Visits.{first_search}
-use Rattle.define_spreads.specs.Spreading.{spread}
+use Rattle.define_runs.specs.Spreading.{spread}
 use Rattle.define_runs.proofs.StepCases.{StepIs, Enters, Answers, NoPivot, Pivots, Passes, NoVisits, Widens, Closes, step_is, OpeningIs, Spends, FindsNoPanel, IsWide, Begins, opening_is}
 
 -- the run ended because an operation passed the width, or a step exceeded the budget of pivots or of visits

@@ -8,8 +8,8 @@ use Rattle.define_rows.specs.InOrder.{settled_count}
 use Rattle.define_rows.specs.Table.{Table}
 use Rattle.define_searches.specs.Classes.{Classes, MakesClasses, classes_by}
 use Rattle.define_searches.proofs.Limits.{limits_kept}
-use Rattle.define_spreads.specs.Spreading.{AreParts, TotalPass, greatest_total, spread}
-use Rattle.define_spreads.proofs.Lotteries.{is_spread, pool_lottery}
+use Rattle.define_runs.specs.Spreading.{AreParts, TotalPass, greatest_total, spread}
+use Rattle.define_runs.proofs.Lotteries.{is_spread, pool_lottery}
 use Rattle.define_runs.specs.Keeps.{AreRunLimits, IsReached, KeepsRun}
 use Rattle.define_runs.specs.Run.{Ends, RunLimits, Ended, Found, NoPanel, answered, closed_rows, opening, parts_of, stage_of}
 use Rattle.define_runs.proofs.Kept.{reached_kept}

@@ -22,10 +22,10 @@ use Rattle.define_rows.proofs.Satisfied.{solution-stands, solution-tight}
 use Rattle.define_searches.specs.Classes.{Classes, MakesClasses, class_by, class_number, classes_by}
 use Rattle.define_searches.proofs.ClassNumbers.{number_below, number_has}
 use Rattle.define_searches.proofs.Parting.{classes_part}
-use Rattle.define_spreads.specs.Spreading.{AreParts, expected, spread}
-use Rattle.define_spreads.proofs.CommonTotals.{each_den}
-use Rattle.define_spreads.proofs.Lotteries.{IsSpread, even_chances, is_spread, pool_can_give}
-use Rattle.define_spreads.proofs.SpreadPanels.{OfComposition, each_spread_panel}
+use Rattle.define_runs.specs.Spreading.{AreParts, expected, spread}
+use Rattle.define_runs.proofs.CommonTotals.{each_den}
+use Rattle.define_runs.proofs.Lotteries.{IsSpread, even_chances, is_spread, pool_can_give}
+use Rattle.define_runs.proofs.SpreadPanels.{OfComposition, each_spread_panel}
 use Rattle.define_runs.specs.Keeps.{KeepsRun}
 use Rattle.define_runs.specs.Run.{RunLimits, parts_of}
 use Rattle.define_runs.proofs.Parts.{parts_are}

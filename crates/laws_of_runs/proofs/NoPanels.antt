@@ -11,7 +11,7 @@ use Rattle.define_searches.specs.Compositions.{compositions, first_composition}
 use Rattle.define_searches.specs.Visits.{first_search}
 use Rattle.define_searches.proofs.FirstSearch.{search_finds_first}
 use Rattle.define_searches.proofs.PoolClasses.{classes_in_order, no_panel_of_classes, search_finds_none}
-use Rattle.define_spreads.specs.Spreading.{TotalPass, spread}
+use Rattle.define_runs.specs.Spreading.{TotalPass, spread}
 use Rattle.define_runs.proofs.Following.{ends_at_once}
 use Rattle.laws_of_runs.proofs.Endings.{EndsAt, FindsNone, IsAnswered, ends_at, is_refused, opening_tells, step_tells}
 

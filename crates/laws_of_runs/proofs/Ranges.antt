@@ -21,7 +21,7 @@ use Rattle.define_searches.specs.Classes.{Class, Classes, MakesClasses, class_by
 use Rattle.define_searches.proofs.ByClass.{by_class, taken}
 use Rattle.define_searches.proofs.ClassNumbers.{class_count, leader_below}
 use Rattle.define_searches.specs.Fronts.{sizes_of}
-use Rattle.define_spreads.specs.Spreading.{greatest_total}
+use Rattle.define_runs.specs.Spreading.{greatest_total}
 use Rattle.define_runs.specs.Keeps.{AreRunLimits, KeepsRun}
 use Rattle.define_runs.specs.Run.{Ends, Found, RunLimits, closed_rows, stage_of}
 use Rattle.laws_of_runs.proofs.Certified.{found_certified}

@@ -10,7 +10,7 @@ use Rattle.define_runs.specs.Run.{Ends, Found, NoPanel, RunLimits}
 use Rattle.define_rows.specs.Table.{Table}
 use Rattle.define_searches.specs.Classes.{MakesClasses, classes_by}
 use Rattle.define_searches.specs.Visits.{first_search}
-use Rattle.define_spreads.specs.Spreading.{greatest_total}
+use Rattle.define_runs.specs.Spreading.{greatest_total}
 
 -- if a run ends with `NoPanel`, the pool has no quota panel
 abbrev pub NoPanelWhereNone : Type 0

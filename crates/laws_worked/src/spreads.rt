@@ -4,8 +4,8 @@ ghost use Rattle.std.specs.Prelude.{◌≡◌, ◌<◌, [], ◌∷◌, ◌+◌, 
 ghost use Rattle.frac128.specs.Divisors.{lcm_of};
 ghost use Rattle.define_pools.specs.WorkedExamples.{row};
 ghost use Rattle.define_searches.specs.Classes.{classes_of};
-ghost use Rattle.define_spreads.specs.Spreading.{spread};
-ghost use Rattle.define_spreads.specs.WorkedSpreads.{one_of_three, pair_and_one, over};
+ghost use Rattle.define_runs.specs.Spreading.{spread};
+ghost use Rattle.define_runs.specs.WorkedSpreads.{one_of_three, pair_and_one, over};
 
 /// One seat for three volunteers of different values: the composition with the first has the fraction 1/10^38, the one with the second has
 /// the rest, and the total is 10^38. With 10^38 + 1 as the denominator, the total passes 10^38 at the first part. If the first volunteer is

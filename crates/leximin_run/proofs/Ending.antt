@@ -15,7 +15,7 @@ use Rattle.define_rows.specs.Steps.{enter_stage, fraction_of, solution}
 use Rattle.define_rows.specs.Table.{Table}
 use Rattle.define_rows.proofs.Satisfied.{solution-stands}
 use Rattle.define_searches.specs.Classes.{Classes}
-use Rattle.define_spreads.specs.Spreading.{TotalPass, spread}
+use Rattle.define_runs.specs.Spreading.{TotalPass, spread}
 use Rattle.define_runs.specs.Keeps.{IsReached}
 use Rattle.define_runs.specs.Run.{Ending, Ends, RunLimits, GoOn, Ended, Found, NodesSpent, PivotsSpent, TooWide, TotalPasses, answered, parts_of, stage_of, step, step_in_stage}
 use Rattle.define_runs.proofs.Following.{comes_to_end, goes_on}

@@ -12,7 +12,7 @@ use Rattle.define_runs.specs.Keeps.{IsReached}
 use Rattle.define_runs.specs.Run.{Ending, Ends, RunLimits}
 use Rattle.define_searches.specs.Classes.{Classes}
 use Rattle.define_sharing.specs.Sharing.{MayEnd, SpendsVisits, spends_pricing}
-use Rattle.define_spreads.specs.Spreading.{TotalPass}
+use Rattle.define_runs.specs.Spreading.{TotalPass}
 use Rattle.leximin_run.specs.Advancing.{HoldsFrom}
 use Rattle.leximin_run.specs.declared.running.Refusal.{Refusal}
 use Rattle.leximin_run.specs.declared.running.Refusal.TheVariants.{Wide, NoPivot, NoVisit, NoMemory}

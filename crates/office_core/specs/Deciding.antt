@@ -6,7 +6,7 @@ use Rattle.define_pools.specs.Pool.{Pool}
 use Rattle.define_rows.specs.Table.{Table}
 use Rattle.define_runs.specs.Run as run
 use Rattle.define_runs.specs.Run.{Ending}
-use Rattle.define_spreads.specs.Spreading.{TotalPass}
+use Rattle.define_runs.specs.Spreading.{TotalPass}
 use Rattle.leximin_run.specs.Answers.{IsTotalPass, stood}
 use Rattle.leximin_run.specs.declared.stops.Stop.{Stop}
 use Rattle.leximin_run.specs.declared.stops.Stop.TheVariants as stop

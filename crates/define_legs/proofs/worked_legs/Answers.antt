@@ -8,7 +8,7 @@ use Rattle.define_rows.specs.Steps.{enter_stage, closed_by, add_column, solution
 use Rattle.define_rows.specs.Table.{coefficient}
 use Rattle.define_rows.specs.Width.{all_in_turn, operation, reach_from}
 use Rattle.define_runs.specs.Run.{opening, pricing_visits, step}
-use Rattle.define_spreads.specs.Spreading.{spread}
+use Rattle.define_runs.specs.Spreading.{spread}
 use Rattle.define_rows.specs.Binomials.{binomial}
 use Rattle.define_legs.proofs.worked_legs.Goals as goal
 

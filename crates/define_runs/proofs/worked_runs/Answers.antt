@@ -10,7 +10,7 @@ use Rattle.define_pools.specs.WorkedExamples.{four}
 use Rattle.define_searches.specs.Classes.{classes_of}
 use Rattle.define_runs.specs.Run.{Next, GoOn, Ended, NoPanel, Found, TooWide, TotalPasses, PivotsSpent, NodesSpent, follow, opening, pricing_visits, run_limits, step}
 use Rattle.define_runs.specs.WorkedRuns.{limits, pairs}
-use Rattle.define_spreads.specs.Spreading.{spread}
+use Rattle.define_runs.specs.Spreading.{spread}
 use Rattle.define_runs.proofs.worked_runs.Goals as goal
 
 pub returns-clause-found : goal.returns-clause-found

@@ -2,7 +2,7 @@ use Rattle.std.proofs.Common.{◌≡◌, ◌++◌, ℕ, List, Bool, false, lengt
 use Rattle.std.specs.List.{range_with_len}
 use Rattle.std.proofs.lemmas.List.{length-replicate}
 use Rattle.std.proofs.Math.Seq.{take-append_seam}
-use Rattle.define_spreads.specs.Spreading.{is_given}
+use Rattle.define_runs.specs.Spreading.{is_given}
 use Rattle.alike.proofs.Starts.{first_marks}
 use Rattle.alike.proofs.arcs.given.Goals as goal
 

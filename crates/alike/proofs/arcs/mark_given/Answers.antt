@@ -7,7 +7,7 @@ use Rattle.std.proofs.lemmas.Slice.Zip.{zip_turn, zip_end}
 use Rattle.define_pools.proofs.Each.{each_at}
 use Rattle.define_pools.specs.Lists.{includes}
 use Rattle.define_searches.specs.Classes.{Class, volunteer_count}
-use Rattle.define_spreads.specs.Spreading.{turned}
+use Rattle.define_runs.specs.Spreading.{turned}
 use Rattle.alike.specs.Steps.{AreMarked}
 use Rattle.alike.proofs.Starts.{given_all, given_more, size_divides}
 use Rattle.alike.proofs.arcs.mark_given.Goals as goal

@@ -1,5 +1,5 @@
 use Rattle.std.proofs.Common.{take, length}
-use Rattle.define_spreads.specs.Spreading.{is_given}
+use Rattle.define_runs.specs.Spreading.{is_given}
 use Rattle.alike.specs.Steps.{AreMarked}
 use Rattle.alike.proofs.arcs.mark_given.Given as goal
 

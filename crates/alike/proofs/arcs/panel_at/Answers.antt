@@ -3,7 +3,7 @@ use Rattle.std.specs.List.{range_with_len}
 use Rattle.define_pools.specs.Lists.{is_increasing}
 use Rattle.define_searches.specs.Classes.{volunteer_count}
 use Rattle.define_searches.proofs.FirstPanel.{filter_increases}
-use Rattle.define_spreads.specs.Spreading.{is_given, panel_at, dial}
+use Rattle.define_runs.specs.Spreading.{is_given, panel_at, dial}
 use Rattle.alike.proofs.Starts.{passing_numbers}
 use Rattle.alike.proofs.arcs.panel_at.Goals as goal
 use Rattle.alike.proofs.arcs.panel_at.Goals.{After-new}

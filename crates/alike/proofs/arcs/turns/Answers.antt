@@ -1,7 +1,7 @@
 use Rattle.std.proofs.Common.{◌≡◌, ◌<◌, ◌*◌, ◌/◌, ℕ, zero, suc, sym, arith}
 use Rattle.std.specs.Int.{◌∣◌}
 use Rattle.std.proofs.Math.Nat.{div-lt_iff_lt-mul, div-mul_cancel}
-use Rattle.define_spreads.proofs.Dials.{Divided, turn_is}
+use Rattle.define_runs.proofs.Dials.{Divided, turn_is}
 use Rattle.alike.proofs.arcs.turns.Goals as goal
 
 some_step : (size places at : ℕ) → size ∣ places → at < places → 0 < places / size

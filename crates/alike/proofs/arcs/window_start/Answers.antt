@@ -1,6 +1,6 @@
 use Rattle.std.proofs.Common.{◌≡◌, ◌<◌, ◌*◌, ◌/◌, true, false, length, sym, ◌∙◌, subst}
 use Rattle.std.specs.Int.{◌∣◌}
-use Rattle.define_spreads.specs.Spreading.{is_partly_taken}
+use Rattle.define_runs.specs.Spreading.{is_partly_taken}
 use Rattle.alike.proofs.Starts.{any_start, start_within, some_size}
 use Rattle.alike.proofs.arcs.window_start.Goals as goal
 

@@ -4,7 +4,7 @@ use Rattle.std.specs.List.{dedup, flat_map}
 use Rattle.std.specs.List.Sorted.{IsPermutation, IsSorted}
 use Rattle.std.proofs.lemmas.List.{take_all}
 use Rattle.std.proofs.lemmas.List.Filters.{dedup_is}
-use Rattle.define_spreads.specs.Spreading.{marks}
+use Rattle.define_runs.specs.Spreading.{marks}
 use Rattle.alike.proofs.Rising.{cuts_made}
 use Rattle.alike.proofs.dials.cuts.Goals as goal
 

@@ -1,6 +1,6 @@
 use Rattle.std.proofs.Common.{◌≡◌, ◌∷◌, take}
 use Rattle.std.specs.List.{flat_map}
-use Rattle.define_spreads.specs.Spreading.{marks}
+use Rattle.define_runs.specs.Spreading.{marks}
 use Rattle.alike.proofs.dials.cuts.Given as goal
 
 abbrev pub invariant-loop-size : goal.invariant-loop-size

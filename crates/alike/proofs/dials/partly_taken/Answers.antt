@@ -2,7 +2,7 @@ use Rattle.std.proofs.Common.{◌≡◌, ◌⊎◌, inl, inr, ◌≤◌, ◌<◌
 use Rattle.std.proofs.lemmas.Bool.{cases_lt}
 use Rattle.std.proofs.lemmas.Slice.Zip.{zip_turn, zip_end}
 use Rattle.std.proofs.lemmas.List.{append-nil}
-use Rattle.define_spreads.specs.Spreading.{is_partly_taken, partly_taken}
+use Rattle.define_runs.specs.Spreading.{is_partly_taken, partly_taken}
 use Rattle.alike.proofs.Parts.{partly-more, partly-whole}
 use Rattle.alike.proofs.dials.partly_taken.Goals as goal
 

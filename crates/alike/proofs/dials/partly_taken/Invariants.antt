@@ -1,5 +1,5 @@
 use Rattle.std.proofs.Common.{◌≡◌, take, length}
-use Rattle.define_spreads.specs.Spreading.{partly_taken}
+use Rattle.define_runs.specs.Spreading.{partly_taken}
 use Rattle.alike.proofs.dials.partly_taken.Given as goal
 
 abbrev pub invariant-loop-class : goal.invariant-loop-class

@@ -3,8 +3,8 @@ use Rattle.std.specs.List.{fold}
 use Rattle.std.proofs.lemmas.List.{get_or_default}
 use Rattle.std.proofs.Math.Nat.{lt_of_not-le}
 use Rattle.frac128.specs.Divisors.{lcm_of}
-use Rattle.define_spreads.specs.Spreading.{greatest_total}
-use Rattle.define_spreads.proofs.CommonTotals.{lcm_of-positive}
+use Rattle.define_runs.specs.Spreading.{greatest_total}
+use Rattle.define_runs.proofs.CommonTotals.{lcm_of-positive}
 use Rattle.alike.proofs.Lengths.{fold-next, passes_in_end}
 use Rattle.alike.proofs.dials.places.Goals as goal
 

@@ -1,7 +1,7 @@
 use Rattle.std.proofs.Common.{◌≡◌, ◌<◌, ◌≤◌, drop}
 use Rattle.std.specs.List.{fold}
 use Rattle.frac128.specs.Divisors.{lcm_of}
-use Rattle.define_spreads.specs.Spreading.{greatest_total}
+use Rattle.define_runs.specs.Spreading.{greatest_total}
 use Rattle.alike.proofs.dials.places.Given as goal
 
 abbrev pub invariant-loop-size : goal.invariant-loop-size

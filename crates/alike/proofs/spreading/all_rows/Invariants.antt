@@ -1,6 +1,6 @@
 use Rattle.std.proofs.Common.{◌≡◌, take}
 use Rattle.std.specs.List.{flat_map}
-use Rattle.define_spreads.specs.Spreading.{rows_of}
+use Rattle.define_runs.specs.Spreading.{rows_of}
 use Rattle.alike.proofs.spreading.all_rows.Given as goal
 
 abbrev pub invariant-loop-composition : goal.invariant-loop-composition

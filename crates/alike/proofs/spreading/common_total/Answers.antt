@@ -4,8 +4,8 @@ use Rattle.std.specs.List.{All, fold}
 use Rattle.std.proofs.lemmas.Int.{to_z-of_z}
 use Rattle.std.proofs.Math.Nat.{mul-pos, lt_of_not-le}
 use Rattle.frac128.specs.Divisors.{lcm_of}
-use Rattle.define_spreads.specs.Spreading.{dial, greatest_total, partly_taken, TotalPass}
-use Rattle.define_spreads.proofs.CommonTotals.{dial-positive, lcm_of-positive}
+use Rattle.define_runs.specs.Spreading.{dial, greatest_total, partly_taken, TotalPass}
+use Rattle.define_runs.proofs.CommonTotals.{dial-positive, lcm_of-positive}
 use Rattle.alike.proofs.Parts.{sizes_positive}
 use Rattle.alike.proofs.Totals.{next_so_far, passes_here}
 use Rattle.alike.proofs.Words128.{signed_is, unsigned_is}

@@ -1,5 +1,5 @@
 use Rattle.std.proofs.Common.{◌≡◌, ◌<◌, ◌≤◌, drop}
-use Rattle.define_spreads.specs.Spreading.{greatest_total, total_from}
+use Rattle.define_runs.specs.Spreading.{greatest_total, total_from}
 use Rattle.alike.proofs.spreading.common_total.Given as goal
 
 abbrev pub invariant-loop-place : goal.invariant-loop-place

@@ -3,7 +3,7 @@ use Rattle.std.specs.List.{fold}
 use Rattle.std.proofs.lemmas.List.Elements.{recursion_from_All}
 use Rattle.std.proofs.Math.Nat.{lt_of_not-le}
 use Rattle.frac128.specs.Divisors.{lcm_of}
-use Rattle.define_spreads.specs.Spreading.{greatest_total}
+use Rattle.define_runs.specs.Spreading.{greatest_total}
 use Rattle.alike.proofs.Lengths.{fold-positive, next_passes, product_passes}
 use Rattle.alike.proofs.spreading.next_total.Goals as goal
 

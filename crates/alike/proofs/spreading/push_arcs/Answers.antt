@@ -3,12 +3,12 @@ use Rattle.std.specs.Prelude.{unsigned_abs}
 use Rattle.std.specs.Int.{w128}
 use Rattle.std.proofs.lemmas.Int.{ints}
 use Rattle.std.proofs.lemmas.List.{take_all}
-use Rattle.define_spreads.specs.Spreading.{arcs, cuts, dial, greatest_total}
+use Rattle.define_runs.specs.Spreading.{arcs, cuts, dial, greatest_total}
 use Rattle.alike.specs.Steps.{arc_row}
 use Rattle.alike.proofs.ArcRows.{arc_of, arc_weighs, row_added}
 use Rattle.alike.proofs.Words128.{total_below, signed_is, not_negative}
 use Rattle.alike.proofs.spreading.push_arcs.Goals as goal
-use Rattle.define_spreads.proofs.FewPanels.{length-arcs}
+use Rattle.define_runs.proofs.FewPanels.{length-arcs}
 
 pub panel_at-requires-clause-at : goal.panel_at-requires-clause-at
 panel_at-requires-clause-at c = (arc_of c.args.classes.now c.args.counts.now c.args.cuts.now c.args.places c.loop-number.number c.requires.cuts c.requires.places (omega arith)).on

@@ -1,5 +1,5 @@
 use Rattle.std.proofs.Common.{◌≡◌, ◌++◌, map, take}
-use Rattle.define_spreads.specs.Spreading.{arcs}
+use Rattle.define_runs.specs.Spreading.{arcs}
 use Rattle.alike.specs.Steps.{arc_row}
 use Rattle.alike.proofs.spreading.push_arcs.Given as goal
 

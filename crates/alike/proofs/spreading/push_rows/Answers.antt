@@ -4,8 +4,8 @@ use Rattle.std.specs.List.{fold, All}
 use Rattle.std.proofs.lemmas.Result.{on_ok_weaker}
 use Rattle.std.proofs.Math.Nat.{le_of_dvd, mul-le-mul_right}
 use Rattle.frac128.specs.Divisors.{lcm_of}
-use Rattle.define_spreads.specs.Spreading.{dial, greatest_total, partly_taken}
-use Rattle.define_spreads.proofs.CommonTotals.{dial-positive}
+use Rattle.define_runs.specs.Spreading.{dial, greatest_total, partly_taken}
+use Rattle.define_runs.proofs.CommonTotals.{dial-positive}
 use Rattle.alike.proofs.ArcRows.{rows_are}
 use Rattle.alike.proofs.Parts.{sizes_positive, sizes_divide}
 use Rattle.alike.proofs.spreading.push_rows.Goals as goal

@@ -3,9 +3,9 @@ use Rattle.std.specs.Prelude.{unsigned_abs}
 use Rattle.std.specs.Int.{w128}
 use Rattle.std.proofs.lemmas.Int.{ints}
 use Rattle.std.proofs.lemmas.Result.{err_from_is_err_and}
-use Rattle.define_spreads.specs.Spreading.{AreParts, spread}
-use Rattle.define_spreads.proofs.CommonTotals.{common_total}
-use Rattle.define_spreads.proofs.Lotteries.{even_chances, limits_can_give, pool_lottery}
+use Rattle.define_runs.specs.Spreading.{AreParts, spread}
+use Rattle.define_runs.proofs.CommonTotals.{common_total}
+use Rattle.define_runs.proofs.Lotteries.{even_chances, limits_can_give, pool_lottery}
 use Rattle.alike.proofs.SpreadStops.{lottery_made, stop_told}
 use Rattle.alike.proofs.Totals.{total_of_each}
 use Rattle.alike.proofs.Words128.{not_negative, signed_is, total_below}

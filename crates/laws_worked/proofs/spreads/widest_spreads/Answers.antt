@@ -3,7 +3,7 @@ use Rattle.std.specs.Int.{IsGcd}
 use Rattle.std.proofs.lemmas.Nat.Gcd.{IsGcd-from_mod, IsGcd-from_zero, IsGcd-swap}
 use Rattle.frac128.specs.Divisors.{lcm_of, gcd_of, common_divisor_up_to}
 use Rattle.frac128.proofs.DivisorLaws.{gcd_of_is, gcd_of-scale}
-use Rattle.define_spreads.specs.Spreading.{spread}
+use Rattle.define_runs.specs.Spreading.{spread}
 use Rattle.laws_worked.proofs.spreads.widest_spreads.Goals as goal
 
 -- the least common multiple of 1 and n is n

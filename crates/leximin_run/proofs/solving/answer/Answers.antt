@@ -2,7 +2,7 @@ use Rattle.std.proofs.Common.{Err, map, rules, refl, sym, ap, ◌∙◌, subst}
 use Rattle.define_legs.specs.Legs.{EndsWithLegs}
 use Rattle.define_runs.specs.Run.{Found, run_limits, stage_of}
 use Rattle.define_runs.proofs.Parts.{parts_are}
-use Rattle.define_spreads.specs.Spreading.{AreParts, spread}
+use Rattle.define_runs.specs.Spreading.{AreParts, spread}
 use Rattle.alike.specs.Spreads.{IsSpread}
 use Rattle.leximin_run.specs.Advancing.{HoldsFrom}
 use Rattle.leximin_run.proofs.Ending.{found_at_end, passed_at_end}

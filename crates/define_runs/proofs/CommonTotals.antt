@@ -12,7 +12,7 @@ use Rattle.frac128.specs.Divisors.{lcm_of, gcd_of, IsLeastCommonMultiple}
 use Rattle.frac128.specs.Fractions.{Fraction}
 use Rattle.frac128.proofs.DivisorLaws.{IsLeastCommonMultiple-lcm_of, beyond-positive}
 use Rattle.define_searches.specs.Classes.{Class, Classes}
-use Rattle.define_spreads.specs.Spreading.{is_partly_taken, partly_taken, dial, greatest_total, total_from, AreParts, IsCommonTotal}
+use Rattle.define_runs.specs.Spreading.{is_partly_taken, partly_taken, dial, greatest_total, total_from, AreParts, IsCommonTotal}
 
 pub lcm_of-positive : (x y : ℕ) → 0 < x → 0 < y → 0 < lcm_of x y
 unfolding lcm_of

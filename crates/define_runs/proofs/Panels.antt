@@ -13,12 +13,12 @@ use Rattle.define_searches.specs.Classes.{Class, Classes, PartVolunteers, volunt
 use Rattle.define_searches.specs.Compositions.{all_counts, compositions, composition_of, is_composition}
 use Rattle.define_searches.proofs.FirstPanel.{holds_filter}
 use Rattle.define_searches.proofs.Listed.{each_count}
-use Rattle.define_spreads.specs.Spreading.{is_partly_taken, partly_taken, dial, cuts, arcs, arcs_between, is_given, panel_at, turned}
-use Rattle.define_spreads.proofs.Arcs.{arcs_sum, each_arc, steps_turn, whole_turns}
-use Rattle.define_spreads.proofs.CommonTotals.{dial-positive}
-use Rattle.define_spreads.proofs.Cuts.{cuts_begin, cuts_increase}
-use Rattle.define_spreads.proofs.Dials.{Cut, Divided, IsMark, cuts_are, divided_dial, each_included, includes-partly, marks_cut, turn_is}
-use Rattle.define_spreads.proofs.Windows.{all_times, all_windows, at_most_once, includes-none, length-turned, one_if-includes, sum_below, times, times-none, times-some, times-turned, times-turned-le, windows_apart}
+use Rattle.define_runs.specs.Spreading.{is_partly_taken, partly_taken, dial, cuts, arcs, arcs_between, is_given, panel_at, turned}
+use Rattle.define_runs.proofs.Arcs.{arcs_sum, each_arc, steps_turn, whole_turns}
+use Rattle.define_runs.proofs.CommonTotals.{dial-positive}
+use Rattle.define_runs.proofs.Cuts.{cuts_begin, cuts_increase}
+use Rattle.define_runs.proofs.Dials.{Cut, Divided, IsMark, cuts_are, divided_dial, each_included, includes-partly, marks_cut, turn_is}
+use Rattle.define_runs.proofs.Windows.{all_times, all_windows, at_most_once, includes-none, length-turned, one_if-includes, sum_below, times, times-none, times-some, times-turned, times-turned-le, windows_apart}
 
 -- ---- counts within the classes
 

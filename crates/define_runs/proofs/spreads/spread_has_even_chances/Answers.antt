@@ -1,7 +1,7 @@
 use Rattle.define_searches.specs.Classes.{classes_by}
 use Rattle.define_searches.proofs.Parting.{classes_part}
-use Rattle.define_spreads.proofs.Lotteries.{even_chances, limits_can_give, pool_can_give}
-use Rattle.define_spreads.proofs.spread_has_even_chances.Goals as goal
+use Rattle.define_runs.proofs.Lotteries.{even_chances, limits_can_give, pool_can_give}
+use Rattle.define_runs.proofs.spreads.spread_has_even_chances.Goals as goal
 
 pub returns : goal.returns
 returns c = record {

@@ -8,7 +8,7 @@ use Rattle.std.proofs.Math.Seq.{take-add, take-append-add}
 use Rattle.define_pools.proofs.Sums.{total, total-add, total-zero, one_if}
 use Rattle.define_pools.specs.Lists.{includes, is_increasing}
 use Rattle.define_pools.proofs.Weights.{one_member}
-use Rattle.define_spreads.specs.Spreading.{turned}
+use Rattle.define_runs.specs.Spreading.{turned}
 
 -- ---- sums below a number
 

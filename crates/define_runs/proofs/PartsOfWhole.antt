@@ -7,8 +7,8 @@ use Rattle.define_pools.proofs.Sums.{total}
 use Rattle.frac128.specs.Fractions.{Fraction}
 use Rattle.define_searches.specs.Classes.{Classes}
 use Rattle.define_searches.specs.Compositions.{compositions}
-use Rattle.define_spreads.specs.Spreading.{AreParts, IsCommonTotal}
-use Rattle.define_spreads.proofs.CommonTotals.{each_den}
+use Rattle.define_runs.specs.Spreading.{AreParts, IsCommonTotal}
+use Rattle.define_runs.proofs.CommonTotals.{each_den}
 
 -- there is at least one part, since the fractions of the parts sum to one
 pub some_parts : (all : Classes) (parts : List (List ℕ × Fraction)) → AreParts all parts → 0 < length parts

@@ -8,10 +8,10 @@ use Rattle.define_pools.specs.Pool.{Pool}
 use Rattle.define_searches.specs.Classes.{Classes, MakesClasses, classes_by}
 use Rattle.define_searches.specs.Compositions.{composition_of}
 use Rattle.define_searches.proofs.Parting.{classes_part}
-use Rattle.define_spreads.specs.Spreading.{AreParts, cuts, panel_at, rows_of, spread}
-use Rattle.define_spreads.proofs.Dials.{Cut, cuts_are}
-use Rattle.define_spreads.proofs.Lotteries.{all_panels_are, is_spread, panel_below, parts_within, pool_can_give}
-use Rattle.define_spreads.proofs.Panels.{Within, panel_composes}
+use Rattle.define_runs.specs.Spreading.{AreParts, cuts, panel_at, rows_of, spread}
+use Rattle.define_runs.proofs.Dials.{Cut, cuts_are}
+use Rattle.define_runs.proofs.Lotteries.{all_panels_are, is_spread, panel_below, parts_within, pool_can_give}
+use Rattle.define_runs.proofs.Panels.{Within, panel_composes}
 
 module _ (pool : Pool) (alike : ℕ → ℕ → Bool) (makes : MakesClasses pool alike) (P : List ℕ → Type 0) where
   abbrev all : Classes

@@ -25,13 +25,13 @@ use Rattle.define_searches.proofs.ComposedPanels.{composed_panel_fits}
 use Rattle.define_searches.proofs.FirstPanel.{filter_increases}
 use Rattle.define_searches.proofs.LeaderPanels.{least_to_most}
 use Rattle.define_searches.proofs.Parting.{all_counted, classes_part}
-use Rattle.define_spreads.specs.Spreading.{AreParts, HasEvenChances, IsCommonTotal, TotalPass, arcs, arcs_between, cuts, dial, is_given, lottery_of, panel_at, rows_of, spread, total_from}
-use Rattle.define_spreads.proofs.Arcs.{arcs_begin, each_long}
-use Rattle.define_spreads.proofs.CommonTotals.{common_total}
-use Rattle.define_spreads.proofs.Cuts.{cuts_begin, cuts_increase}
-use Rattle.define_spreads.proofs.Dials.{Cut, cuts_are}
-use Rattle.define_spreads.proofs.Panels.{CanGive, Within, arcs_length, chance, compositions_within, panel_composes, panels_apart}
-use Rattle.define_spreads.proofs.Parts.{each_composition, some_parts, sum_is_total}
+use Rattle.define_runs.specs.Spreading.{AreParts, HasEvenChances, IsCommonTotal, TotalPass, arcs, arcs_between, cuts, dial, is_given, lottery_of, panel_at, rows_of, spread, total_from}
+use Rattle.define_runs.proofs.Arcs.{arcs_begin, each_long}
+use Rattle.define_runs.proofs.CommonTotals.{common_total}
+use Rattle.define_runs.proofs.Cuts.{cuts_begin, cuts_increase}
+use Rattle.define_runs.proofs.Dials.{Cut, cuts_are}
+use Rattle.define_runs.proofs.Panels.{CanGive, Within, arcs_length, chance, compositions_within, panel_composes, panels_apart}
+use Rattle.define_runs.proofs.PartsOfWhole.{each_composition, some_parts, sum_is_total}
 
 -- ---- sums over mapped and joined lists
 

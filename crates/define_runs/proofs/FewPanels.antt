@@ -10,10 +10,10 @@ use Rattle.define_pools.proofs.Sums.{total, sum_by-is-total}
 use Rattle.define_pools.specs.Lists.{includes, rising}
 use Rattle.frac128.specs.Fractions.{Fraction}
 use Rattle.define_searches.specs.Classes.{Class, Classes, volunteer_count}
-use Rattle.define_spreads.specs.Spreading.{is_partly_taken, partly_taken, dial, marks, cuts, arcs_between, once_each, rows_of}
-use Rattle.define_spreads.proofs.Cuts.{includes-flat_map, zero_again}
-use Rattle.define_spreads.proofs.Dials.{IsPartly, each_partly, includes-mapped}
-use Rattle.define_spreads.proofs.Lotteries.{row_at, some_rows}
+use Rattle.define_runs.specs.Spreading.{is_partly_taken, partly_taken, dial, marks, cuts, arcs_between, once_each, rows_of}
+use Rattle.define_runs.proofs.Cuts.{includes-flat_map, zero_again}
+use Rattle.define_runs.proofs.Dials.{IsPartly, each_partly, includes-mapped}
+use Rattle.define_runs.proofs.Lotteries.{row_at, some_rows}
 
 length-marks : (len : ℕ) (sizes : List ℕ) → length (flat_map (marks len) sizes) ≡ total (λ size. size) sizes
 length-marks len [] = refl

@@ -13,7 +13,7 @@ use Rattle.frac128.proofs.FractionLaws.{IsLowest-divided, products-divided}
 use Rattle.define_pools.specs.Lists.{all_different}
 use Rattle.define_searches.specs.Classes.{Classes}
 use Rattle.define_searches.specs.Compositions.{compositions}
-use Rattle.define_spreads.specs.Spreading.{AreParts, AreShares, with_fraction}
+use Rattle.define_runs.specs.Spreading.{AreParts, AreShares, with_fraction}
 
 -- a share's numerator over a common multiple, times the whole, is the share times the multiple
 share_of : (share whole common : ℕ) → (lowest_of share whole).den ∣ common → (lowest_of share whole).num * (common / (lowest_of share whole).den) * whole ≡ share * common

@@ -1,9 +1,9 @@
 use Rattle.std.proofs.Common.{◌<◌, ◌≤◌, length, sym, subst}
 use Rattle.define_searches.specs.Classes.{classes_by}
 use Rattle.define_searches.proofs.Parting.{all_counted}
-use Rattle.define_spreads.specs.Spreading.{rows_of}
-use Rattle.define_spreads.proofs.FewPanels.{few_rows}
-use Rattle.define_spreads.proofs.few_panels.Goals as goal
+use Rattle.define_runs.specs.Spreading.{rows_of}
+use Rattle.define_runs.proofs.FewPanels.{few_rows}
+use Rattle.define_runs.proofs.spreads.few_panels.Goals as goal
 
 pub returns : goal.returns
 returns c pool alike total part makes some =

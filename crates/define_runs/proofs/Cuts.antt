@@ -8,7 +8,7 @@ use Rattle.define_pools.proofs.Each.{each_map, list_all_from_each}
 use Rattle.define_pools.specs.Lists.{includes, is_increasing, put_in_order, rising}
 use Rattle.define_pools.proofs.Orders.{Rises, Rises-rising}
 use Rattle.define_searches.specs.Classes.{Classes}
-use Rattle.define_spreads.specs.Spreading.{partly_taken, dial, marks, once_each, cuts}
+use Rattle.define_runs.specs.Spreading.{partly_taken, dial, marks, once_each, cuts}
 
 -- ---- the numbers of a sorted list
 

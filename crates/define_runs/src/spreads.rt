@@ -5,16 +5,14 @@
 //!
 //! The functions have no body: their contracts are laws over the definitions, and worked examples. The promises that matter most are
 //! `spread_is_lottery` and `spread_has_even_chances`.
-#![tactic(auto)]
-
 ghost use Rattle.std.specs.Prelude.{◌≡◌, ◌≤◌, ◌<◌, ℕ, Bool, List, [], ◌∷◌, length, map, Ok};
 ghost use Rattle.frac128.specs.Fractions.{Fraction};
 ghost use Rattle.define_pools.specs.Lottery.{Lottery, IsLottery};
 ghost use Rattle.define_pools.specs.Pool.{Pool};
 ghost use Rattle.define_searches.specs.Classes.{Classes, KeepsLimits, MakesClasses, PartVolunteers, classes_by, classes_of};
 ghost use Rattle.define_searches.specs.Compositions.{compositions};
-ghost use Rattle.define_spreads.specs.Spreading.{AreParts, AreShares, HasEvenChances, IsCommonTotal, greatest_total, with_fraction, arcs, rows_of, spread, total_from};
-ghost use Rattle.define_spreads.specs.WorkedSpreads.{one_of_three, three_and_two, over};
+ghost use Rattle.define_runs.specs.Spreading.{AreParts, AreShares, HasEvenChances, IsCommonTotal, greatest_total, with_fraction, arcs, rows_of, spread, total_from};
+ghost use Rattle.define_runs.specs.WorkedSpreads.{one_of_three, three_and_two, over};
 
 /// Shares of a whole, as fractions in lowest terms, are positive fractions that sum to one.
 pub fn shares_are_parts()

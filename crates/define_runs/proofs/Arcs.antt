@@ -5,9 +5,9 @@ use Rattle.std.proofs.lemmas.Bool.{and_parts, cases_lt, ltb-true, ne_eqb}
 use Rattle.std.proofs.Math.Nat.{div-eq_of_lt-le, div-mul-le_self, lt-div-mul-add, mul-div_cancel}
 use Rattle.define_pools.proofs.Sums.{total}
 use Rattle.define_pools.specs.Lists.{includes, is_increasing}
-use Rattle.define_spreads.specs.Spreading.{arcs_between}
-use Rattle.define_spreads.proofs.Windows.{sum_below}
-use Rattle.define_spreads.proofs.Dials.{each_included}
+use Rattle.define_runs.specs.Spreading.{arcs_between}
+use Rattle.define_runs.proofs.Windows.{sum_below}
+use Rattle.define_runs.proofs.Dials.{each_included}
 
 -- ---- functions that stay the same along each arc
 

@@ -1,5 +1,5 @@
-use Rattle.define_spreads.proofs.Lotteries.{is_spread, pool_lottery}
-use Rattle.define_spreads.proofs.spread_is_lottery.Goals as goal
+use Rattle.define_runs.proofs.Lotteries.{is_spread, pool_lottery}
+use Rattle.define_runs.proofs.spreads.spread_is_lottery.Goals as goal
 
 pub returns : goal.returns
 returns c = record {

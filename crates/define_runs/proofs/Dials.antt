@@ -11,9 +11,9 @@ use Rattle.frac128.specs.Divisors.{lcm_of, IsLeastCommonMultiple}
 use Rattle.frac128.proofs.DivisorLaws.{IsLeastCommonMultiple-lcm_of}
 use Rattle.define_pools.specs.Lists.{includes}
 use Rattle.define_searches.specs.Classes.{Class, Classes}
-use Rattle.define_spreads.specs.Spreading.{is_partly_taken, partly_taken, dial, marks, cuts}
-use Rattle.define_spreads.proofs.CommonTotals.{lcm_of-positive, dial-positive}
-use Rattle.define_spreads.proofs.Cuts.{each_cut, includes-cuts, includes-flat_map}
+use Rattle.define_runs.specs.Spreading.{is_partly_taken, partly_taken, dial, marks, cuts}
+use Rattle.define_runs.proofs.CommonTotals.{lcm_of-positive, dial-positive}
+use Rattle.define_runs.proofs.Cuts.{each_cut, includes-cuts, includes-flat_map}
 
 -- if P holds of each element of a list, it holds of each number that the list includes
 pub each_included : (P : ℕ → Type 0) (xs : List ℕ) (x : ℕ) → AllByRecursion P xs → includes xs x ≡ true → P x

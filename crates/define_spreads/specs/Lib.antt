@@ -1,2 +1,0 @@
-pub mod Spreading
-pub mod WorkedSpreads
