@@ -6,8 +6,8 @@ use Rattle.define_runs.specs.Run.{Ending, Limits, RunEnds, run_limits}
 use Rattle.define_searches.specs.Classes.{are_alike, classes_of}
 use Rattle.define_searches.proofs.AlikeClasses.{alike_makes}
 use Rattle.define_searches.proofs.Limits.{limits_kept}
-use Rattle.define_sharing.specs.Sharing.{RunMayEnd, spends_pricing}
-use Rattle.define_sharing.proofs.Shared.{sharing_keeps}
+use Rattle.define_runs.specs.Sharing.{RunMayEnd, spends_pricing}
+use Rattle.define_runs.proofs.Shared.{sharing_keeps}
 use Rattle.laws_of_legs.proofs.Endings.{each_has_legs, spends_below}
 use Rattle.command_shell.specs.declared.status.Printed.TheVariants.{Done, NoPanel}
 use Rattle.command_shell.specs.declared.status.Cause.TheVariants.{Wide, Spent}

@@ -1,5 +1,5 @@
 -- What `lottery --share` answers about a pool. Its workers share a bound, so a pricing may make fewer visits than it makes for `lottery`, and
--- whether it stays within its budget may depend on when the workers run. Builds on Lottery, and on Sharing of `define_sharing`.
+-- whether it stays within its budget may depend on when the workers run. Builds on Lottery, and on Sharing of `define_runs`.
 use Rattle.std.specs.Prelude.{◌≡◌, ℕ, IsFalse, List}
 use Rattle.define_bundles.specs.BundleText.{bundle_text}
 use Rattle.define_pools.specs.Certificate.{Answer, Certifies}
@@ -8,7 +8,7 @@ use Rattle.define_pools.specs.Pool.{IsPool, Pool}
 use Rattle.define_rows.specs.Table.{Table}
 use Rattle.define_runs.specs.Keeps.{AreLimits}
 use Rattle.define_runs.specs.Run.{Ending, Limits, RunEnds}
-use Rattle.define_sharing.specs.Sharing.{RunMayEnd, spends_pricing}
+use Rattle.define_runs.specs.Sharing.{RunMayEnd, spends_pricing}
 use Rattle.command_shell.specs.Answers.{IsRight, RightAnswers, Saying}
 use Rattle.command_meanings.specs.Lottery.{LotteryMeans, TellsBudget, TellsWidth}
 

@@ -9,7 +9,7 @@ use Rattle.define_bundles.proofs.PoolReadAgain.{spelled_is_read}
 use Rattle.define_pools.specs.Pool.{IsPool, Pool}
 use Rattle.define_runs.specs.Keeps.{AreLimits}
 use Rattle.define_runs.specs.Run.{Ending, Limits, RunEnds}
-use Rattle.define_sharing.specs.Sharing.{spends_pricing}
+use Rattle.define_runs.specs.Sharing.{spends_pricing}
 use Rattle.office_core.specs.Acting.{IsLoaded}
 use Rattle.command_shell.specs.Answers.{IsRight, IsTheAnswer, RightAnswers, Saying}
 use Rattle.command_shell.specs.Formats.{pool_format}

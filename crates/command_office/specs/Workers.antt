@@ -7,7 +7,7 @@ use Rattle.define_offices.specs.Tables.{Tables}
 use Rattle.define_pools.specs.Pool.{IsPool, Pool}
 use Rattle.define_runs.specs.Keeps.{AreLimits}
 use Rattle.define_runs.specs.Run.{Ending, Limits, RunEnds}
-use Rattle.define_sharing.specs.Sharing.{spends_pricing}
+use Rattle.define_runs.specs.Sharing.{spends_pricing}
 use Rattle.command_shell.specs.Answers.{Saying}
 use Rattle.command_shell.specs.Outcomes.{IsTold, IsTooLong}
 use Rattle.command_shell.specs.Told.{HasFaulted, Told}

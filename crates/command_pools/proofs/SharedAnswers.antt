@@ -5,7 +5,7 @@ use Rattle.define_rows.specs.Table.{Table}
 use Rattle.define_searches.specs.Classes.{classes_of}
 use Rattle.define_searches.specs.Visits.{first_search}
 use Rattle.define_runs.specs.Run.{Ending, Ends, Limits, RunLimits, run_limits}
-use Rattle.define_sharing.specs.Sharing.{EndsUnbounded, MayEnd, with_pricing}
+use Rattle.define_runs.specs.Sharing.{EndsUnbounded, MayEnd, with_pricing}
 use Rattle.leximin_run.specs.Answers.{TellsSharing, stood}
 use Rattle.leximin_run.specs.declared.stops.Stop.{Stop}
 use Rattle.leximin_run.specs.declared.stops.Stop.TheVariants.{TooWide, TotalPasses, PivotsSpent, NodesSpent, OutOfMemory}

@@ -19,3 +19,5 @@ pub mod Panels
 pub mod Lotteries
 pub mod FewPanels
 pub mod SpreadPanels
+pub mod Unbounded
+pub mod Shared

@@ -5,3 +5,5 @@ pub mod Work
 pub mod WorkedRuns
 pub mod Spreading
 pub mod WorkedSpreads
+pub mod Sharing
+pub mod Laws

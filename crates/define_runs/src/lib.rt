@@ -6,6 +6,7 @@
 //! The functions without a body are the promises: laws over the definitions, and worked examples.
 #![tactic(auto)]
 
+pub mod sharing;
 pub mod spreads;
 
 ghost use Rattle.std.specs.Prelude.{◌≡◌, None, Some, pos};

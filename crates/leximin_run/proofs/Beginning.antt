@@ -13,7 +13,7 @@ use Rattle.define_runs.specs.Run.{Ends, RunLimits, Ended, NoPanel, NodesSpent, T
 use Rattle.define_runs.proofs.Following.{ends_at_once, opens_at}
 use Rattle.define_searches.proofs.Contained.{first_there}
 use Rattle.define_runs.proofs.Kept.{MayBegin, first_table_is, may_begin, reached_kept}
-use Rattle.define_sharing.specs.Sharing.{with_pricing}
+use Rattle.define_runs.specs.Sharing.{with_pricing}
 use Rattle.leximin_run.specs.Advancing.{HoldsFrom, Reaches}
 use Rattle.leximin_run.specs.Answers.{EndsFrom}
 use Rattle.leximin_run.specs.Tracing.{ReachesWithLegs}

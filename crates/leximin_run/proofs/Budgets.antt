@@ -8,7 +8,7 @@ use Rattle.define_runs.specs.Run.{GoOn, Limits, RunLimits, step}
 use Rattle.define_runs.specs.Work.{work_left}
 use Rattle.define_runs.proofs.Work.{step_lessens}
 use Rattle.define_searches.specs.Classes.{Classes}
-use Rattle.define_sharing.specs.Sharing.{with_pricing}
+use Rattle.define_runs.specs.Sharing.{with_pricing}
 use Rattle.leximin_run.specs.Advancing.{HoldsFrom, Stands}
 
 -- `Stands` doesn't depend on the budget of pricing

@@ -21,7 +21,7 @@ use Rattle.define_runs.specs.Run.{Ending, Ends, RunLimits, GoOn, Ended, Found, N
 use Rattle.define_runs.proofs.Following.{comes_to_end, goes_on}
 use Rattle.leximin_run.specs.declared.running.Refusal.{Refusal}
 use Rattle.leximin_run.specs.declared.running.Refusal.TheVariants.{Wide, NoPivot, NoVisit, NoMemory}
-use Rattle.define_sharing.specs.Sharing.{with_pricing}
+use Rattle.define_runs.specs.Sharing.{with_pricing}
 use Rattle.leximin_run.specs.Advancing.{HoldsFrom, Reaches, Refuses, Stands}
 use Rattle.leximin_run.specs.Answers.{EndsFrom, Tells, stop_of}
 use Rattle.leximin_run.specs.Tracing.{ReachesWithLegs}

@@ -19,7 +19,7 @@ use Rattle.define_rows.specs.Table.{Table, row_at}
 use Rattle.define_searches.specs.Classes.{Classes}
 use Rattle.define_searches.specs.Compositions.{price}
 use Rattle.define_searches.specs.Fronts.{HaveEntries, HaveReach, sizes_of}
-use Rattle.define_sharing.specs.Sharing.{with_pricing}
+use Rattle.define_runs.specs.Sharing.{with_pricing}
 use Rattle.define_searches.specs.Waves.{best_in_waves}
 use Rattle.define_runs.specs.Run.{RunLimits, Next, GoOn, Ended, NodesSpent, PivotsSpent, answered, closed_rows, parts_of, pivoted, priced, pricing_visits, step, step_in_stage}
 use Rattle.define_runs.specs.Spreading.{spread}

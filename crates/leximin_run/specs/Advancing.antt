@@ -1,4 +1,4 @@
--- One step of a run, as the code makes it. Builds on Run and Keeps of `define_runs`, on Sharing of `define_sharing`, and on InOrder, Row and
+-- One step of a run, as the code makes it. Builds on Run and Keeps of `define_runs`, on Sharing of `define_runs`, and on InOrder, Row and
 -- Table of `define_rows`. Used by the modules `running` and `solving`.
 use Rattle.std.specs.Prelude.{◌≡◌, ◌≤◌, ◌<◌, ℕ, Bool, true, false, IsFalse, List, length, Option, Some, Result, Ok, Err}
 use Rattle.define_rows.specs.InOrder.{settled_count}
@@ -8,7 +8,7 @@ use Rattle.define_runs.specs.Keeps.{AreRunLimits, IsReached, KeepsRun}
 use Rattle.define_runs.specs.Run.{RunLimits, GoOn, Ended, TooWide, PivotsSpent, closed_rows, pricing_visits, step}
 use Rattle.define_searches.specs.Classes.{Classes, KeepsLimits}
 use Rattle.define_searches.specs.Compositions.{price}
-use Rattle.define_sharing.specs.Sharing.{SpendsVisits, with_pricing}
+use Rattle.define_runs.specs.Sharing.{SpendsVisits, with_pricing}
 use Rattle.panel_search.specs.declared.searching.SearchStop.{SearchStop}
 use Rattle.panel_search.specs.declared.searching.SearchStop.TheVariants.{Spent, OutOfMemory}
 use Rattle.leximin_run.specs.declared.running.Refusal.{Refusal}

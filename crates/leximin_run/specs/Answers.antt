@@ -11,7 +11,7 @@ use Rattle.define_rows.specs.Table.{Table}
 use Rattle.define_runs.specs.Keeps.{IsReached}
 use Rattle.define_runs.specs.Run.{Ending, Ends, RunLimits}
 use Rattle.define_searches.specs.Classes.{Classes}
-use Rattle.define_sharing.specs.Sharing.{MayEnd, SpendsVisits, spends_pricing}
+use Rattle.define_runs.specs.Sharing.{MayEnd, SpendsVisits, spends_pricing}
 use Rattle.define_runs.specs.Spreading.{TotalPass}
 use Rattle.leximin_run.specs.Advancing.{HoldsFrom}
 use Rattle.leximin_run.specs.declared.running.Refusal.{Refusal}

@@ -15,9 +15,9 @@ use Rattle.define_runs.specs.Run.{Ended, Ending, GoOn, Next, NodesSpent, NoPanel
 use Rattle.define_runs.proofs.Following.{comes_to_end, same_ending, stays_ended}
 use Rattle.define_runs.proofs.MoreBudget.{still_enough}
 use Rattle.define_runs.proofs.StepCases.{StepIs, Enters, Answers, NoPivot, Pivots, Passes, NoVisits, Widens, Closes, step_is, OpeningIs, Spends, FindsNoPanel, IsWide, Begins, opening_is}
-use Rattle.define_sharing.specs.Laws.{ApartIsAllowed, EndingsStay, OneEndingBesidesSpent, SharingKeepsEnding}
-use Rattle.define_sharing.specs.Sharing.{EndsUnbounded, MayEnd, SpendsVisits, spends_pricing, with_pricing}
-use Rattle.define_sharing.proofs.Unbounded.{one_unbounded, visits_at}
+use Rattle.define_runs.specs.Laws.{ApartIsAllowed, EndingsStay, OneEndingBesidesSpent, SharingKeepsEnding}
+use Rattle.define_runs.specs.Sharing.{EndsUnbounded, MayEnd, SpendsVisits, spends_pricing, with_pricing}
+use Rattle.define_runs.proofs.Unbounded.{one_unbounded, visits_at}
 
 -- ---- an ending without a spent pricing
 

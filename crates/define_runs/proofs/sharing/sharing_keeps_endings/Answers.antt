@@ -1,5 +1,5 @@
-use Rattle.define_sharing.proofs.Shared.{apart_allowed, one_besides_spent, sharing_keeps}
-use Rattle.define_sharing.proofs.sharing_keeps_endings.Goals as goal
+use Rattle.define_runs.proofs.Shared.{apart_allowed, one_besides_spent, sharing_keeps}
+use Rattle.define_runs.proofs.sharing.sharing_keeps_endings.Goals as goal
 
 pub returns : goal.returns
 returns c = record {

@@ -3,7 +3,7 @@ use Rattle.std.specs.Prelude.{◌≡◌, IsFalse}
 use Rattle.define_runs.specs.Keeps.{AreRunLimits}
 use Rattle.define_runs.specs.Run.{Ending, Ends, RunLimits}
 use Rattle.define_searches.specs.Classes.{Classes, KeepsLimits}
-use Rattle.define_sharing.specs.Sharing.{EndsUnbounded, MayEnd, spends_pricing}
+use Rattle.define_runs.specs.Sharing.{EndsUnbounded, MayEnd, spends_pricing}
 
 -- the unbounded run has at most one ending
 abbrev pub OneUnboundedEnding : Type 0

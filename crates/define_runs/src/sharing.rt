@@ -2,9 +2,7 @@
 //! on the definitions below it. Used by `leximin_run`, which makes such runs, and by the meaning of `lottery --share`.
 //!
 //! The functions have no body. Their contracts are the laws, and the promises of this crate.
-#![tactic(auto)]
-
-ghost use Rattle.define_sharing.specs.Laws.{ApartIsAllowed, EachUnboundedEnds, EndingsStay, OneEndingBesidesSpent, OneUnboundedEnding, SharingKeepsEnding};
+ghost use Rattle.define_runs.specs.Laws.{ApartIsAllowed, EachUnboundedEnds, EndingsStay, OneEndingBesidesSpent, OneUnboundedEnding, SharingKeepsEnding};
 
 /// The run whose pricings have no bound on their visits has exactly one ending. A run in which no pricing spends its budget has the same.
 pub fn one_unbounded_ending()

@@ -1,6 +1,6 @@
-use Rattle.define_sharing.proofs.Shared.{endings_stay}
-use Rattle.define_sharing.proofs.Unbounded.{each_unbounded, one_unbounded}
-use Rattle.define_sharing.proofs.one_unbounded_ending.Goals as goal
+use Rattle.define_runs.proofs.Shared.{endings_stay}
+use Rattle.define_runs.proofs.Unbounded.{each_unbounded, one_unbounded}
+use Rattle.define_runs.proofs.sharing.one_unbounded_ending.Goals as goal
 
 pub returns : goal.returns
 returns c = record {

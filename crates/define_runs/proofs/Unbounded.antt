@@ -15,7 +15,7 @@ use Rattle.define_runs.specs.Work.{work_left}
 use Rattle.define_runs.proofs.Following.{same_ending}
 use Rattle.define_runs.proofs.Kept.{opening_kept, step_kept}
 use Rattle.define_runs.proofs.Work.{step_lessens}
-use Rattle.define_sharing.specs.Sharing.{EndsUnbounded, with_pricing}
+use Rattle.define_runs.specs.Sharing.{EndsUnbounded, with_pricing}
 
 -- how many visits the pricing makes that would be due at this table
 abbrev pub visits_at : Classes → Table → ℕ

@@ -1,2 +1,0 @@
-pub mod Unbounded
-pub mod Shared
