@@ -6,6 +6,8 @@
 //! The functions without a body are the promises: worked examples.
 #![tactic(auto)]
 
+pub mod pivots;
+
 ghost use Rattle.std.specs.Prelude.{◌≡◌, [], ◌∷◌, codes};
 ghost use Rattle.define_legs.specs.LegTexts.{legs_text};
 ghost use Rattle.define_legs.specs.Legs.{pivot_limit, traced};

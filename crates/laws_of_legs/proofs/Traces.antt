@@ -23,9 +23,9 @@ use Rattle.define_runs.specs.Keeps.{AreRunLimits, KeepsRun}
 use Rattle.define_runs.specs.Run.{Ended, Ending, Found, GoOn, Next, NoPanel, NodesSpent, PivotsSpent, RunLimits, TooWide, TotalPasses, answered, follow, opening, parts_of, step}
 use Rattle.define_runs.proofs.Kept.{opening_kept, step_kept}
 use Rattle.define_runs.proofs.StepCases.{Answers, Begins, Closes, Enters, FindsNoPanel, IsWide, NoPivot, NoVisits, OpeningIs, Passes, Pivots, Spends, StepIs, Widens, opening_is, step_is}
-use Rattle.laws_of_pivots.specs.Chains.{Leads}
-use Rattle.laws_of_pivots.proofs.Frames.{SameFrame, frame-itself, frame-trans, step-from}
-use Rattle.laws_of_pivots.proofs.Leads.{pivots-few}
+use Rattle.define_legs.specs.Chains.{Leads}
+use Rattle.define_legs.proofs.Frames.{SameFrame, frame-itself, frame-trans, step-from}
+use Rattle.define_legs.proofs.Leads.{pivots-few}
 use Rattle.define_rows.specs.Binomials.{basis_count}
 use Rattle.define_legs.specs.declared.Leg.{Leg}
 use Rattle.define_legs.specs.Legs.{leg_bases, leg_from, leg_place, legs_after, legs_to, longer, onward, pivot_limit, traced, with_pivot}

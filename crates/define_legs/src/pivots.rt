@@ -4,11 +4,9 @@
 //! `define_rows`. Used by `laws_of_legs`.
 //!
 //! The functions have no body, or call others for their laws. Their contracts are the laws, and the promises of this crate.
-#![tactic(auto)]
-
 ghost use Rattle.std.specs.Prelude.{◌≡◌, [], ◌∷◌};
 ghost use Rattle.define_rows.specs.WorkedRun.{entered, once, widened, twice};
-ghost use Rattle.laws_of_pivots.specs.Chains.{IsChain, NoBasisTwice, bases_of, ChainsAreShort, PivotsAreFew};
+ghost use Rattle.define_legs.specs.Chains.{IsChain, NoBasisTwice, bases_of, ChainsAreShort, PivotsAreFew};
 
 use define_rows::{worked_run, worked_run_is_in_order};
 

@@ -13,10 +13,10 @@ use Rattle.define_rows.specs.Choice.{basic_row, entering_from, entering}
 use Rattle.define_rows.specs.InOrder.{IsKnown, IsInOrder}
 use Rattle.define_rows.proofs.Entered.{place_of, entered-known, entered-closed}
 use Rattle.define_rows.proofs.Solutions.{is_same_refl}
-use Rattle.laws_of_pivots.proofs.Frames.{SameFrame, frame-itself, frame-sym, frame-trans, coefficient-frame, known-frame, stage_variable-frame, rows-frame, IsStep}
-use Rattle.laws_of_pivots.proofs.Places.{place, place-frame, place-same, same_or, IsEligible, entered-fresh}
-use Rattle.laws_of_pivots.proofs.Moves.{AtMost, at_most-chain, IsBasicIn, IsAtZero, in_rows, basic-other, stays_basic, was_basic, now_basic, stays_at_zero, was_at_zero, stage-stays, value-rises, value-rises_more}
-use Rattle.laws_of_pivots.proofs.Fickle.{IsFickle, same-value, no_cycle}
+use Rattle.define_legs.proofs.Frames.{SameFrame, frame-itself, frame-sym, frame-trans, coefficient-frame, known-frame, stage_variable-frame, rows-frame, IsStep}
+use Rattle.define_legs.proofs.Places.{place, place-frame, place-same, same_or, IsEligible, entered-fresh}
+use Rattle.define_legs.proofs.Moves.{AtMost, at_most-chain, IsBasicIn, IsAtZero, in_rows, basic-other, stays_basic, was_basic, now_basic, stays_at_zero, was_at_zero, stage-stays, value-rises, value-rises_more}
+use Rattle.define_legs.proofs.Fickle.{IsFickle, same-value, no_cycle}
 
 -- x is among the first n variables, or none of them is x
 some_or_none : (n : ℕ) (w : ℕ → Var) (x : Var) → ((k : ℕ) × (k < n) × (w k ≡ x)) ⊎ ((k : ℕ) → k < n → w k ≢ x)

@@ -11,12 +11,12 @@ use Rattle.define_rows.specs.declared.Var.{Var}
 use Rattle.define_rows.specs.Table.{Table}
 use Rattle.define_rows.specs.InOrder.{IsKnown, IsInOrder}
 use Rattle.define_rows.specs.Binomials.{binomial}
-use Rattle.laws_of_pivots.specs.Chains.{IsChain, HasBasisOf, bases_of, ChainsAreShort}
-use Rattle.laws_of_pivots.proofs.Frames.{SameFrame, frame-sym, frame-trans, known-frame, rows-frame}
-use Rattle.laws_of_pivots.proofs.Places.{place, place-frame, width}
-use Rattle.laws_of_pivots.proofs.Ranks.{trues, rank, rank-below, rank-same}
-use Rattle.laws_of_pivots.proofs.Marks.{marks, length-marks, trues-marks, same_marks}
-use Rattle.laws_of_pivots.proofs.Chains.{basic-contained, contains-basic, frames-chain, no_basis-twice}
+use Rattle.define_legs.specs.Chains.{IsChain, HasBasisOf, bases_of, ChainsAreShort}
+use Rattle.define_legs.proofs.Frames.{SameFrame, frame-sym, frame-trans, known-frame, rows-frame}
+use Rattle.define_legs.proofs.Places.{place, place-frame, width}
+use Rattle.define_legs.proofs.Ranks.{trues, rank, rank-below, rank-same}
+use Rattle.define_legs.proofs.Marks.{marks, length-marks, trues-marks, same_marks}
+use Rattle.define_legs.proofs.Chains.{basic-contained, contains-basic, frames-chain, no_basis-twice}
 
 -- a number that is in the list has what each number of the list has
 any-each : (P : ℕ → Type 0) (q : ℕ) (xs : List ℕ) → AllByRecursion P xs → list_any (eqb q) xs ≡ true → P q

@@ -7,10 +7,10 @@ use Rattle.define_rows.specs.declared.Var.TheVariants.{Slack}
 use Rattle.define_rows.specs.Table.{Table}
 use Rattle.define_rows.specs.Choice.{choice}
 use Rattle.define_rows.specs.InOrder.{IsInOrder}
-use Rattle.laws_of_pivots.specs.Chains.{IsChain, HasBasisOf, NoBasisTwice}
-use Rattle.laws_of_pivots.proofs.Frames.{SameFrame, IsStep, step-from}
-use Rattle.laws_of_pivots.proofs.Moves.{IsBasicIn}
-use Rattle.laws_of_pivots.proofs.Cycles.{frames, no_basis_again}
+use Rattle.define_legs.specs.Chains.{IsChain, HasBasisOf, NoBasisTwice}
+use Rattle.define_legs.proofs.Frames.{SameFrame, IsStep, step-from}
+use Rattle.define_legs.proofs.Moves.{IsBasicIn}
+use Rattle.define_legs.proofs.Cycles.{frames, no_basis_again}
 
 pub basic-contained : (table : Table) → IsInOrder table → (x : Var) → Contains table.basic x → IsBasicIn table x
 basic-contained table h x (k, l, e) = (k, omega (arith, l, h.basic_count, h.row_count), get_or_default table.basic k (Slack (length table.sizes)) x l ∙ e)

@@ -6,9 +6,9 @@ use Rattle.std.proofs.lemmas.List.Elements.{All-from_recursion, All-push}
 use Rattle.define_rows.specs.Table.{Table}
 use Rattle.define_rows.specs.InOrder.{IsInOrder}
 use Rattle.define_rows.proofs.Keeps.{pivot-keeps}
-use Rattle.laws_of_pivots.specs.Chains.{IsNext, IsChain, Leads, bases_of, PivotsAreFew}
-use Rattle.laws_of_pivots.proofs.Frames.{stays-open}
-use Rattle.laws_of_pivots.proofs.Short.{chain-short}
+use Rattle.define_legs.specs.Chains.{IsNext, IsChain, Leads, bases_of, PivotsAreFew}
+use Rattle.define_legs.proofs.Frames.{stays-open}
+use Rattle.define_legs.proofs.Short.{chain-short}
 
 -- a chain with one table more at its end
 push-chain : (tables : List Table) (n : ℕ) (y : Table) → IsChain tables → length tables ≡ suc n → IsInOrder y → y.in_stage ≡ true → ((d : Table) → IsNext (get_or tables n d) y) → IsChain (tables ++ y ∷ [])

@@ -1,6 +1,6 @@
 use Rattle.std.proofs.Common.{refl}
 use Rattle.define_rows.specs.Binomials.{binomial}
-use Rattle.laws_of_pivots.proofs.worked_chains.Goals as goal
+use Rattle.define_legs.proofs.pivots.worked_chains.Goals as goal
 
 pub returns-clause-four : goal.returns-clause-four
 unfolding binomial

@@ -16,10 +16,10 @@ use Rattle.define_rows.specs.Choice.{may_leave, leaves_before, is_least, leaving
 use Rattle.define_rows.specs.InOrder.{IsKnown, IsInOrder}
 use Rattle.define_rows.proofs.Chosen.{IsChosen, left-row, left-positive, row_each}
 use Rattle.define_rows.proofs.Totals.{total-picks}
-use Rattle.laws_of_pivots.proofs.Frames.{SameFrame, coefficient-frame, rows-frame}
-use Rattle.laws_of_pivots.proofs.Places.{place, place-before, IsEligible, entered-negative, entered-first}
-use Rattle.laws_of_pivots.proofs.Mixes.{IsMix, mix-from, no_part, total-negative}
-use Rattle.laws_of_pivots.proofs.Moves.{IsBasicIn}
+use Rattle.define_legs.proofs.Frames.{SameFrame, coefficient-frame, rows-frame}
+use Rattle.define_legs.proofs.Places.{place, place-before, IsEligible, entered-negative, entered-first}
+use Rattle.define_legs.proofs.Mixes.{IsMix, mix-from, no_part, total-negative}
+use Rattle.define_legs.proofs.Moves.{IsBasicIn}
 
 -- if the chosen row has the right side 0, no row with the right side 0 and a coefficient above 0 has a basic variable before the leaving one
 chosen-before : (table : Table) (r : ℕ) (v : Var) → IsChosen table r v → (i : ℕ) → i < length table.rows → pos 0 <ℤ coefficient_at table i v → (row_at table i).b ≡ pos 0 → (row_at table r).b ≡ pos 0 →
