@@ -6,7 +6,7 @@ use Rattle.define_legs.specs.LegTexts.{legs_text}
 use Rattle.define_pools.specs.Pool.{Pool}
 use Rattle.define_runs.specs.Run.{Ending, Limits, RunEnds, run_limits}
 use Rattle.define_searches.specs.Classes.{classes_of}
-use Rattle.laws_of_legs.proofs.Endings.{each_has_legs, one_list}
+use Rattle.define_legs.proofs.Endings.{each_has_legs, one_list}
 use Rattle.command_shell.specs.declared.status.Printed.TheVariants.{Done, NoPanel}
 use Rattle.command_shell.specs.declared.status.Cause.TheVariants.{Wide, Spent}
 use Rattle.command_shell.specs.Answers.{HasOneAnswer, IsRight, Saying, Prints, Stops}

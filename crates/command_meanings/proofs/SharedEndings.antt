@@ -8,7 +8,7 @@ use Rattle.define_searches.proofs.AlikeClasses.{alike_makes}
 use Rattle.define_searches.proofs.Limits.{limits_kept}
 use Rattle.define_runs.specs.Sharing.{RunMayEnd, spends_pricing}
 use Rattle.define_runs.proofs.Shared.{sharing_keeps}
-use Rattle.laws_of_legs.proofs.Endings.{each_has_legs, spends_below}
+use Rattle.define_legs.proofs.Endings.{each_has_legs, spends_below}
 use Rattle.command_shell.specs.declared.status.Printed.TheVariants.{Done, NoPanel}
 use Rattle.command_shell.specs.declared.status.Cause.TheVariants.{Wide, Spent}
 use Rattle.command_shell.specs.Answers.{IsRight, Saying, Prints, Stops}

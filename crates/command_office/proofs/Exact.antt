@@ -18,7 +18,7 @@ use Rattle.define_searches.specs.Classes.{are_alike, classes_of}
 use Rattle.define_searches.proofs.AlikeClasses.{alike_makes}
 use Rattle.define_runs.specs.Sharing.{RunMayEnd}
 use Rattle.define_runs.proofs.Shared.{sharing_keeps}
-use Rattle.laws_of_legs.proofs.Endings.{legs_end}
+use Rattle.define_legs.proofs.Endings.{legs_end}
 use Rattle.laws_of_runs.proofs.NoPanels.{no_panel_is_within, no_panel_where_none, none_where_no_panel}
 use Rattle.command_shell.specs.declared.status.Printed.TheVariants.{Done, NoPanel as NonePrinted, Refused as Rejected}
 use Rattle.command_shell.specs.declared.status.Cause.TheVariants.{Input, Wide, Spent, Rule}

@@ -9,3 +9,6 @@ pub mod Ranks
 pub mod Marks
 pub mod Short
 pub mod Leads
+pub mod LegLists
+pub mod Traces
+pub mod Endings

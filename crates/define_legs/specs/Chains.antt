@@ -1,6 +1,6 @@
 -- Chains: lists of tables in order, with a stage open, in which each table is made from the one before by the pivot that Bland's rule
 -- chooses. The laws say that a chain ends by itself: no basis comes twice. Builds on InOrder, Choice and Pivot of `define_rows`, and on
--- Binomials of `define_rows`. The laws of `laws_of_legs` use it.
+-- Binomials of `define_rows`. The laws of `define_legs` use it.
 use Rattle.std.specs.Prelude.{◌≡◌, ℕ, zero, suc, ◌<◌, ◌≤◌, true, List, length, Contains, Some, Ok, slice_index_or}
 use Rattle.std.specs.List.{All, AllPairs}
 use Rattle.define_rows.specs.Binomials.{basis_count}

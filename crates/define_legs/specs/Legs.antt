@@ -1,5 +1,5 @@
 -- The legs of a run: its pivots, counted between the steps that enter a stage, add a column or close a stage. Builds on Run of `define_runs`
--- and on Binomials of `define_rows`. LegTexts, `laws_of_legs`, `leximin_run` and the meaning of the command `legs` use it.
+-- and on Binomials of `define_rows`. LegTexts, `define_legs`, `leximin_run` and the meaning of the command `legs` use it.
 use Rattle.std.specs.Prelude.{◌≡◌, ℕ, zero, suc, ◌+◌, ◌==◌, ◌||◌, Bool, nat_lt, if◌then◌else◌, List, [], ◌∷◌, ◌++◌, length, sum_by}
 use Rattle.define_rows.specs.Binomials.{basis_count}
 use Rattle.define_pools.specs.Pool.{Pool}

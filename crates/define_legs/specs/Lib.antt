@@ -1,3 +1,4 @@
 pub mod Legs
 pub mod LegTexts
 pub mod Chains
+pub mod Laws

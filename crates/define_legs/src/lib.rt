@@ -1,11 +1,12 @@
 //! The legs of a run, and the text that tells them. A leg is the time from the entering of a stage, or the adding of a column, to the next
 //! such step or to the closing of the stage. The definitions are in `specs/`. Stands on `define_runs`, which defines the run, and on
-//! `define_rows` and `define_lines`. Used by `laws_of_legs`, which bounds the pivots of a leg; by `leximin_run`, which counts them; by
+//! `define_rows` and `define_lines`. Used by `define_legs`, which bounds the pivots of a leg; by `leximin_run`, which counts them; by
 //! `office_reports`, which writes the text; and by the command `legs`.
 //!
 //! The functions without a body are the promises: worked examples.
 #![tactic(auto)]
 
+pub mod laws;
 pub mod pivots;
 
 ghost use Rattle.std.specs.Prelude.{◌≡◌, [], ◌∷◌, codes};

@@ -10,8 +10,8 @@ use Rattle.define_runs.specs.Run.{Ended, Ending, GoOn, Next, RunLimits, opening,
 use Rattle.define_searches.specs.Classes.{Classes, KeepsLimits}
 use Rattle.define_runs.proofs.Kept.{reached_kept}
 use Rattle.laws_of_runs.proofs.FoundEnds.{ends_found}
-use Rattle.laws_of_legs.proofs.Endings.{each_has_legs, legs_end, spends_below}
-use Rattle.laws_of_legs.proofs.Traces.{all_pivots, few_pivots}
+use Rattle.define_legs.proofs.Endings.{each_has_legs, legs_end, spends_below}
+use Rattle.define_legs.proofs.Traces.{all_pivots, few_pivots}
 use Rattle.leximin_run.specs.declared.stops.Outcome.{Outcome}
 use Rattle.leximin_run.specs.declared.stops.Outcome.TheVariants as outcome
 use Rattle.leximin_run.specs.declared.stops.Stop.{Stop}

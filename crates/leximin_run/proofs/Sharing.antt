@@ -8,7 +8,7 @@ use Rattle.define_searches.specs.Classes.{Classes, classes_of}
 use Rattle.define_legs.specs.Legs.{EndsWithLegs}
 use Rattle.define_runs.specs.Sharing.{EndsUnbounded, MayEnd, with_pricing}
 use Rattle.define_runs.proofs.Shared.{sharing_keeps, spends_there}
-use Rattle.laws_of_legs.proofs.Endings.{legs_end}
+use Rattle.define_legs.proofs.Endings.{legs_end}
 use Rattle.leximin_run.specs.declared.stops.Outcome.{Outcome}
 use Rattle.leximin_run.specs.declared.stops.Outcome.TheVariants as outcome
 use Rattle.leximin_run.specs.declared.stops.Solved.{Solved}

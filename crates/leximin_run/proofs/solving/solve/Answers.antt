@@ -1,4 +1,4 @@
-use Rattle.laws_of_legs.proofs.Endings.{legs_end}
+use Rattle.define_legs.proofs.Endings.{legs_end}
 use Rattle.leximin_run.proofs.solving.solve.Goals as goal
 
 pub returns-in-Ok-Found-clause-run : goal.returns-in-Ok-Found-clause-run

@@ -5,8 +5,8 @@ use Rattle.define_legs.specs.declared.Leg.{Leg}
 use Rattle.define_legs.specs.Legs.{EndsWithLegs, Traced, onward, pivot_limit, traced, with_pivot}
 use Rattle.define_runs.specs.Run.{Ended, Ending, RunLimits}
 use Rattle.define_searches.specs.Classes.{Classes}
-use Rattle.laws_of_legs.specs.Laws.{EachEndingHasLegs, LegsEndTheRun, OneListOfLegs, SpendsBelowLimit}
-use Rattle.laws_of_legs.proofs.Traces.{pivots_spent, traces}
+use Rattle.define_legs.specs.Laws.{EachEndingHasLegs, LegsEndTheRun, OneListOfLegs, SpendsBelowLimit}
+use Rattle.define_legs.proofs.Traces.{pivots_spent, traces}
 
 module _ (all : Classes) (limits : RunLimits) where
   -- a run that has ended keeps its ending and its legs

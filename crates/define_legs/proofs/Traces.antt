@@ -29,8 +29,8 @@ use Rattle.define_legs.proofs.Leads.{pivots-few}
 use Rattle.define_rows.specs.Binomials.{basis_count}
 use Rattle.define_legs.specs.declared.Leg.{Leg}
 use Rattle.define_legs.specs.Legs.{leg_bases, leg_from, leg_place, legs_after, legs_to, longer, onward, pivot_limit, traced, with_pivot}
-use Rattle.laws_of_legs.specs.Laws.{LegsHaveFewPivots, LegsAreApart, LegsHavePivots, TracesTheRun}
-use Rattle.laws_of_legs.proofs.LegLists.{after_begin, after_other, after_pivot, sums_below, with_pivot-last}
+use Rattle.define_legs.specs.Laws.{LegsHaveFewPivots, LegsAreApart, LegsHavePivots, TracesTheRun}
+use Rattle.define_legs.proofs.LegLists.{after_begin, after_other, after_pivot, sums_below, with_pivot-last}
 
 -- a pivot is counted
 pivot-counts : (table made : Table) (r : ℕ) (v : Var) → pivot table r v ≡ Ok made → made.pivots ≡ table.pivots + 1

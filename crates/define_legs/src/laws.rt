@@ -3,9 +3,7 @@
 //! legs, on `define_runs`, and on `define_legs`. Used by `leximin_run`, and by the meaning of the command `legs`.
 //!
 //! The functions have no body. Their contracts are the laws, and the promises of this crate.
-#![tactic(auto)]
-
-ghost use Rattle.laws_of_legs.specs.Laws.{EachEndingHasLegs, LegsAreApart, LegsEndTheRun, LegsHaveFewPivots, LegsHavePivots, OneListOfLegs, SpendsBelowLimit, TracesTheRun};
+ghost use Rattle.define_legs.specs.Laws.{EachEndingHasLegs, LegsAreApart, LegsEndTheRun, LegsHaveFewPivots, LegsHavePivots, OneListOfLegs, SpendsBelowLimit, TracesTheRun};
 
 /// The legs are counted along the run, so each run that ends has one list of legs.
 pub fn runs_have_legs()

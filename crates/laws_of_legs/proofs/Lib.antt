@@ -1,3 +1,0 @@
-pub mod LegLists
-pub mod Traces
-pub mod Endings
