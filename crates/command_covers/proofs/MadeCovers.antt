@@ -7,7 +7,7 @@ use Rattle.define_checks.specs.Reasons.{Valid, Verdict}
 use Rattle.define_checks.specs.Visits.{check_answer, first_spent, is_ahead}
 use Rattle.define_checks.proofs.Budget.{answer_cases}
 use Rattle.define_checks.proofs.ReasonsStand.{certified_where_valid, valid_where_certified}
-use Rattle.define_cover_texts.specs.CoverText.{IsCover, cover_spelling}
+use Rattle.define_covers.specs.CoverText.{IsCover, cover_spelling}
 use Rattle.define_covers.specs.Covers as covers
 use Rattle.define_covers.specs.CoverVerdict.{verdict}
 use Rattle.define_pools.specs.Certificate.{Answer, Certifies}

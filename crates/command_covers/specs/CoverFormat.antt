@@ -1,8 +1,8 @@
 -- What the input of `check-cover` is read as: a cover. Builds on Subjects of `command_shell`, and on the texts of covers.
 use Rattle.std.specs.Prelude.{◌≡◌, ℕ, List}
 use Rattle.command_shell.specs.Subjects.{Format}
-use Rattle.define_cover_texts.specs.CoverReading.{read_cover}
-use Rattle.define_cover_texts.specs.CoverText.{IsCover, cover_spelling}
+use Rattle.define_covers.specs.CoverReading.{read_cover}
+use Rattle.define_covers.specs.CoverText.{IsCover, cover_spelling}
 use Rattle.define_covers.specs.Covers.{Cover}
 
 -- the bytes are the text of this cover

@@ -1,6 +1,6 @@
 -- What `cover` answers once a cover is made, or the certificate is refused. The contract of `told` in src/its_cover.rt cites it.
 use Rattle.std.specs.Prelude.{◌≡◌}
-use Rattle.define_cover_texts.specs.CoverText.{IsCover, cover_spelling}
+use Rattle.define_covers.specs.CoverText.{IsCover, cover_spelling}
 use Rattle.cover_cert.specs.declared.making.Covered.{Covered}
 use Rattle.cover_cert.specs.declared.making.Covered.TheVariants.{Cover, Refused}
 use Rattle.command_meanings.specs.Check.{refused_line}

@@ -7,7 +7,7 @@ use bundle_text::Bundle;
 use command_covers::GivenCover;
 use command_shell::Subject;
 use define_bundles::{bundle_or_fault, pool_or_fault};
-use define_cover_texts::cover_or_fault;
+use define_covers::texts::cover_or_fault;
 use define_proofs::proof_or_fault;
 use pool_model::Pool;
 use proof_model::Proof;

@@ -3,7 +3,7 @@ use Rattle.std.specs.Prelude.{◌≡◌, ℕ, List, Ok}
 use Rattle.define_bundles.specs.BundleText.{Bundle}
 use Rattle.define_checks.specs.Reasons.{Valid}
 use Rattle.define_checks.specs.Visits.{check_answer}
-use Rattle.define_cover_texts.specs.CoverText.{IsCover, cover_spelling}
+use Rattle.define_covers.specs.CoverText.{IsCover, cover_spelling}
 use Rattle.define_covers.specs.Covers.{Cover}
 use Rattle.define_covers.specs.CoverVerdict as covers
 use Rattle.laws_of_covers.specs.Made.{IsMadeOf}

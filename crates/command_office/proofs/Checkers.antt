@@ -6,8 +6,8 @@ use Rattle.define_proofs.specs.ProofVerdict.{Proof, verdict}
 use Rattle.define_bundles.specs.BundleText.{Bundle, IsBundle, bundle_spelling}
 use Rattle.define_bundles.proofs.ReadAgain.{spelled_is_read as bundle_is_read}
 use Rattle.define_checks.specs.Reasons.{Valid}
-use Rattle.define_cover_texts.specs.CoverText.{IsCover, cover_spelling}
-use Rattle.define_cover_texts.proofs.ReadAgain.{spelled_is_read as cover_is_read}
+use Rattle.define_covers.specs.CoverText.{IsCover, cover_spelling}
+use Rattle.define_covers.proofs.ReadAgain.{spelled_is_read as cover_is_read}
 use Rattle.define_covers.specs.Covers.{Cover}
 use Rattle.define_covers.specs.CoverVerdict.{verdict as cover_verdict}
 use Rattle.define_pools.proofs.LeximinParts.{leximin}

@@ -13,7 +13,7 @@ use Rattle.define_proofs.specs.ProofVerdict.{OfLottery, Proof, verdict}
 use Rattle.define_proofs.specs.TreeLines.{TreeLine}
 use Rattle.define_bundles.specs.BundleText.{Bundle, IsBundle, bundle_spelling, bundle_text}
 use Rattle.define_checks.specs.Reasons.{Valid}
-use Rattle.define_cover_texts.specs.CoverText.{IsCover, cover_spelling}
+use Rattle.define_covers.specs.CoverText.{IsCover, cover_spelling}
 use Rattle.define_covers.specs.Covers.{Cover}
 use Rattle.define_covers.specs.CoverVerdict.{verdict as cover_verdict}
 use Rattle.define_draws.specs.Draw.{Drawn, draw}

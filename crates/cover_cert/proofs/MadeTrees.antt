@@ -12,7 +12,7 @@ use Rattle.define_proofs.specs.CapsHold.{CapsHold}
 use Rattle.define_covers.specs.Causes.{all_values}
 use Rattle.define_covers.specs.Covers.{FrontLine}
 use Rattle.define_covers.specs.CoverRanges.{is_front_line, value_count}
-use Rattle.define_cover_texts.specs.CoverText.{keep_ranges}
+use Rattle.define_covers.specs.CoverText.{keep_ranges}
 use Rattle.check_search.specs.Terms.{AreOfStage}
 use Rattle.check_search.specs.declared.terms.Terms.{Terms}
 use Rattle.laws_of_covers.specs.Made.{IsSearched, IsSearchedStage, TreesSearched}

@@ -13,7 +13,7 @@ ghost use Rattle.define_checks.specs.Visits.{check_answer};
 ghost use Rattle.define_covers.specs.Causes.{all_values};
 ghost use Rattle.define_covers.specs.CoverRanges.{value_count as values_of};
 ghost use Rattle.define_covers.specs.CoverVerdict.{verdict as verdict_of};
-ghost use Rattle.define_cover_texts.specs.CoverText.{keep_ranges};
+ghost use Rattle.define_covers.specs.CoverText.{keep_ranges};
 ghost use Rattle.define_pools.specs.Certificate.{is_capped};
 ghost use Rattle.define_proofs.specs.CapsHold.{CapsHold};
 ghost use Rattle.laws_of_covers.specs.Made.{IsSearched, IsSearchedStage, TreesSearched};

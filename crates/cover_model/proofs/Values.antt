@@ -3,7 +3,7 @@ use Rattle.std.proofs.Common.{◌≡◌, ℕ, ◌+◌, ◌<◌, ◌≤◌, List,
 use Rattle.std.proofs.lemmas.List.Sums.{sum_by_more_le}
 use Rattle.define_pools.specs.Pool.{Category, IsPool, Pool}
 use Rattle.define_covers.specs.CoverRanges.{value_count}
-use Rattle.define_cover_texts.proofs.FewValues.{few_values}
+use Rattle.define_covers.proofs.FewValues.{few_values}
 
 -- the values of the categories so far and those of the next one are at most 1000
 pub few_so_far : (pool : Pool) → IsPool pool → (categories : List Category) → categories ≡ pool.categories → (i : ℕ) (category : Category) → i < length categories → category ≡ get_or categories i category →

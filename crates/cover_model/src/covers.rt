@@ -2,7 +2,7 @@
 //! `Cover`.
 
 ghost use Rattle.std.specs.Prelude.{◌≡◌, ◌↔◌, IfSome, IsSome, IsTrue};
-ghost use Rattle.define_cover_texts.specs.CoverText.{IsCover};
+ghost use Rattle.define_covers.specs.CoverText.{IsCover};
 
 use crate::fronts::Fronts;
 use crate::ranges::are_trees;
@@ -19,7 +19,7 @@ pub struct Cover {
 
 impl Model for Cover {
     ghost use Rattle.define_covers.specs.Covers.{Cover as Seen};
-    ghost use Rattle.define_cover_texts.specs.CoverText.{IsCover};
+    ghost use Rattle.define_covers.specs.CoverText.{IsCover};
 
     ghost Value = { Seen };
 

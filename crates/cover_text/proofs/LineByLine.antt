@@ -7,8 +7,8 @@ use Rattle.pool_model.specs.declared.building.BuildStop.{BuildStop}
 use Rattle.pool_model.specs.declared.building.BuildStop.TheVariants.{Kind, OutOfMemory}
 use Rattle.pool_text.specs.Answers.{Tells}
 use Rattle.define_covers.specs.Covers.{Cover}
-use Rattle.define_cover_texts.specs.CoverReading.{Progress, Begun, InBundle, InTrees, Closed, line_kind, reader}
-use Rattle.define_cover_texts.proofs.Spelled.{IsRight}
+use Rattle.define_covers.specs.CoverReading.{Progress, Begun, InBundle, InTrees, Closed, line_kind, reader}
+use Rattle.define_covers.proofs.Spelled.{IsRight}
 use Rattle.text_lines.specs.declared.faults.TextStop.{TextStop}
 use Rattle.cover_text.specs.Stopped.{stopped}
 use Rattle.cover_text.specs.Answers.{Reads}

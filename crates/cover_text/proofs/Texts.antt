@@ -9,8 +9,8 @@ use Rattle.define_lines.proofs.LineLemmas.{line_written, text_of-append}
 use Rattle.define_bundles.specs.BundleText.{Bundle}
 use Rattle.define_proofs.specs.ProofText.{bundle_lines}
 use Rattle.define_covers.specs.Covers.{FrontLine}
-use Rattle.define_cover_texts.specs.CoverText.{cause_fields, cover_line, front_line, lines_before_close, tree_lines, trees_from}
-use Rattle.define_cover_texts.proofs.Spelled.{trees-push}
+use Rattle.define_covers.specs.CoverText.{cause_fields, cover_line, front_line, lines_before_close, tree_lines, trees_from}
+use Rattle.define_covers.proofs.Spelled.{trees-push}
 
 pub one_tree_more : (text : List ℕ) (trees : List (List FrontLine)) (i : ℕ) (d : List FrontLine) → i < length trees →
     (text ++ text_of (trees_from 1 (take i trees))) ++ text_of (tree_lines (i + 1) (get_or trees i d)) ≡ text ++ text_of (trees_from 1 (take (i + 1) trees))

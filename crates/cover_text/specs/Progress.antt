@@ -1,7 +1,7 @@
--- What contracts see of the progress of a reading and of a line in a tree: the values of `define_cover_texts`.
+-- What contracts see of the progress of a reading and of a line in a tree: the values of `define_covers`.
 use Rattle.bundle_text.specs.Progress as bundles
-use Rattle.define_cover_texts.specs.CoverReading as words
-use Rattle.define_cover_texts.specs.CoverText.{IsCover}
+use Rattle.define_covers.specs.CoverReading as words
+use Rattle.define_covers.specs.CoverText.{IsCover}
 use Rattle.cover_text.specs.declared.lines.LineInTree.{LineInTree}
 use Rattle.cover_text.specs.declared.lines.LineInTree.TheVariants.{Front, NextTree, Close, Unknown}
 use Rattle.cover_text.specs.declared.progress.Progress.{Progress}

@@ -1,5 +1,5 @@
 //! The text of a cover: reads it into a cover or its first fault, and writes it. Stands on `bundle_text`, which reads and writes the bundle
-//! within it, on `text_lines`, and on the values of `cover_model`. `define_cover_texts` defines the text. Promises: `read_cover` returns
+//! within it, on `text_lines`, and on the values of `cover_model`. `define_covers` defines the text. Promises: `read_cover` returns
 //! exactly the cover that the bytes spell or their first fault, and `write_cover` returns the cover's text. All other functions are helpers.
 #![tactic(auto)]
 

@@ -4,8 +4,8 @@
 ghost use Rattle.std.specs.Prelude.{◌≡◌, ◌<◌, ◌^◌, ◌==◌, nat_lt, ◌&&◌, if◌then◌else◌, map, IfOk, option_map};
 ghost use Rattle.define_bundles.specs.BundleReading.{numbers_up_to};
 ghost use Rattle.define_covers.specs.CoverRanges.{greatest_count};
-ghost use Rattle.define_cover_texts.specs.CoverText.{most_trees};
-ghost use Rattle.define_cover_texts.specs.CoverReading.{NextTree, TheClose, Unknown, cause_of as cause_in, fields_said, front_in_range, front_said, line_in_tree as line_said, unnumbered as unnumbered_in};
+ghost use Rattle.define_covers.specs.CoverText.{most_trees};
+ghost use Rattle.define_covers.specs.CoverReading.{NextTree, TheClose, Unknown, cause_of as cause_in, fields_said, front_in_range, front_said, line_in_tree as line_said, unnumbered as unnumbered_in};
 ghost use Rattle.cover_model.specs.Causes.{seen_cause};
 ghost use Rattle.cover_text.specs.Progress.{said};
 

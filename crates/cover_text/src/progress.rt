@@ -4,7 +4,7 @@
 ghost use Rattle.std.specs.Prelude.{◌≡◌, IfOk};
 ghost use Rattle.bundle_text.specs.Progress.{seen as bundle_seen};
 ghost use Rattle.pool_text.specs.Answers.{Tells};
-ghost use Rattle.define_cover_texts.specs.CoverReading.{line_kind, after_line, Begun, InBundle, InTrees};
+ghost use Rattle.define_covers.specs.CoverReading.{line_kind, after_line, Begun, InBundle, InTrees};
 ghost use Rattle.cover_text.specs.Progress.{seen};
 
 use crate::lines::{LineInTree, line_in_tree};

@@ -2,8 +2,8 @@
 
 ghost use Rattle.std.specs.Prelude.{◌≡◌, Ok, IfOk};
 ghost use Rattle.define_covers.specs.Covers.{Cover as Words};
-ghost use Rattle.define_cover_texts.specs.CoverText.{IsCover, cover_spelling};
-ghost use Rattle.define_cover_texts.specs.CoverReading.{read_cover as read, at_last, missing_kind as missing_in};
+ghost use Rattle.define_covers.specs.CoverText.{IsCover, cover_spelling};
+ghost use Rattle.define_covers.specs.CoverReading.{read_cover as read, at_last, missing_kind as missing_in};
 ghost use Rattle.cover_text.specs.Answers.{Reads};
 ghost use Rattle.cover_text.specs.Progress.{seen, IsClosedRight};
 

@@ -4,8 +4,8 @@
 ghost use Rattle.std.specs.Prelude.{◌≡◌, ◌++◌, ◌∷◌, [], map, codes, Ok, IfOk, OnOk};
 ghost use Rattle.std.specs.Fmt.{decimal};
 ghost use Rattle.define_lines.specs.Lines.{tabbed, text_of};
-ghost use Rattle.define_cover_texts.specs.CoverText.{cause_fields, cover_spelling, front_line, lines_before_close, tree_lines, trees_from};
-ghost use Rattle.define_cover_texts.specs.CoverReading.{read_cover};
+ghost use Rattle.define_covers.specs.CoverText.{cause_fields, cover_spelling, front_line, lines_before_close, tree_lines, trees_from};
+ghost use Rattle.define_covers.specs.CoverReading.{read_cover};
 ghost use Rattle.cover_model.specs.Causes.{seen_cause};
 
 use crate::shared::{push_bundle, push_number_line};

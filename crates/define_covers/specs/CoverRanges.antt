@@ -1,4 +1,4 @@
--- The ranges of the numbers in the lines of a cover's trees. Within them a line has a text. Builds on Covers. `define_cover_texts` keeps to
+-- The ranges of the numbers in the lines of a cover's trees. Within them a line has a text. Builds on Covers. `define_covers` keeps to
 -- them.
 use Rattle.std.specs.Prelude.{ℕ, ◌-◌, nat_lt, nat_le, Bool, true, ◌&&◌, length, sum_by}
 use Rattle.std.specs.List.{list_all}

@@ -1,5 +1,5 @@
 -- Covers: for each stage of a certificate a list of fronts, each with a cause for which it isn't live. Builds on BundleText of
--- `define_bundles`. `define_cover_texts` spells them.
+-- `define_bundles`. `define_covers` spells them.
 use Rattle.std.specs.Prelude.{ℕ, List}
 use Rattle.define_bundles.specs.BundleText.{Bundle}
 

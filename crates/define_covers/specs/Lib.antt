@@ -5,3 +5,6 @@ pub mod CoverVerdict
 pub mod CoversHold
 pub mod CoverRanges
 pub mod WorkedCovers
+pub mod CoverText
+pub mod CoverReading
+pub mod WorkedCoverTexts

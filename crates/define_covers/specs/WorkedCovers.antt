@@ -1,4 +1,4 @@
--- Small covers, on which the definitions compute. The worked examples of this crate and of `define_cover_texts` use them.
+-- Small covers, on which the definitions compute. The worked examples of this crate and of `define_covers` use them.
 use Rattle.std.specs.Prelude.{ℕ, List, [], ◌∷◌, filter, map, pos, negsuc}
 use Rattle.define_bundles.specs.WorkedExamples.{four_answer}
 use Rattle.define_checks.specs.Caps.{classes_at, stage_row}

@@ -6,7 +6,7 @@ use Rattle.define_bundles.specs.BundleText.{done_line, lines_before_done}
 use Rattle.define_proofs.specs.ProofText.{bundle_lines, close_line}
 use Rattle.define_covers.specs.Covers.{Cover, FrontLine}
 use Rattle.define_covers.specs.CoverVerdict.{lines_before_tree, verdict}
-use Rattle.define_cover_texts.specs.CoverText.{IsCover, cover_lines, front_line, trees_from}
+use Rattle.define_covers.specs.CoverText.{IsCover, cover_lines, front_line, trees_from}
 use Rattle.laws_of_refused_covers.specs.Refusals.{IsOfLine, NamesTextLine, lines_before, lines_behind, lines_of_trees, tree_of}
 use Rattle.laws_of_refused_covers.proofs.Refused.{names_line, tree_within}
 

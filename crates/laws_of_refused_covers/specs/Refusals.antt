@@ -1,5 +1,5 @@
 -- What a refusal of a cover says: of the certificate, and which line of the cover's text it names. Builds on CoverVerdict of `define_covers`
--- and on CoverText of `define_cover_texts`.
+-- and on CoverText of `define_covers`.
 use Rattle.std.specs.Prelude.{◌≡◌, ◌⊎◌, ℕ, ◌+◌, ◌-◌, ◌<◌, ◌≤◌, List, [], ◌∷◌, ◌++◌, drop, length, map, reverse, slice_index_or, take}
 use Rattle.define_checks.specs.Reasons.{Refusal}
 use Rattle.define_pools.specs.Certificate.{Certifies, Stage}
@@ -7,7 +7,7 @@ use Rattle.define_proofs.specs.TreeLines.{fault}
 use Rattle.define_proofs.specs.ProofText.{close_line}
 use Rattle.define_covers.specs.Covers.{Cover, FrontLine}
 use Rattle.define_covers.specs.CoverVerdict.{lines_before_tree, tree_fault}
-use Rattle.define_cover_texts.specs.CoverText.{cover_lines, front_line, trees_from}
+use Rattle.define_covers.specs.CoverText.{cover_lines, front_line, trees_from}
 
 -- if the reason is below 11, the certificate doesn't hold. Reasons 11 and 12 are about the trees and say nothing of the certificate
 abbrev pub RefusalMeans : Cover → Refusal → Type 0

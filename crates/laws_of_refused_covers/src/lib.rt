@@ -1,5 +1,5 @@
 //! What a refusal of a cover says: a reason below 11 that the certificate doesn't hold, 11 and 12 in which line of the cover's text the first
-//! fault of a tree is. Stands on `define_covers`, `define_cover_texts` and the definitions below them.
+//! fault of a tree is. Stands on `define_covers`, `define_covers` and the definitions below them.
 //!
 //! The functions have no body. Their contracts are the laws, and the promises of this crate.
 #![tactic(auto)]
@@ -8,7 +8,7 @@ ghost use Rattle.std.specs.Prelude.{◌≡◌, ◌++◌, ◌+◌, ◌≤◌, dro
 ghost use Rattle.define_checks.specs.Reasons.{Refusal, Refused};
 ghost use Rattle.define_covers.specs.Covers.{Cover};
 ghost use Rattle.define_covers.specs.CoverVerdict.{verdict};
-ghost use Rattle.define_cover_texts.specs.CoverText.{IsCover, cover_lines, front_line};
+ghost use Rattle.define_covers.specs.CoverText.{IsCover, cover_lines, front_line};
 ghost use Rattle.laws_of_refused_covers.specs.Refusals.{IsOfLine, NamesLine, NamesTextLine, RefusalMeans, lines_before, lines_behind, tree_of};
 
 /// A cover is refused for a reason below 11 only if its certificate doesn't hold.

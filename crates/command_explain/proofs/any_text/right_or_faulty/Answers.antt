@@ -3,8 +3,8 @@ use Rattle.define_bundles.specs.BundleReading.{read_bundle}
 use Rattle.define_bundles.specs.BundleText.{IsBundle, bundle_spelling}
 use Rattle.define_bundles.specs.PoolReading.{read}
 use Rattle.define_bundles.specs.PoolText.{spelling}
-use Rattle.define_cover_texts.specs.CoverReading.{read_cover}
-use Rattle.define_cover_texts.specs.CoverText.{IsCover, cover_spelling}
+use Rattle.define_covers.specs.CoverReading.{read_cover}
+use Rattle.define_covers.specs.CoverText.{IsCover, cover_spelling}
 use Rattle.define_pools.specs.Pool.{IsPool}
 use Rattle.define_proofs.specs.ProofReading.{read_proof}
 use Rattle.define_proofs.specs.ProofText.{IsProof, proof_spelling}

@@ -4,7 +4,7 @@ use Rattle.std.proofs.lemmas.Bool.{false_from_ne_true, false≢true}
 use Rattle.define_pools.proofs.Each.{enumerated-each, list_all-enumerated}
 use Rattle.define_covers.specs.Covers.{FrontLine}
 use Rattle.define_covers.specs.CoverRanges.{is_front_line}
-use Rattle.define_cover_texts.specs.CoverText.{keep_ranges}
+use Rattle.define_covers.specs.CoverText.{keep_ranges}
 use Rattle.cover_model.proofs.ranges.are_trees.Goals as goal
 
 pub returns-then-not-is_tree : goal.returns-then-not-is_tree

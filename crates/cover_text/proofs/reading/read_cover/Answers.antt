@@ -1,10 +1,10 @@
 use Rattle.std.proofs.Common.{◌≡◌, ℕ, List, ◌∙◌, subst, ap}
 use Rattle.std.specs.Prelude.{Result, Ok, Err, IfOk}
 use Rattle.define_covers.specs.Covers.{Cover}
-use Rattle.define_cover_texts.specs.CoverText.{IsCover, cover_spelling}
-use Rattle.define_cover_texts.specs.CoverReading.{read_cover}
-use Rattle.define_cover_texts.proofs.ReadAgain.{spelled_is_read}
-use Rattle.define_cover_texts.proofs.Spelled.{read_is_spelled}
+use Rattle.define_covers.specs.CoverText.{IsCover, cover_spelling}
+use Rattle.define_covers.specs.CoverReading.{read_cover}
+use Rattle.define_covers.proofs.ReadAgain.{spelled_is_read}
+use Rattle.define_covers.proofs.Spelled.{read_is_spelled}
 use Rattle.text_lines.specs.declared.faults.TextStop.{TextStop}
 use Rattle.cover_text.specs.Answers.{Reads}
 use Rattle.cover_text.proofs.reading.read_cover.Goals as goal

@@ -1,7 +1,7 @@
 use Rattle.std.proofs.Common.{arith, sym, subst}
 use Rattle.define_lines.proofs.LineByLine.{leads_on}
-use Rattle.define_cover_texts.specs.CoverReading.{read_cover, reader}
-use Rattle.define_cover_texts.proofs.Spelled.{IsRight, line_adds}
+use Rattle.define_covers.specs.CoverReading.{read_cover, reader}
+use Rattle.define_covers.proofs.Spelled.{IsRight, line_adds}
 use Rattle.cover_text.specs.declared.progress.Progress.{Progress}
 use Rattle.cover_text.specs.Progress.{seen}
 use Rattle.cover_text.proofs.LineByLine.{stops_at, closed_right}

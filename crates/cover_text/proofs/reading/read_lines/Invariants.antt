@@ -1,8 +1,8 @@
 use Rattle.std.proofs.Common.{◌≡◌, ◌+◌, ◌≤◌, length}
 use Rattle.define_lines.specs.Lines.{pieces_of}
 use Rattle.define_lines.specs.Reading.{read_lines}
-use Rattle.define_cover_texts.specs.CoverReading.{read_cover, reader}
-use Rattle.define_cover_texts.proofs.Spelled.{IsRight}
+use Rattle.define_covers.specs.CoverReading.{read_cover, reader}
+use Rattle.define_covers.proofs.Spelled.{IsRight}
 use Rattle.cover_text.specs.Progress.{seen}
 use Rattle.cover_text.proofs.reading.read_lines.Given as goal
 

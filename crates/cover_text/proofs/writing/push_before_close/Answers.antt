@@ -2,7 +2,7 @@ use Rattle.std.proofs.Common.{◌≡◌, [], ◌∷◌, ◌++◌, ap, ◌∙◌}
 use Rattle.std.proofs.lemmas.Result.{on_ok_weaker}
 use Rattle.define_lines.specs.Lines.{text_of}
 use Rattle.define_proofs.specs.ProofText.{bundle_lines}
-use Rattle.define_cover_texts.specs.CoverText.{cover_line, trees_from}
+use Rattle.define_covers.specs.CoverText.{cover_line, trees_from}
 use Rattle.cover_text.proofs.Texts.{cover_text}
 use Rattle.cover_text.proofs.writing.push_before_close.Goals as goal
 

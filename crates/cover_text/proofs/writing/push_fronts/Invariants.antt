@@ -1,6 +1,6 @@
 use Rattle.std.proofs.Common.{◌≡◌, ◌++◌, map, take}
 use Rattle.define_lines.specs.Lines.{text_of}
-use Rattle.define_cover_texts.specs.CoverText.{front_line}
+use Rattle.define_covers.specs.CoverText.{front_line}
 use Rattle.cover_text.proofs.writing.push_fronts.Given as goal
 
 abbrev pub invariant-loop-line : goal.invariant-loop-line

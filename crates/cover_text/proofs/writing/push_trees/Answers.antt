@@ -1,6 +1,6 @@
 use Rattle.std.proofs.Common.{◌≡◌, ◌+◌, ◌++◌, take, ap, ◌∙◌}
 use Rattle.define_lines.specs.Lines.{text_of}
-use Rattle.define_cover_texts.specs.CoverText.{tree_lines, trees_from}
+use Rattle.define_covers.specs.CoverText.{tree_lines, trees_from}
 use Rattle.cover_text.proofs.Texts.{one_tree_more}
 use Rattle.cover_text.proofs.writing.push_trees.Goals as goal
 

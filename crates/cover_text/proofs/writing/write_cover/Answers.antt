@@ -2,9 +2,9 @@ use Rattle.std.proofs.Common.{◌≡◌, [], ◌∷◌, ◌++◌, ap, ◌∙◌}
 use Rattle.define_lines.specs.Lines.{text_of}
 use Rattle.define_lines.proofs.LineLemmas.{text_of-append}
 use Rattle.define_proofs.specs.ProofText.{close_line}
-use Rattle.define_cover_texts.specs.CoverReading.{read_cover}
-use Rattle.define_cover_texts.specs.CoverText.{cover_spelling, lines_before_close}
-use Rattle.define_cover_texts.proofs.ReadAgain.{spelled_is_read}
+use Rattle.define_covers.specs.CoverReading.{read_cover}
+use Rattle.define_covers.specs.CoverText.{cover_spelling, lines_before_close}
+use Rattle.define_covers.proofs.ReadAgain.{spelled_is_read}
 use Rattle.cover_text.proofs.writing.write_cover.Goals as goal
 
 pub returns-clause-spelled : goal.returns-clause-spelled

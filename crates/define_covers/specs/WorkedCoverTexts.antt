@@ -6,8 +6,8 @@ use Rattle.define_checks.specs.Reasons.{Verdict}
 use Rattle.define_covers.specs.Covers.{Cover, FrontLine}
 use Rattle.define_covers.specs.CoverVerdict.{verdict}
 use Rattle.define_covers.specs.WorkedCovers.{four_cover, women_fronts}
-use Rattle.define_cover_texts.specs.CoverReading.{LineInTree, line_in_tree, read_cover}
-use Rattle.define_cover_texts.specs.CoverText.{cover_lines}
+use Rattle.define_covers.specs.CoverReading.{LineInTree, line_in_tree, read_cover}
+use Rattle.define_covers.specs.CoverText.{cover_lines}
 
 -- what the text of `lines` is read as
 abbrev pub read_text : List (List ℕ) → Result Cover Fault

@@ -13,7 +13,7 @@ use Rattle.define_bundles.specs.BundleText.{Bundle}
 use Rattle.define_proofs.specs.ProofText.{close_line, tree_line}
 use Rattle.define_covers.specs.Covers.{ByCap, ByClosed, ByHousehold, BySize, ByValue, Cause, Cover, FrontLine}
 use Rattle.define_covers.specs.CoverRanges.{is_front_line, greatest_count, value_count}
-use Rattle.define_cover_texts.specs.CoverText.{cover_line, most_trees}
+use Rattle.define_covers.specs.CoverText.{cover_line, most_trees}
 
 -- the progress of a cover's text, after lines without a fault
 pub data Progress : Type 0 where

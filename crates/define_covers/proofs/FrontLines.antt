@@ -17,8 +17,8 @@ use Rattle.define_bundles.specs.BundleReading.{numbers_up_to, with_number}
 use Rattle.define_proofs.specs.ProofText.{close_line, tree_line}
 use Rattle.define_covers.specs.Covers.{ByCap, ByClosed, ByHousehold, BySize, ByValue, Cause, FrontLine}
 use Rattle.define_covers.specs.CoverRanges.{is_cause, is_front_line, is_numbered, greatest_count, most_count, value_count}
-use Rattle.define_cover_texts.specs.CoverText.{cause_fields, front_line, most_trees}
-use Rattle.define_cover_texts.specs.CoverReading.{LineInTree, NextTree, OfFront, TheClose, Unknown, cause_of, fields_said, front_of, front_said, line_in_tree, unnumbered}
+use Rattle.define_covers.specs.CoverText.{cause_fields, front_line, most_trees}
+use Rattle.define_covers.specs.CoverReading.{LineInTree, NextTree, OfFront, TheClose, Unknown, cause_of, fields_said, front_of, front_said, line_in_tree, unnumbered}
 
 -- ---- a line is the spelling of what it is read as
 

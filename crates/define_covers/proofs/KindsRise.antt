@@ -4,7 +4,7 @@ use Rattle.define_pools.specs.Lists.{is_increasing}
 use Rattle.define_bundles.specs.BundleReading as bundles
 use Rattle.define_proofs.specs.ProofReading as proofs
 use Rattle.define_proofs.proofs.KindsRise as proof_kinds
-use Rattle.define_cover_texts.specs.CoverReading.{Begun, Closed, InBundle, InTrees, LineInTree, NextTree, OfFront, Progress, TheClose, Unknown, line_kinds, said_in_tree, tree_kinds}
+use Rattle.define_covers.specs.CoverReading.{Begun, Closed, InBundle, InTrees, LineInTree, NextTree, OfFront, Progress, TheClose, Unknown, line_kinds, said_in_tree, tree_kinds}
 
 -- the numbers of the kinds are in rising order
 abbrev Rise : List (ℕ × Bool) → Type 0

@@ -17,9 +17,9 @@ use Rattle.define_bundles.proofs.Spelled as bundle_read
 use Rattle.define_proofs.specs.ProofText.{bundle_lines, tree_line}
 use Rattle.define_covers.specs.Covers.{Cover, FrontLine}
 use Rattle.define_covers.specs.CoverRanges.{is_front_line}
-use Rattle.define_cover_texts.specs.CoverText.{IsCover, cover_line, cover_lines, cover_spelling, front_line, keep_ranges, lines_before_close, most_trees, tree_lines, trees_from}
-use Rattle.define_cover_texts.specs.CoverReading.{Begun, Closed, InBundle, InTrees, LineInTree, NextTree, OfFront, Progress, TheClose, Unknown, after_line, after_tree, at_last, line_kind, read_cover, reader, said_in_tree, tree_kinds}
-use Rattle.define_cover_texts.proofs.FrontLines.{IsSpelled, line_spelled}
+use Rattle.define_covers.specs.CoverText.{IsCover, cover_line, cover_lines, cover_spelling, front_line, keep_ranges, lines_before_close, most_trees, tree_lines, trees_from}
+use Rattle.define_covers.specs.CoverReading.{Begun, Closed, InBundle, InTrees, LineInTree, NextTree, OfFront, Progress, TheClose, Unknown, after_line, after_tree, at_last, line_kind, read_cover, reader, said_in_tree, tree_kinds}
+use Rattle.define_covers.proofs.FrontLines.{IsSpelled, line_spelled}
 
 -- the bundle, the trees `whole` and the lines of the next tree are within their limits, and this tree's stage is one of the bundle's
 pub record AreRightTrees (bundle : Bundle) (whole : List (List FrontLine)) (lines : List FrontLine) : Type 0 where

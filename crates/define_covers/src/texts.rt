@@ -3,8 +3,6 @@
 //! holds, reads and writes covers, and by the crates above it.
 //!
 //! The functions have no body. Their contracts are the promises: laws over the definitions, and worked examples.
-#![tactic(auto)]
-
 ghost use Rattle.std.specs.Prelude.{◌≡◌, ◌≢◌, ◌++◌, [], ◌∷◌, codes, drop, length, map, take, ℕ, List, IsTrue, Ok, Err, Some, MatchResult};
 ghost use Rattle.define_checks.specs.Reasons.{Valid};
 ghost use Rattle.define_checks.specs.WorkedChecks.{refused};
@@ -14,9 +12,9 @@ ghost use Rattle.define_pools.specs.WorkedExamples.{four};
 ghost use Rattle.define_proofs.specs.ProofText.{close_line, tree_line};
 ghost use Rattle.define_covers.specs.Covers.{ByCap, ByClosed, ByHousehold, BySize, ByValue, Cover};
 ghost use Rattle.define_covers.specs.WorkedCovers.{at, either_cover, four_cover};
-ghost use Rattle.define_cover_texts.specs.CoverText.{IsCover, cover_lines, cover_spelling, lines_before_close};
-ghost use Rattle.define_cover_texts.specs.CoverReading.{NextTree, OfFront, Progress, TheClose, Unknown, line_in_tree, line_kinds, read_cover};
-ghost use Rattle.define_cover_texts.specs.WorkedCoverTexts.{both_trees, faulty, front_with, read_text, verdict_on, whole, with_line, without_line};
+ghost use Rattle.define_covers.specs.CoverText.{IsCover, cover_lines, cover_spelling, lines_before_close};
+ghost use Rattle.define_covers.specs.CoverReading.{NextTree, OfFront, Progress, TheClose, Unknown, line_in_tree, line_kinds, read_cover};
+ghost use Rattle.define_covers.specs.WorkedCoverTexts.{both_trees, faulty, front_with, read_text, verdict_on, whole, with_line, without_line};
 
 /// Bytes are the text of a cover and are read as this cover, or they have a first fault and are the text of no cover.
 pub fn cover_or_fault()

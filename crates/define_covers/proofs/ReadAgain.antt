@@ -16,10 +16,10 @@ use Rattle.define_bundles.proofs.ReadAgain as bundle_again
 use Rattle.define_proofs.specs.ProofText.{bundle_lines, close_line, tree_line}
 use Rattle.define_covers.specs.Covers.{Cover, FrontLine}
 use Rattle.define_covers.specs.CoverRanges.{is_front_line, value_count}
-use Rattle.define_cover_texts.specs.CoverText.{IsCover, cover_line, cover_lines, cover_spelling, front_line, keep_ranges, most_trees, trees_from}
-use Rattle.define_cover_texts.specs.CoverReading.{Begun, Closed, InBundle, InTrees, LineInTree, NextTree, OfFront, Progress, TheClose, after_tree, line_in_tree, read_cover, reader, said_in_tree, tree_kinds}
-use Rattle.define_cover_texts.proofs.FewValues.{few_values}
-use Rattle.define_cover_texts.proofs.FrontLines.{close_again, front_again, front_lacks_feed, next_again, tree_lacks_feed}
+use Rattle.define_covers.specs.CoverText.{IsCover, cover_line, cover_lines, cover_spelling, front_line, keep_ranges, most_trees, trees_from}
+use Rattle.define_covers.specs.CoverReading.{Begun, Closed, InBundle, InTrees, LineInTree, NextTree, OfFront, Progress, TheClose, after_tree, line_in_tree, read_cover, reader, said_in_tree, tree_kinds}
+use Rattle.define_covers.proofs.FewValues.{few_values}
+use Rattle.define_covers.proofs.FrontLines.{close_again, front_again, front_lacks_feed, next_again, tree_lacks_feed}
 
 -- none of the lines has an LF or a fault, and reading them leads from the first progress to the second
 abbrev pub Runs : Progress → List (List ℕ) → Progress → Type 0

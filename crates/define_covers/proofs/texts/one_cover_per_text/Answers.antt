@@ -1,7 +1,7 @@
 use Rattle.std.proofs.Common.{ap}
-use Rattle.define_cover_texts.specs.CoverReading.{read_cover}
-use Rattle.define_cover_texts.proofs.ReadAgain.{spelled_is_read}
-use Rattle.define_cover_texts.proofs.one_cover_per_text.Goals as goal
+use Rattle.define_covers.specs.CoverReading.{read_cover}
+use Rattle.define_covers.proofs.ReadAgain.{spelled_is_read}
+use Rattle.define_covers.proofs.texts.one_cover_per_text.Goals as goal
 
 pub returns : goal.returns
 returns c first second h k same =

@@ -1,11 +1,11 @@
 use Rattle.std.proofs.Common.{ap, refl}
 use Rattle.std.specs.Prelude.{◌≡◌, ◌≢◌, Ok, Err, MatchResult}
 use Rattle.define_covers.specs.Covers.{Cover}
-use Rattle.define_cover_texts.specs.CoverText.{IsCover, cover_spelling}
-use Rattle.define_cover_texts.specs.CoverReading.{read_cover}
-use Rattle.define_cover_texts.proofs.ReadAgain.{spelled_is_read}
-use Rattle.define_cover_texts.proofs.Spelled.{read_is_spelled}
-use Rattle.define_cover_texts.proofs.cover_or_fault.Goals as goal
+use Rattle.define_covers.specs.CoverText.{IsCover, cover_spelling}
+use Rattle.define_covers.specs.CoverReading.{read_cover}
+use Rattle.define_covers.proofs.ReadAgain.{spelled_is_read}
+use Rattle.define_covers.proofs.Spelled.{read_is_spelled}
+use Rattle.define_covers.proofs.texts.cover_or_fault.Goals as goal
 
 pub returns : goal.returns
 returns c bytes =

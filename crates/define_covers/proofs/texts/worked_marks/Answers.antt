@@ -1,7 +1,7 @@
 -- The examples are proved by computation, with the definition of digits unfolded.
 use Rattle.std.proofs.Common.{refl}
 use Rattle.std.specs.Fmt.{digits}
-use Rattle.define_cover_texts.proofs.worked_marks.Goals as goal
+use Rattle.define_covers.proofs.texts.worked_marks.Goals as goal
 
 pub returns-clause-first : goal.returns-clause-first
 unfolding digits

@@ -3,7 +3,7 @@ use Rattle.std.proofs.Common.{refl}
 use Rattle.std.specs.Fmt.{digits}
 use Rattle.std.specs.Str.{is_utf8, chars}
 use lib.Utf8.{encode}
-use Rattle.define_cover_texts.proofs.worked_faults.Goals as goal
+use Rattle.define_covers.proofs.texts.worked_faults.Goals as goal
 
 pub returns-clause-after_first : goal.returns-clause-after_first
 unfolding digits is_utf8 chars encode

@@ -1,7 +1,7 @@
 -- The examples are proved by computation, with the definition of digits unfolded.
 use Rattle.std.proofs.Common.{refl}
 use Rattle.std.specs.Fmt.{digits}
-use Rattle.define_cover_texts.proofs.worked_texts.Goals as goal
+use Rattle.define_covers.proofs.texts.worked_texts.Goals as goal
 
 pub returns-clause-four : goal.returns-clause-four
 unfolding digits

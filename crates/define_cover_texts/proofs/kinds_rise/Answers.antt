@@ -1,5 +1,0 @@
-use Rattle.define_cover_texts.proofs.KindsRise.{line_kinds_rise}
-use Rattle.define_cover_texts.proofs.kinds_rise.Goals as goal
-
-pub returns : goal.returns
-returns c = line_kinds_rise

@@ -1,3 +1,0 @@
-pub mod CoverText
-pub mod CoverReading
-pub mod WorkedCoverTexts
