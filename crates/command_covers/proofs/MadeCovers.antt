@@ -13,11 +13,11 @@ use Rattle.define_covers.specs.CoverVerdict.{verdict}
 use Rattle.define_pools.specs.Certificate.{Answer, Certifies}
 use Rattle.define_pools.specs.Pool.{Pool}
 use Rattle.define_pools.proofs.Greatest.{greatest_from_Certifies}
-use Rattle.laws_of_covers.proofs.Once.{trees_searched_once}
+use Rattle.define_covers.proofs.Once.{trees_searched_once}
 use Rattle.cert_check.specs.declared.stops.CheckStop.{CheckStop}
 use Rattle.cert_check.specs.declared.stops.CheckStop.TheVariants.{NodesSpent, OutOfMemory}
 use Rattle.cover_cert.specs.Covering.{AnswersCheck, IfCover}
-use Rattle.laws_of_covers.specs.Made.{IsMadeOf}
+use Rattle.define_covers.specs.Made.{IsMadeOf}
 use Rattle.cover_cert.specs.declared.making.Covered.{Covered}
 use Rattle.cover_cert.specs.declared.making.Covered.TheVariants.{Cover, Refused}
 use Rattle.command_bundles.specs.Checked.{TellsStop}

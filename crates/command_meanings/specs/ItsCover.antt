@@ -6,7 +6,7 @@ use Rattle.define_checks.specs.Visits.{check_answer}
 use Rattle.define_covers.specs.CoverText.{IsCover, cover_spelling}
 use Rattle.define_covers.specs.Covers.{Cover}
 use Rattle.define_covers.specs.CoverVerdict as covers
-use Rattle.laws_of_covers.specs.Made.{IsMadeOf}
+use Rattle.define_covers.specs.Made.{IsMadeOf}
 use Rattle.command_meanings.specs.Check.{CheckMeans, IsGreatest}
 use Rattle.command_shell.specs.Answers.{RightAnswers}
 

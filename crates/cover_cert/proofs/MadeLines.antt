@@ -8,10 +8,10 @@ use Rattle.define_covers.specs.Covers.{Cause, FrontLine}
 use Rattle.define_covers.specs.FrontOrder.{turned}
 use Rattle.cover_model.specs.declared.fronts.Cause.{Cause as CodeCause}
 use Rattle.cover_model.specs.Causes.{seen_cause}
-use Rattle.laws_of_covers.specs.Counts.{Fits}
-use Rattle.laws_of_covers.specs.FirstCause.{first_cause}
-use Rattle.laws_of_covers.specs.Made.{IsSearched}
-use Rattle.laws_of_covers.proofs.Made.{Tries, ends, goes_down, goes_on, live_is_short, within_limits}
+use Rattle.define_covers.specs.Counts.{Fits}
+use Rattle.define_covers.specs.FirstCause.{first_cause}
+use Rattle.define_covers.specs.Made.{IsSearched}
+use Rattle.define_covers.proofs.Made.{Tries, ends, goes_down, goes_on, live_is_short, within_limits}
 
 module _ (all : Classes) (closed : List Row) (row : Row) (lines : List FrontLine) (front : List ℕ) (tries : Tries all closed row lines front) (limits : KeepsLimits all) where
   pub read_fits : (read : List ℕ) → read ≡ front → Fits all.classes read

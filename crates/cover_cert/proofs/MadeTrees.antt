@@ -15,8 +15,8 @@ use Rattle.define_covers.specs.CoverRanges.{is_front_line, value_count}
 use Rattle.define_covers.specs.CoverText.{keep_ranges}
 use Rattle.check_search.specs.Terms.{AreOfStage}
 use Rattle.check_search.specs.declared.terms.Terms.{Terms}
-use Rattle.laws_of_covers.specs.Made.{IsSearched, IsSearchedStage, TreesSearched}
-use Rattle.laws_of_covers.proofs.MadeRanges.{in_ranges_where_searched, same_value_count}
+use Rattle.define_covers.specs.Made.{IsSearched, IsSearchedStage, TreesSearched}
+use Rattle.define_covers.proofs.MadeRanges.{in_ranges_where_searched, same_value_count}
 
 -- ---- a number that is not found yet
 

@@ -14,9 +14,9 @@ use Rattle.define_covers.specs.Covers.{Cover}
 use Rattle.define_covers.specs.CoverVerdict.{verdict}
 use Rattle.define_covers.specs.CoversHold.{TreesCover}
 use Rattle.define_proofs.specs.CapsHold.{CapsHold}
-use Rattle.laws_of_covers.proofs.Made.{trees_cover_where_searched}
-use Rattle.laws_of_covers.proofs.Verdicts.{caps_are_left, certified_where_valid, greatest_where_valid, valid_where_checked}
-use Rattle.laws_of_covers.specs.Made.{IsMadeOf}
+use Rattle.define_covers.proofs.Made.{trees_cover_where_searched}
+use Rattle.define_covers.proofs.Verdicts.{caps_are_left, certified_where_valid, greatest_where_valid, valid_where_checked}
+use Rattle.define_covers.specs.Made.{IsMadeOf}
 
 module _ (cover : Cover) (ranges : IsInRanges cover.bundle.pool cover.bundle.answer) where
   pub certified : (result : Result Verdict AllocError) → IfOk result (λ said. said ≡ verdict cover) → IfOk result (λ said. said ≡ Valid → Certifies cover.bundle.pool cover.bundle.answer.lottery cover.bundle.answer.stages)

@@ -19,8 +19,8 @@ use Rattle.define_covers.specs.CoverVerdict.{fault_from, tree_fault, tree_reason
 use Rattle.check_reasons.specs.Sayings.{holds}
 use Rattle.check_search.specs.Terms.{AreOfStage}
 use Rattle.check_search.specs.declared.terms.Terms.{Terms}
-use Rattle.laws_of_covers.specs.CoverSteps.{stage_verdict, verdict_from}
-use Rattle.laws_of_covers.proofs.StepByStep.{goes_on_by_stages}
+use Rattle.define_covers.specs.CoverSteps.{stage_verdict, verdict_from}
+use Rattle.define_covers.proofs.StepByStep.{goes_on_by_stages}
 
 pub list_all-reverse : {X : Type 0} (p : X → Bool) (xs : List X) → list_all p (reverse xs) ≡ list_all p xs
 list_all-reverse {X} p [] = refl

@@ -7,7 +7,7 @@ ghost use Rattle.check_search.specs.Terms.{AreTerms};
 ghost use Rattle.cover_model.specs.Causes.{seen_cause};
 ghost use Rattle.define_covers.specs.Causes.{all_values, applies};
 ghost use Rattle.define_covers.specs.Covers.{ByClosed, ByValue};
-ghost use Rattle.laws_of_covers.specs.FirstCause.{first_cause as first_cause_of};
+ghost use Rattle.define_covers.specs.FirstCause.{first_cause as first_cause_of};
 ghost use Rattle.define_searches.specs.Front.{AreWithin};
 
 use crate::judging::{does_apply, go_back, go_to};

@@ -8,7 +8,7 @@ ghost use Rattle.define_checks.specs.Reasons.{Refused, Valid};
 ghost use Rattle.define_covers.specs.CoverVerdict.{tree_fault as fault_of, verdict as verdict_of};
 ghost use Rattle.define_pools.specs.Certificate.{Certifies};
 ghost use Rattle.define_pools.specs.Lottery.{LeximinGreatest};
-ghost use Rattle.laws_of_covers.specs.CoverSteps.{stage_verdict as stage_verdict_of, verdict_from};
+ghost use Rattle.define_covers.specs.CoverSteps.{stage_verdict as stage_verdict_of, verdict_from};
 
 use crate::steps::Steps;
 use crate::trees::{Fault, tree_fault};

@@ -4,7 +4,7 @@
 //!
 //! Stands on `cert_check`, which searches, on `check_reasons`, for the reasons that do not concern trees, on the classes, rows and tallies of
 //! `check_search`, on the values of `cover_model`, on `line_counts`, for the lines that verdicts name, and on `define_covers` and
-//! `laws_of_covers`.
+//! `define_covers`.
 //!
 //! Promises: `check_cover` returns exactly the verdict of the definitions, with a step for each front that it judges. `cover` answers as
 //! `check` of `cert_check` does, with a cover exactly if the certificate is valid, and `check_cover` finds that cover valid. All other

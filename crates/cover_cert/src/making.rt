@@ -5,7 +5,7 @@ ghost use Rattle.std.specs.Prelude.{◌≡◌, [], IfOk, IsTrue, length, reverse
 ghost use Rattle.std.specs.List.{list_all};
 ghost use Rattle.check_search.specs.Terms.{AreTerms};
 ghost use Rattle.cover_cert.specs.Covering.{AnswersCheck, IfCover, refuses};
-ghost use Rattle.laws_of_covers.specs.Made.{IsMadeOf};
+ghost use Rattle.define_covers.specs.Made.{IsMadeOf};
 ghost use Rattle.define_bundles.specs.Ranges.{is_stage};
 ghost use Rattle.define_checks.specs.Caps.{first_above};
 ghost use Rattle.define_checks.specs.Reasons.{Valid};
@@ -16,7 +16,7 @@ ghost use Rattle.define_covers.specs.CoverVerdict.{verdict as verdict_of};
 ghost use Rattle.define_covers.specs.CoverText.{keep_ranges};
 ghost use Rattle.define_pools.specs.Certificate.{is_capped};
 ghost use Rattle.define_proofs.specs.CapsHold.{CapsHold};
-ghost use Rattle.laws_of_covers.specs.Made.{IsSearched, IsSearchedStage, TreesSearched};
+ghost use Rattle.define_covers.specs.Made.{IsSearched, IsSearchedStage, TreesSearched};
 
 use crate::causes::first_cause;
 use crate::order::turned;

@@ -4,8 +4,8 @@
 ghost use Rattle.std.specs.Prelude.{◌≡◌, ◌≤◌, ◌+◌, [], ◌∷◌, ℕ, IfOk, Ok, Err, OnOk, Some, None, length};
 ghost use Rattle.check_search.specs.Front.{Tracks};
 ghost use Rattle.check_search.specs.Terms.{AreTerms};
-ghost use Rattle.laws_of_covers.specs.Counts.{BeginningFits};
-ghost use Rattle.laws_of_covers.specs.LineSteps.{next};
+ghost use Rattle.define_covers.specs.Counts.{BeginningFits};
+ghost use Rattle.define_covers.specs.LineSteps.{next};
 ghost use Rattle.define_covers.specs.CoverVerdict.{fault_from};
 
 use crate::judging::judge;

@@ -3,3 +3,16 @@ pub mod FewValues
 pub mod FrontLines
 pub mod Spelled
 pub mod ReadAgain
+pub mod Order
+pub mod Ruled
+pub mod Alive
+pub mod Covered
+pub mod Verdicts
+pub mod StepByStep
+pub mod Counts
+pub mod Numbered
+pub mod Lines
+pub mod Made
+pub mod MadeRanges
+pub mod FirstCauses
+pub mod Once

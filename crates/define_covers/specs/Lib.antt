@@ -8,3 +8,9 @@ pub mod WorkedCovers
 pub mod CoverText
 pub mod CoverReading
 pub mod WorkedCoverTexts
+pub mod Counts
+pub mod CoverSteps
+pub mod FirstCause
+pub mod LineSteps
+pub mod Laws
+pub mod Made

@@ -6,6 +6,7 @@
 //! The functions have no body: their contracts are laws over the definitions, and worked examples.
 #![tactic(auto)]
 
+pub mod laws;
 pub mod texts;
 
 ghost use Rattle.std.specs.Prelude.{drop, ◌≡◌, ◌++◌, [], ◌∷◌};

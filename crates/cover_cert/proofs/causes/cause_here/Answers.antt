@@ -2,7 +2,7 @@ use Rattle.std.proofs.Common.{sym, ap, ◌∙◌}
 use Rattle.std.specs.List.{find, range_with_len}
 use Rattle.define_covers.specs.Causes.{applies}
 use Rattle.define_covers.specs.Covers.{ByValue}
-use Rattle.laws_of_covers.proofs.FirstCauses.{by_cap, by_closed, by_household, by_none, by_value}
+use Rattle.define_covers.proofs.FirstCauses.{by_cap, by_closed, by_household, by_none, by_value}
 use Rattle.cover_cert.proofs.causes.cause_here.Goals as goal
 
 pub returns-in-Some : goal.returns-in-Some

@@ -6,7 +6,7 @@ use Rattle.define_bundles.specs.Ranges.{is_stage}
 use Rattle.define_covers.specs.Covers.{FrontLine}
 use Rattle.check_reasons.specs.Courses.{Course, passed}
 use Rattle.check_reasons.specs.Sayings.{holds}
-use Rattle.laws_of_covers.specs.CoverSteps.{stage_verdict, verdict_from}
+use Rattle.define_covers.specs.CoverSteps.{stage_verdict, verdict_from}
 use Rattle.cover_cert.proofs.Stages.{going_on, lines_more, lines_within, refusing, stages_from}
 use Rattle.cover_cert.proofs.checking.stages_verdict.Goals as goal
 

@@ -3,7 +3,7 @@ use Rattle.std.specs.List.{list_all}
 use Rattle.define_bundles.specs.Ranges.{is_stage}
 use Rattle.define_covers.specs.Covers.{FrontLine}
 use Rattle.std.specs.Prelude.{List}
-use Rattle.laws_of_covers.specs.CoverSteps.{verdict_from}
+use Rattle.define_covers.specs.CoverSteps.{verdict_from}
 use Rattle.cover_cert.proofs.checking.stages_verdict.Given as goal
 
 -- the verdict on all stages is the verdict on the stages that are left

@@ -8,7 +8,7 @@ use Rattle.define_rows.specs.Row.{Row}
 use Rattle.define_searches.specs.Classes.{Classes}
 use Rattle.define_searches.specs.Fronts.{optimistic}
 use Rattle.define_covers.specs.Causes.{closed_fails}
-use Rattle.laws_of_covers.proofs.Numbered.{none_before, none_behind, one_at, turned_at_place}
+use Rattle.define_covers.proofs.Numbered.{none_before, none_behind, one_at, turned_at_place}
 use Rattle.cover_cert.proofs.judging.closed_fails.Goals as goal
 use Rattle.cover_cert.proofs.judging.closed_fails.Goals.{After-index-row}
 

@@ -6,7 +6,7 @@ use Rattle.define_searches.specs.declared.Bounds.{Bounds}
 use Rattle.define_searches.specs.Fronts.{value_reachable}
 use Rattle.define_covers.specs.Causes.{all_values}
 use Rattle.define_searches.proofs.WeightLaws.{within_few}
-use Rattle.laws_of_covers.proofs.Numbered.{fails_from, here_fails, later_fails, none_before}
+use Rattle.define_covers.proofs.Numbered.{fails_from, here_fails, later_fails, none_before}
 use Rattle.cover_cert.proofs.judging.value_fails.Goals as goal
 
 -- the values of a category come before those of the later categories

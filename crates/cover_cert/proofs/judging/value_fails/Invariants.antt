@@ -1,6 +1,6 @@
 use Rattle.std.proofs.Common.{◌≡◌, ◌-◌, ◌<◌, drop}
 use Rattle.define_covers.specs.Causes.{value_fails}
-use Rattle.laws_of_covers.proofs.Numbered.{fails_from}
+use Rattle.define_covers.proofs.Numbered.{fails_from}
 use Rattle.cover_cert.proofs.judging.value_fails.Given as goal
 
 -- the categories that are left begin with value `number - place`

@@ -1,6 +1,6 @@
 use Rattle.std.proofs.Common.{[]}
 use Rattle.check_search.specs.Front.{Tracks}
-use Rattle.laws_of_covers.proofs.Made.{Tries}
+use Rattle.define_covers.proofs.Made.{Tries}
 use Rattle.cover_cert.proofs.making.lines_of.Given as goal
 
 -- the lines so far are the first of the search, which tries `front` next

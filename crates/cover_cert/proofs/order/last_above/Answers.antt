@@ -1,5 +1,5 @@
 use Rattle.std.proofs.Common.{◌-◌, get_or, length, refl, arith}
-use Rattle.laws_of_covers.proofs.Counts.{none_left, turned_here}
+use Rattle.define_covers.proofs.Counts.{none_left, turned_here}
 use Rattle.cover_cert.proofs.order.last_above.Goals as goal
 
 pub loop-done-init : goal.loop-done-init

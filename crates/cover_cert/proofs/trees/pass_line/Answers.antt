@@ -1,8 +1,8 @@
 use Rattle.std.proofs.Common.{◌≡◌, ℕ, ◌≤◌, true, List, length, Option, Some, None, sym, ap, ◌∙◌, subst, arith}
 use Rattle.define_searches.specs.Classes.{Class, Classes, KeepsLimits}
 use Rattle.define_covers.specs.FrontOrder.{continues, turned}
-use Rattle.laws_of_covers.specs.Counts.{BeginningFits, Fits}
-use Rattle.laws_of_covers.proofs.Counts.{fits_few, fits_within, front_fits, turned_fits}
+use Rattle.define_covers.specs.Counts.{BeginningFits, Fits}
+use Rattle.define_covers.proofs.Counts.{fits_few, fits_within, front_fits, turned_fits}
 use Rattle.cover_cert.proofs.trees.pass_line.Goals as goal
 
 beginning_few : (all : Classes) (classes : List Class) (begun items : List ℕ) (place : Option (List ℕ)) → classes ≡ all.classes → begun ≡ items → Some items ≡ place → BeginningFits all place → length begun ≤ length classes

@@ -1,7 +1,7 @@
 use Rattle.std.proofs.Common.{[], Some, sym, ap, ◌∙◌, arith}
 use Rattle.define_proofs.specs.TreeLines.{fault}
 use Rattle.define_covers.specs.CoverVerdict.{fault_from}
-use Rattle.laws_of_covers.proofs.Lines.{line_passed, line_refused}
+use Rattle.define_covers.proofs.Lines.{line_passed, line_refused}
 use Rattle.cover_cert.proofs.trees.tree_fault.Goals as goal
 
 pub loop-k-preserved : goal.loop-k-preserved

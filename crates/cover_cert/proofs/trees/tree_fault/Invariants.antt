@@ -1,7 +1,7 @@
 use Rattle.std.proofs.Common.{◌≡◌, ◌+◌, ◌≤◌, [], Some, drop}
 use Rattle.check_search.specs.Front.{Tracks}
 use Rattle.define_covers.specs.CoverVerdict.{fault_from}
-use Rattle.laws_of_covers.specs.Counts.{BeginningFits}
+use Rattle.define_covers.specs.Counts.{BeginningFits}
 use Rattle.cover_cert.proofs.trees.tree_fault.Given as goal
 
 -- the first fault of all lines is the first fault of the lines that are left, from the place so far

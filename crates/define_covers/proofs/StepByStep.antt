@@ -4,7 +4,7 @@ use Rattle.define_checks.specs.Reasons.{Refusal, Refused, Valid, Verdict, first_
 use Rattle.define_proofs.specs.ProofSteps.{or_next}
 use Rattle.define_proofs.specs.ProofVerdict.{listed_reasons}
 use Rattle.define_covers.specs.CoverVerdict.{first_tree, later_trees, lines_before_tree, reasons_from, tree_reasons}
-use Rattle.laws_of_covers.specs.CoverSteps.{BeginsWithLottery, GoesOnByStages}
+use Rattle.define_covers.specs.CoverSteps.{BeginsWithLottery, GoesOnByStages}
 
 first_joined : (xs ys : List (Option Refusal)) → first_reason (xs ++ ys) ≡ or_next (first_reason xs) (first_reason ys)
 first_joined [] ys = refl

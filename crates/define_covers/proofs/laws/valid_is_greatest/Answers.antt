@@ -1,5 +1,5 @@
-use Rattle.laws_of_covers.proofs.Verdicts.{greatest_where_valid, valid_is_certified}
-use Rattle.laws_of_covers.proofs.valid_is_greatest.Goals as goal
+use Rattle.define_covers.proofs.Verdicts.{greatest_where_valid, valid_is_certified}
+use Rattle.define_covers.proofs.laws.valid_is_greatest.Goals as goal
 
 pub returns-clause-certified : goal.returns-clause-certified
 returns-clause-certified c = valid_is_certified

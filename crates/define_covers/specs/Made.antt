@@ -15,7 +15,7 @@ use Rattle.define_covers.specs.Covers.{Cover, FrontLine}
 use Rattle.define_covers.specs.CoverVerdict.{first_tree, later_trees}
 use Rattle.define_covers.specs.CoversHold.{Covers, TreesCover}
 use Rattle.define_covers.specs.FrontOrder.{are_in_order}
-use Rattle.laws_of_covers.specs.FirstCause.{first_cause}
+use Rattle.define_covers.specs.FirstCause.{first_cause}
 
 -- the search enters each front that is shorter than `front` and at its beginning
 abbrev pub IsTried : Classes → List Row → Row → List ℕ → Type 0

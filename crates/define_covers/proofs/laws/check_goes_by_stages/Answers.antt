@@ -1,5 +1,5 @@
-use Rattle.laws_of_covers.proofs.StepByStep.{begins_with_lottery, goes_on_by_stages}
-use Rattle.laws_of_covers.proofs.check_goes_by_stages.Goals as goal
+use Rattle.define_covers.proofs.StepByStep.{begins_with_lottery, goes_on_by_stages}
+use Rattle.define_covers.proofs.laws.check_goes_by_stages.Goals as goal
 
 pub returns-clause-begins : goal.returns-clause-begins
 returns-clause-begins c = begins_with_lottery

@@ -17,7 +17,7 @@ use Rattle.define_proofs.specs.TreeLines.{TreeFault}
 use Rattle.define_covers.specs.Covers.{Cover, FrontLine}
 use Rattle.define_covers.specs.CoverVerdict.{first_tree, later_trees, lines_before_tree, reasons, reasons_from, stage_reasons, tree_fault, tree_reasons, verdict}
 use Rattle.define_covers.specs.CoversHold.{AllButCap, CapsAreLeft, CertifiesButCaps, StagesMeetAllButCaps, TreesCover, TreesCoverCaps, ValidIsCertified, ValidWhereCovered}
-use Rattle.laws_of_covers.proofs.Covered.{capped_where_covered, covers_where_no_fault, no_fault_where_covers}
+use Rattle.define_covers.proofs.Covered.{capped_where_covered, covers_where_no_fault, no_fault_where_covers}
 
 -- ---- caps
 

@@ -3,12 +3,10 @@
 //! and makes them.
 //!
 //! The functions have no body. Their contracts are the laws, and the promises of this crate.
-#![tactic(auto)]
-
 ghost use Rattle.define_covers.specs.CoversHold.{CapsAreLeft, LiveWhereNoCause, TreesCoverCaps, ValidIsCertified, ValidWhereCovered};
-ghost use Rattle.laws_of_covers.specs.CoverSteps.{BeginsWithLottery, GoesOnByStages};
-ghost use Rattle.laws_of_covers.specs.Made.{CoversWhereSearched, InRangesWhereSearched, SameValueCount, SearchedOnce, TreesCoverWhereSearched, TreesSearchedOnce};
-ghost use Rattle.laws_of_covers.specs.Laws.{LiveWhereNoneFirst, NoneAboveWhereCovered, ValidIsGreatest, ValidWhereChecked};
+ghost use Rattle.define_covers.specs.CoverSteps.{BeginsWithLottery, GoesOnByStages};
+ghost use Rattle.define_covers.specs.Made.{CoversWhereSearched, InRangesWhereSearched, SameValueCount, SearchedOnce, TreesCoverWhereSearched, TreesSearchedOnce};
+ghost use Rattle.define_covers.specs.Laws.{LiveWhereNoneFirst, NoneAboveWhereCovered, ValidIsGreatest, ValidWhereChecked};
 
 /// A front is live exactly if no cause applies to it. So if the lines of a tree have no fault, a search at the stage finds nothing above the
 /// cap.

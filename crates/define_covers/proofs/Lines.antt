@@ -8,7 +8,7 @@ use Rattle.define_covers.specs.Causes.{applies}
 use Rattle.define_covers.specs.Covers.{FrontLine}
 use Rattle.define_covers.specs.CoverVerdict.{fault_from}
 use Rattle.define_covers.specs.FrontOrder.{continues, turned}
-use Rattle.laws_of_covers.specs.LineSteps.{next}
+use Rattle.define_covers.specs.LineSteps.{next}
 
 module _ (all : Classes) (closed : List Row) (row : Row) where
   along : ℕ → Result (Option (List ℕ)) ℕ → List FrontLine → Option TreeFault

@@ -8,7 +8,7 @@ use Rattle.std.proofs.lemmas.List.Elements.{recursion_from_All}
 use Rattle.define_searches.specs.Classes.{Class, Classes, KeepsLimits}
 use Rattle.define_searches.specs.Front.{AreWithin}
 use Rattle.define_covers.specs.FrontOrder.{continues, filled, turned, turned_at}
-use Rattle.laws_of_covers.specs.Counts.{Fits}
+use Rattle.define_covers.specs.Counts.{Fits}
 
 pub fits_few : (classes : List Class) (counts : List ℕ) → Fits classes counts → length counts ≤ length classes
 fits_few classes [] h = omega arith

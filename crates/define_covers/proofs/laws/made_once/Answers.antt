@@ -1,5 +1,5 @@
-use Rattle.laws_of_covers.proofs.Once.{searched_once, trees_searched_once}
-use Rattle.laws_of_covers.proofs.made_once.Goals as goal
+use Rattle.define_covers.proofs.Once.{searched_once, trees_searched_once}
+use Rattle.define_covers.proofs.laws.made_once.Goals as goal
 
 pub returns-clause-lines : goal.returns-clause-lines
 returns-clause-lines c = searched_once

@@ -5,7 +5,7 @@ use Rattle.define_rows.specs.Row.{Row}
 use Rattle.define_searches.specs.Classes.{Classes}
 use Rattle.define_covers.specs.Causes.{all_values, applies}
 use Rattle.define_covers.specs.Covers.{ByCap, ByClosed, ByHousehold, BySize, ByValue, Cause}
-use Rattle.laws_of_covers.specs.FirstCause.{first_cause}
+use Rattle.define_covers.specs.FirstCause.{first_cause}
 
 -- what is found by a number, or else `later`
 named : (ℕ → Cause) → Option ℕ → Option Cause → Option Cause

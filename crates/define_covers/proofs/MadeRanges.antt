@@ -20,10 +20,10 @@ use Rattle.define_covers.specs.Covers.{ByCap, ByClosed, ByHousehold, ByValue, Ca
 use Rattle.define_covers.specs.CoverRanges.{is_cause, is_front_line, is_numbered, most_count, value_count}
 use Rattle.define_covers.specs.FrontOrder.{are_in_order, continues, turned}
 use Rattle.define_searches.proofs.WeightLaws.{count_few}
-use Rattle.laws_of_covers.specs.Counts.{BeginningFits, Fits}
-use Rattle.laws_of_covers.specs.FirstCause.{causes, first_cause}
-use Rattle.laws_of_covers.specs.Made.{InRangesWhereSearched, SameValueCount}
-use Rattle.laws_of_covers.proofs.Counts.{fits_few, fits_within, front_fits, turned_fits}
+use Rattle.define_covers.specs.Counts.{BeginningFits, Fits}
+use Rattle.define_covers.specs.FirstCause.{causes, first_cause}
+use Rattle.define_covers.specs.Made.{InRangesWhereSearched, SameValueCount}
+use Rattle.define_covers.proofs.Counts.{fits_few, fits_within, front_fits, turned_fits}
 
 -- ---- how many values there are
 

@@ -13,9 +13,9 @@ use Rattle.define_searches.specs.Fronts.{is_live_above}
 use Rattle.define_covers.specs.Causes.{applies}
 use Rattle.define_covers.specs.Covers.{Cause, FrontLine}
 use Rattle.define_covers.specs.FrontOrder.{are_in_order, continues, filled, turned}
-use Rattle.laws_of_covers.specs.FirstCause.{causes, first_cause}
-use Rattle.laws_of_covers.specs.Made.{IsTried, SearchedOnce, TreesSearchedOnce}
-use Rattle.laws_of_covers.proofs.Ruled.{not_live_where_applies}
+use Rattle.define_covers.specs.FirstCause.{causes, first_cause}
+use Rattle.define_covers.specs.Made.{IsTried, SearchedOnce, TreesSearchedOnce}
+use Rattle.define_covers.proofs.Ruled.{not_live_where_applies}
 
 module _ (all : Classes) (closed : List Row) (row : Row) where
   abbrev fronts : List FrontLine → List (List ℕ)

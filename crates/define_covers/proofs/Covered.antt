@@ -23,8 +23,8 @@ use Rattle.define_covers.specs.Covers.{FrontLine}
 use Rattle.define_covers.specs.CoverVerdict.{fault_from, tree_fault}
 use Rattle.define_covers.specs.CoversHold.{CoversStage}
 use Rattle.define_covers.specs.FrontOrder.{are_in_order, continues, turned}
-use Rattle.laws_of_covers.proofs.Order.{After, AtOrAfter, Extends, Within, all_counts_within, begins_or_after, follows_where_continues, front_fits, rest_gives}
-use Rattle.laws_of_covers.proofs.Ruled.{not_live_where_applies}
+use Rattle.define_covers.proofs.Order.{After, AtOrAfter, Extends, Within, all_counts_within, begins_or_after, follows_where_continues, front_fits, rest_gives}
+use Rattle.define_covers.proofs.Ruled.{not_live_where_applies}
 
 -- ---- no fault, and fronts in order with causes that apply
 

@@ -1,7 +1,7 @@
-use Rattle.laws_of_covers.proofs.Alive.{live_where_no_cause, live_where_none_first}
-use Rattle.laws_of_covers.proofs.Covered.{covers_where_no_fault, none_where_covered}
-use Rattle.laws_of_covers.proofs.Ruled.{no_cause_where_live}
-use Rattle.laws_of_covers.proofs.covered_fronts.Goals as goal
+use Rattle.define_covers.proofs.Alive.{live_where_no_cause, live_where_none_first}
+use Rattle.define_covers.proofs.Covered.{covers_where_no_fault, none_where_covered}
+use Rattle.define_covers.proofs.Ruled.{no_cause_where_live}
+use Rattle.define_covers.proofs.laws.covered_fronts.Goals as goal
 
 pub returns-clause-live : goal.returns-clause-live
 returns-clause-live c = λ all closed row front. (no_cause_where_live all closed row front, live_where_no_cause all closed row front)

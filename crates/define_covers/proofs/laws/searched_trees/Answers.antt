@@ -1,6 +1,6 @@
-use Rattle.laws_of_covers.proofs.Made.{covers_where_searched, trees_cover_where_searched}
-use Rattle.laws_of_covers.proofs.MadeRanges.{in_ranges_where_searched, same_value_count}
-use Rattle.laws_of_covers.proofs.searched_trees.Goals as goal
+use Rattle.define_covers.proofs.Made.{covers_where_searched, trees_cover_where_searched}
+use Rattle.define_covers.proofs.MadeRanges.{in_ranges_where_searched, same_value_count}
+use Rattle.define_covers.proofs.laws.searched_trees.Goals as goal
 
 pub returns-clause-lines : goal.returns-clause-lines
 returns-clause-lines c = covers_where_searched

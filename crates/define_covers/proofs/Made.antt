@@ -19,11 +19,11 @@ use Rattle.define_covers.specs.Causes.{applies}
 use Rattle.define_covers.specs.Covers.{Cause, FrontLine}
 use Rattle.define_covers.specs.CoverVerdict.{first_tree, later_trees}
 use Rattle.define_covers.specs.FrontOrder.{are_in_order, continues, filled, turned, turned_at}
-use Rattle.laws_of_covers.specs.Counts.{Fits}
-use Rattle.laws_of_covers.specs.FirstCause.{causes, first_cause}
-use Rattle.laws_of_covers.specs.Made.{CoversWhereSearched, IsSearched, IsTried, TreesCoverWhereSearched}
-use Rattle.laws_of_covers.proofs.Alive.{each_of_flat_map, live_where_none_first}
-use Rattle.laws_of_covers.proofs.Order.{Within}
+use Rattle.define_covers.specs.Counts.{Fits}
+use Rattle.define_covers.specs.FirstCause.{causes, first_cause}
+use Rattle.define_covers.specs.Made.{CoversWhereSearched, IsSearched, IsTried, TreesCoverWhereSearched}
+use Rattle.define_covers.proofs.Alive.{each_of_flat_map, live_where_none_first}
+use Rattle.define_covers.proofs.Order.{Within}
 
 -- ---- counts for the first classes, within the ranges of these classes
 

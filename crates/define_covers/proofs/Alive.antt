@@ -15,7 +15,7 @@ use Rattle.define_searches.specs.Compositions.{takes_one_a_household}
 use Rattle.define_searches.specs.Fronts.{is_live_above, is_reachable, optimistic, size_reachable, value_reachable, values_reachable}
 use Rattle.define_covers.specs.Causes.{all_values, applies, closed_fails, value_fails}
 use Rattle.define_covers.specs.Covers.{ByCap, ByClosed, ByHousehold, BySize, ByValue, Cause}
-use Rattle.laws_of_covers.specs.FirstCause.{causes, first_cause}
+use Rattle.define_covers.specs.FirstCause.{causes, first_cause}
 
 not_false : (b : Bool) → not b ≡ false → b ≡ true
 not_false true e = refl

@@ -1,5 +1,5 @@
-use Rattle.laws_of_covers.proofs.Verdicts.{caps_are_left, trees_cover_caps}
-use Rattle.laws_of_covers.proofs.covered_caps.Goals as goal
+use Rattle.define_covers.proofs.Verdicts.{caps_are_left, trees_cover_caps}
+use Rattle.define_covers.proofs.laws.covered_caps.Goals as goal
 
 pub returns-clause-left : goal.returns-clause-left
 returns-clause-left c = caps_are_left

@@ -13,7 +13,7 @@ use Rattle.define_searches.specs.Fronts.{is_live_above}
 use Rattle.define_covers.specs.Covers.{Cover, FrontLine}
 use Rattle.define_covers.specs.CoverVerdict.{tree_fault, verdict}
 use Rattle.define_covers.specs.CoversHold.{TreesCover}
-use Rattle.laws_of_covers.specs.FirstCause.{first_cause}
+use Rattle.define_covers.specs.FirstCause.{first_cause}
 
 -- a front to which no cause comes first is live
 abbrev pub LiveWhereNoneFirst : Type 0
