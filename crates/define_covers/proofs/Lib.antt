@@ -16,3 +16,5 @@ pub mod Made
 pub mod MadeRanges
 pub mod FirstCauses
 pub mod Once
+pub mod RefusedCovers
+pub mod TreesInText

@@ -14,3 +14,4 @@ pub mod FirstCause
 pub mod LineSteps
 pub mod Laws
 pub mod Made
+pub mod Refusals

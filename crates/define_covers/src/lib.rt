@@ -6,6 +6,7 @@
 //! The functions have no body: their contracts are laws over the definitions, and worked examples.
 #![tactic(auto)]
 
+pub mod refused;
 pub mod laws;
 pub mod texts;
 

@@ -2,14 +2,12 @@
 //! fault of a tree is. Stands on `define_covers`, `define_covers` and the definitions below them.
 //!
 //! The functions have no body. Their contracts are the laws, and the promises of this crate.
-#![tactic(auto)]
-
 ghost use Rattle.std.specs.Prelude.{◌≡◌, ◌++◌, ◌+◌, ◌≤◌, drop, length, map, ℕ};
 ghost use Rattle.define_checks.specs.Reasons.{Refusal, Refused};
 ghost use Rattle.define_covers.specs.Covers.{Cover};
 ghost use Rattle.define_covers.specs.CoverVerdict.{verdict};
 ghost use Rattle.define_covers.specs.CoverText.{IsCover, cover_lines, front_line};
-ghost use Rattle.laws_of_refused_covers.specs.Refusals.{IsOfLine, NamesLine, NamesTextLine, RefusalMeans, lines_before, lines_behind, tree_of};
+ghost use Rattle.define_covers.specs.Refusals.{IsOfLine, NamesLine, NamesTextLine, RefusalMeans, lines_before, lines_behind, tree_of};
 
 /// A cover is refused for a reason below 11 only if its certificate doesn't hold.
 pub fn refused_is_not_certified()

@@ -7,8 +7,8 @@ use Rattle.define_proofs.specs.ProofText.{bundle_lines, close_line}
 use Rattle.define_covers.specs.Covers.{Cover, FrontLine}
 use Rattle.define_covers.specs.CoverVerdict.{lines_before_tree, verdict}
 use Rattle.define_covers.specs.CoverText.{IsCover, cover_lines, front_line, trees_from}
-use Rattle.laws_of_refused_covers.specs.Refusals.{IsOfLine, NamesTextLine, lines_before, lines_behind, lines_of_trees, tree_of}
-use Rattle.laws_of_refused_covers.proofs.Refused.{names_line, tree_within}
+use Rattle.define_covers.specs.Refusals.{IsOfLine, NamesTextLine, lines_before, lines_behind, lines_of_trees, tree_of}
+use Rattle.define_covers.proofs.RefusedCovers.{names_line, tree_within}
 
 -- dropping `length xs + many` lines of `xs ++ ys` leaves `ys` without its first `many`
 drop_behind : (xs ys : List (List ℕ)) (many : ℕ) → drop (length xs + many) (xs ++ ys) ≡ drop many ys

@@ -21,7 +21,7 @@ use Rattle.define_covers.specs.Causes.{applies}
 use Rattle.define_covers.specs.Covers.{Cover, FrontLine}
 use Rattle.define_covers.specs.CoverVerdict.{fault_from, first_tree, later_trees, lines_before_tree, reasons, reasons_from, stage_reasons, tree_fault, tree_reasons, verdict}
 use Rattle.define_covers.specs.FrontOrder.{continues, turned}
-use Rattle.laws_of_refused_covers.specs.Refusals.{IsOfLine, NamesLine, RefusalMeans, lines_before, lines_of_trees, tree_of}
+use Rattle.define_covers.specs.Refusals.{IsOfLine, NamesLine, RefusalMeans, lines_before, lines_of_trees, tree_of}
 
 -- ---- the first fault is in one of the lines, or after them
 
