@@ -6,9 +6,9 @@
 -- none, names all quotas. So status 5 comes only if that search is spent.
 use Rattle.std.specs.Prelude.{◌≡◌, ℕ, IsTrue, List, [], ◌∷◌, ◌++◌, codes}
 use Rattle.std.specs.List.{flat_map}
-use Rattle.define_conflicts.specs.Conflicts.{IsConflict}
-use Rattle.define_conflicts.specs.ConflictText.{conflict_text}
-use Rattle.define_conflicts.specs.Quotas.{Conflict}
+use Rattle.define_quotas.specs.Conflicts.{IsConflict}
+use Rattle.define_quotas.specs.ConflictText.{conflict_text}
+use Rattle.define_quotas.specs.Quotas.{Conflict}
 use Rattle.define_pools.specs.Pool.{Pool, is_quota_panel, volunteer}
 use Rattle.command_shell.specs.Answers.{RightAnswers, no_answer}
 use Rattle.command_meanings.specs.Panel.{SpendsVisits, stated_visits}

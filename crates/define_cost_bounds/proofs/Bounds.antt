@@ -11,22 +11,22 @@ use Rattle.define_pools.specs.declared.Standing.TheVariants.{Seated, Gone}
 use Rattle.define_pools.specs.Lists.{includes}
 use Rattle.define_pools.specs.Pool.{Pool, allows}
 use Rattle.define_proofs.specs.Leaves.{standings}
-use Rattle.define_conflicts.specs.declared.Counted.{Counted}
-use Rattle.define_conflicts.specs.declared.Counted.TheVariants.{Everybody, WithValue, OfHousehold}
-use Rattle.define_conflicts.specs.declared.Quota.{Quota}
-use Rattle.define_conflicts.specs.declared.Side.{Side}
-use Rattle.define_conflicts.specs.declared.Side.TheVariants.{AtLeast, AtMost}
-use Rattle.define_conflicts.specs.declared.WeightedQuota.{WeightedQuota}
-use Rattle.define_conflicts.specs.LeastMisses.{asked, given, quotas_of, weighed_misses}
-use Rattle.define_conflicts.specs.Quotas.{bound_of, counts, is_selection_at, miss, missed, misses}
-use Rattle.define_conflicts.proofs.Asking.{asked_or_missed, few_misses}
-use Rattle.define_conflicts.proofs.NoPanel.{own_household_met, own_selected, own_size_met}
-use Rattle.define_conflicts.proofs.Splits.{selection_set}
+use Rattle.define_quotas.specs.declared.Counted.{Counted}
+use Rattle.define_quotas.specs.declared.Counted.TheVariants.{Everybody, WithValue, OfHousehold}
+use Rattle.define_quotas.specs.declared.Quota.{Quota}
+use Rattle.define_quotas.specs.declared.Side.{Side}
+use Rattle.define_quotas.specs.declared.Side.TheVariants.{AtLeast, AtMost}
+use Rattle.define_quotas.specs.declared.WeightedQuota.{WeightedQuota}
+use Rattle.define_quotas.specs.LeastMisses.{asked, given, quotas_of, weighed_misses}
+use Rattle.define_quotas.specs.Quotas.{bound_of, counts, is_selection_at, miss, missed, misses}
+use Rattle.define_quotas.proofs.Asking.{asked_or_missed, few_misses}
+use Rattle.define_quotas.proofs.NoPanel.{own_household_met, own_selected, own_size_met}
+use Rattle.define_quotas.proofs.Splits.{selection_set}
 use Rattle.define_loosenings.specs.Loosenings.{IsLeast, Loosening, loosening_for}
 use Rattle.define_loosenings.specs.Teams.{is_team, loosened, team_cost}
 use Rattle.define_loosenings.proofs.Least.{has_panels, least_is}
 use Rattle.define_loosenings.proofs.MovedBounds.{loosened_fits}
-use Rattle.define_conflicts.specs.AllQuotas.{value_quotas}
+use Rattle.define_quotas.specs.AllQuotas.{value_quotas}
 use Rattle.define_cost_bounds.specs.CostBounds.{CostsAt, IsAtLeast, is_met_by_teams}
 use Rattle.define_cost_bounds.proofs.Costs.{misses_are_cost, total-append}
 

@@ -1,6 +1,6 @@
 //! Lower bounds on what teams cost, by weights of quotas and by splits on volunteers. By these bounds, a team that any search found can be
 //! shown to be a cheapest one, and the loosening for this team to be least. The definitions are in `specs/`. Stands on `define_loosenings`
-//! (teams and loosenings) and `define_conflicts` (quotas, what they ask for and what can be given). Used by `loosening_by_proof`, which
+//! (teams and loosenings) and `define_quotas` (quotas, what they ask for and what can be given). Used by `loosening_by_proof`, which
 //! searches, and the meaning of `loosen-by-proof`.
 //!
 //! The functions have no body: their contracts are laws over the definitions. The promise that matters most is `cheapest_by_bound`.
@@ -12,9 +12,9 @@ ghost use Rattle.define_pools.specs.declared.Standing.{Standing};
 ghost use Rattle.define_pools.specs.declared.Standing.TheVariants.{Gone, Seated};
 ghost use Rattle.define_pools.specs.Pool.{Pool};
 ghost use Rattle.define_proofs.specs.Leaves.{standings};
-ghost use Rattle.define_conflicts.specs.declared.WeightedQuota.{WeightedQuota};
-ghost use Rattle.define_conflicts.specs.LeastMisses.{asked, given, quotas_of};
-ghost use Rattle.define_conflicts.specs.AllQuotas.{value_quotas};
+ghost use Rattle.define_quotas.specs.declared.WeightedQuota.{WeightedQuota};
+ghost use Rattle.define_quotas.specs.LeastMisses.{asked, given, quotas_of};
+ghost use Rattle.define_quotas.specs.AllQuotas.{value_quotas};
 ghost use Rattle.define_cost_bounds.specs.CostBounds.{CostsAt, is_met_by_teams};
 ghost use Rattle.define_loosenings.specs.Loosenings.{IsLeast, Loosening, loosening_for};
 ghost use Rattle.define_loosenings.specs.Teams.{is_team, team_cost};

@@ -3,11 +3,11 @@
 ghost use Rattle.std.specs.Bool.{OnTrue};
 ghost use Rattle.std.specs.Prelude.{◌≡◌, ◌≤◌, ◌<◌, ◌+◌, ◌-◌, ◌*◌, ◌++◌, length, IfOk, IfSome, IsTrue, None, Some, nat_le};
 ghost use Rattle.std.specs.List.{list_all};
-ghost use Rattle.define_conflicts.specs.LeastMisses.{asked as asked_of, given as given_of};
+ghost use Rattle.define_quotas.specs.LeastMisses.{asked as asked_of, given as given_of};
 ghost use Rattle.define_cost_bounds.specs.CostBounds.{CostsAt, is_met_by_teams as is_always_met};
 
 use crate::quotas::weighted_values;
-use define_conflicts::{Counted, WeightedQuota};
+use define_quotas::{Counted, WeightedQuota};
 use define_cost_bounds::asking_more_costs;
 use pool_model::{Pool, Standing};
 use quota_conflicts::{asked, given, greatest_weight, times_below};

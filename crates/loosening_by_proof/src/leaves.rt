@@ -2,7 +2,7 @@
 //! This module promises nothing: `bounds` computes what a leaf shows.
 
 use crate::bounds::Leaf;
-use define_conflicts::{Counted, Quota, Side, WeightedQuota};
+use define_quotas::{Counted, Quota, Side, WeightedQuota};
 use prove_limits::Narrow;
 use prove_program::Program;
 use std::alloc::{AllocError, Global};

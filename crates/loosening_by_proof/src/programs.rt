@@ -5,7 +5,7 @@
 ghost use Rattle.std.specs.Prelude.{◌≡◌, length, IfOk, OnOk};
 ghost use Rattle.loosening_by_proof.specs.Searches.{AreSizes};
 
-use define_conflicts::Counted;
+use define_quotas::Counted;
 use prove_limits::{Narrow, ProveStop, Span};
 use prove_program::Program;
 use prove_table::Table;

@@ -1,10 +1,10 @@
-//! The quotas of all values of a pool with weights, in the order of `value_quotas` of `define_conflicts`.
+//! The quotas of all values of a pool with weights, in the order of `value_quotas` of `define_quotas`.
 
 ghost use Rattle.std.specs.Prelude.{◌≡◌, ◌++◌, [], ◌∷◌, IfOk, OnOk};
-ghost use Rattle.define_conflicts.specs.LeastMisses.{quotas_of};
-ghost use Rattle.define_conflicts.specs.AllQuotas.{quotas_of_category, quotas_of_value, value_quotas};
+ghost use Rattle.define_quotas.specs.LeastMisses.{quotas_of};
+ghost use Rattle.define_quotas.specs.AllQuotas.{quotas_of_category, quotas_of_value, value_quotas};
 
-use define_conflicts::{Counted, Quota, Side, WeightedQuota};
+use define_quotas::{Counted, Quota, Side, WeightedQuota};
 use pool_model::{Category, Pool};
 use std::alloc::{AllocError, Global};
 

@@ -10,7 +10,7 @@ use crate::bounds::Leaf;
 use crate::covers::Node;
 use crate::leaves::leaf_of;
 use crate::programs::add_misses;
-use define_conflicts::Counted;
+use define_quotas::Counted;
 use pool_model::{Panel, Pool};
 use prove_branching::{Found, search};
 use prove_limits::{Budget, Narrow, ProveStop, Span};

@@ -4,12 +4,12 @@ use Rattle.std.specs.List.{list_any}
 use Rattle.std.proofs.lemmas.Bool.{false≢true, ltb-true, ltb-false}
 use Rattle.std.proofs.lemmas.List.{get_or_default, get_or-take, length-take-le}
 use Rattle.std.proofs.lemmas.List.Folds.{list_any_at}
-use Rattle.define_conflicts.specs.contracts.QuotaPartialEq.TheImpl.{ghosts}
-use Rattle.define_conflicts.specs.declared.Counted.{Counted}
-use Rattle.define_conflicts.specs.declared.Counted.TheVariants.{Everybody, WithValue, OfHousehold}
-use Rattle.define_conflicts.specs.declared.Quota.{Quota}
-use Rattle.define_conflicts.specs.declared.Side.{Side}
-use Rattle.define_conflicts.specs.declared.Side.TheVariants.{AtLeast, AtMost}
+use Rattle.define_quotas.specs.contracts.QuotaPartialEq.TheImpl.{ghosts}
+use Rattle.define_quotas.specs.declared.Counted.{Counted}
+use Rattle.define_quotas.specs.declared.Counted.TheVariants.{Everybody, WithValue, OfHousehold}
+use Rattle.define_quotas.specs.declared.Quota.{Quota}
+use Rattle.define_quotas.specs.declared.Side.{Side}
+use Rattle.define_quotas.specs.declared.Side.TheVariants.{AtLeast, AtMost}
 
 -- a quota passes the test of being equal to itself
 pub equal : (quota : Quota) → ghosts.eq quota quota ≡ true

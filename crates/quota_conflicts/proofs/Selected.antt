@@ -6,7 +6,7 @@ use Rattle.std.proofs.lemmas.List.{length-map}
 use Rattle.define_proofs.specs.Leaves.{standings}
 use Rattle.define_pools.specs.Lists.{includes, is_increasing}
 use Rattle.define_pools.specs.Pool.{Pool, Volunteer, allows, keeps_standings}
-use Rattle.define_conflicts.specs.Quotas.{is_selection, keeps}
+use Rattle.define_quotas.specs.Quotas.{is_selection, keeps}
 
 pub keeps_same : (panel : List ℕ) (first : ℕ) (volunteers : List Volunteer) →
     list_all (λ (i, volunteer). allows volunteer.standing (includes panel i)) (enumerate_from first volunteers) ≡ keeps panel first (map (λ volunteer. volunteer.standing) volunteers)

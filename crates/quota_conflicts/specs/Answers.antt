@@ -1,6 +1,6 @@
 -- What `why` answers about a pool, and why it stops.
 use Rattle.std.specs.Prelude.{◌≡◌, IsTrue}
-use Rattle.define_conflicts.specs.Conflicts.{IsConflict}
+use Rattle.define_quotas.specs.Conflicts.{IsConflict}
 use Rattle.define_pools.specs.Pool.{Pool, is_quota_panel}
 use Rattle.prove_limits.specs.Budgets.{Left}
 use Rattle.prove_limits.specs.declared.stops.Limit.TheVariants.{Pivots, Nodes, Lottery}

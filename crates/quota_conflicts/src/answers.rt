@@ -1,7 +1,7 @@
 //! `why`: a quota panel of a pool, or quotas that can't be met together.
 
 ghost use Rattle.std.specs.Prelude.{IfErr, IfOk, IfSome};
-ghost use Rattle.define_conflicts.specs.Conflicts.{IsConflict};
+ghost use Rattle.define_quotas.specs.Conflicts.{IsConflict};
 ghost use Rattle.prove_limits.specs.Budgets.{SpendsOn};
 ghost use Rattle.quota_conflicts.specs.Answers.{IsExplanation, StopsSo};
 ghost use Rattle.quota_conflicts.specs.Searches.{IsSearch};
@@ -11,7 +11,7 @@ use crate::kept::{Kept, counted_by_number, quotas_of};
 use crate::lines::{Line, lines_of_tree, nodes_of_lines, used_bounds};
 use crate::searches::{Search, Tried};
 use crate::shrinking::shrunk;
-use define_conflicts::{Counted, Side};
+use define_quotas::{Counted, Side};
 use pool_model::{Panel, Pool, fits};
 use prove_limits::{Budget, Limit, ProveStop};
 use proof_model::TreeLine;

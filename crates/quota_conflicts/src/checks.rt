@@ -4,15 +4,15 @@
 ghost use Rattle.std.specs.Prelude.{◌≡◌, ◌≢◌, IfOk, IfSome};
 ghost use Rattle.std.specs.Bool.{OnTrue};
 ghost use Rattle.std.specs.List.{AllPairs, list_all};
-ghost use Rattle.define_conflicts.specs.Conflicts.{IsConflict};
-ghost use Rattle.define_conflicts.specs.Quotas.{is_quota_of as is_of};
+ghost use Rattle.define_quotas.specs.Conflicts.{IsConflict};
+ghost use Rattle.define_quotas.specs.Quotas.{is_quota_of as is_of};
 ghost use Rattle.quota_conflicts.specs.Shown.{IsShown};
 
 use crate::covers::{Node, covers, standings, weighted};
 use crate::misses::least_miss;
 use crate::needs::each_needed;
 use crate::quotas::is_quota_of;
-use define_conflicts::{Quota, conflict_leaves_no_panel};
+use define_quotas::{Quota, conflict_leaves_no_panel};
 use pool_model::{Panel, Pool};
 use std::alloc::{AllocError, Global};
 use std::marker::Model;
@@ -26,7 +26,7 @@ pub struct Conflict {
 }
 
 impl Model for Conflict {
-    ghost use Rattle.define_conflicts.specs.Quotas.{Conflict as Seen};
+    ghost use Rattle.define_quotas.specs.Quotas.{Conflict as Seen};
 
     ghost Value = { Seen };
 

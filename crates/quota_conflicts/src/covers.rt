@@ -3,11 +3,11 @@
 
 ghost use Rattle.std.specs.Bool.{OnTrue};
 ghost use Rattle.std.specs.Prelude.{◌≡◌, ◌<◌, length, slice_set, IfOk, IfSome, map};
-ghost use Rattle.define_conflicts.specs.LeastMisses.{quotas_of};
-ghost use Rattle.define_conflicts.specs.Quotas.{MissAt, MissBy};
+ghost use Rattle.define_quotas.specs.LeastMisses.{quotas_of};
+ghost use Rattle.define_quotas.specs.Quotas.{MissAt, MissBy};
 
 use crate::misses::least_miss;
-use define_conflicts::{Quota, WeightedQuota, both_parts_miss};
+use define_quotas::{Quota, WeightedQuota, both_parts_miss};
 use pool_model::{Pool, Standing, Volunteer};
 use std::alloc::{AllocError, Global};
 

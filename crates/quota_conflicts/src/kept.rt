@@ -2,7 +2,7 @@
 //! a proof's first stage: 0 the size, then the values, then the shared households. No contract promises that the bounds are a conflict:
 //! `checks` finds that out.
 
-use define_conflicts::{Counted, Quota, Side};
+use define_quotas::{Counted, Quota, Side};
 use pool_model::{Category, Pool, share_household};
 use std::alloc::{AllocError, Global};
 

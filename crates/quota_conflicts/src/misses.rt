@@ -3,11 +3,11 @@
 
 ghost use Rattle.std.specs.Prelude.{◌≡◌, ◌≤◌, ◌<◌, ◌-◌, ◌*◌, ◌/◌, ℕ, length, nat_le, IfSome, IsTrue};
 ghost use Rattle.std.specs.List.{list_all};
-ghost use Rattle.define_conflicts.specs.LeastMisses.{asked as asked_of, given as given_of, given_by as given_by_one, is_side as is_same_side, quotas_of, taken_by as taken_by_one, weighed_bound as weighed_bound_of, weighed_bounds as weighed_bounds_of, weights_for as weights_for_one};
-ghost use Rattle.define_conflicts.specs.Quotas.{MissAt};
+ghost use Rattle.define_quotas.specs.LeastMisses.{asked as asked_of, given as given_of, given_by as given_by_one, is_side as is_same_side, quotas_of, taken_by as taken_by_one, weighed_bound as weighed_bound_of, weighed_bounds as weighed_bounds_of, weights_for as weights_for_one};
+ghost use Rattle.define_quotas.specs.Quotas.{MissAt};
 
 use crate::quotas::{bound, counts};
-use define_conflicts::{Side, WeightedQuota, asking_more_misses};
+use define_quotas::{Side, WeightedQuota, asking_more_misses};
 use pool_model::{Pool, Standing};
 
 /// Returns a number of people by which each selection that keeps the standings misses the quotas at least: what is asked less what can be

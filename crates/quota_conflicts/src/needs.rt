@@ -4,11 +4,11 @@
 ghost use Rattle.std.specs.Bool.{OnTrue};
 ghost use Rattle.std.specs.Prelude.{◌≡◌, ◌<◌, ◌==◌, ◌||◌, IfOk, IsTrue, length};
 ghost use Rattle.std.specs.List.{remove};
-ghost use Rattle.define_conflicts.specs.Quotas.{EachNeeded, IsNeeded, is_everybody, is_selection as is_selection_of, meets as meets_of, names_size};
+ghost use Rattle.define_quotas.specs.Quotas.{EachNeeded, IsNeeded, is_everybody, is_selection as is_selection_of, meets as meets_of, names_size};
 
 use crate::quotas::meets;
 use crate::selections::is_selection;
-use define_conflicts::{Counted, Quota};
+use define_quotas::{Counted, Quota};
 use pool_model::{Panel, Pool};
 use std::alloc::{AllocError, Global};
 

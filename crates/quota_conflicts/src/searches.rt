@@ -7,7 +7,7 @@ ghost use Rattle.quota_conflicts.specs.Searches.{IsSearch};
 
 use crate::kept::{Kept, is_kept};
 use crate::lines::{Line, lines_of_steps};
-use define_conflicts::Side;
+use define_quotas::Side;
 use pool_model::{Panel, Pool};
 use prove_branching::{Found, prove_empty, search};
 use prove_limits::{Budget, Narrow, ProveStop, Span};

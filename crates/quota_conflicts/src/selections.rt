@@ -5,7 +5,7 @@ ghost use Rattle.std.specs.Prelude.{◌≡◌, length, nat_lt, IsTrue};
 ghost use Rattle.std.specs.List.{list_all};
 ghost use Rattle.define_pools.specs.Lists.{includes};
 ghost use Rattle.define_pools.specs.Pool.{allows, keeps_standings};
-ghost use Rattle.define_conflicts.specs.Quotas.{is_selection as is_selection_of};
+ghost use Rattle.define_quotas.specs.Quotas.{is_selection as is_selection_of};
 
 use pool_model::{Panel, Pool, Standing, Volunteer};
 

@@ -7,7 +7,7 @@ ghost use Rattle.quota_conflicts.specs.Searches.{IsSearch};
 use crate::kept::{Kept, SIZE, is_kept, without};
 use crate::lines::{Line, used_bounds};
 use crate::searches::{Search, Tried};
-use define_conflicts::Side;
+use define_quotas::Side;
 use pool_model::{Panel, Pool};
 use prove_limits::{Budget, ProveStop};
 use std::alloc::{AllocError, Global};

@@ -3,12 +3,12 @@
 ghost use Rattle.std.specs.Prelude.{◌≡◌, ◌<◌, ◌&&◌, ◌++◌, length, IfOk, OnOk};
 ghost use Rattle.std.specs.Fmt.{decimal};
 ghost use Rattle.define_pools.specs.Pool.{volunteer};
-ghost use Rattle.define_conflicts.specs.ConflictText.{available as available_of, is_available as is_available_one, is_seated as is_seated_one, conflict_text as words_of_conflict, counted_words, miss_line, need_line, quota_line, seated as seated_of, side_words};
-ghost use Rattle.define_conflicts.specs.Quotas.{counts as counts_of};
+ghost use Rattle.define_quotas.specs.ConflictText.{available as available_of, is_available as is_available_one, is_seated as is_seated_one, conflict_text as words_of_conflict, counted_words, miss_line, need_line, quota_line, seated as seated_of, side_words};
+ghost use Rattle.define_quotas.specs.Quotas.{counts as counts_of};
 
 use crate::checks::Conflict;
 use crate::quotas::{bound, counts};
-use define_conflicts::{Counted, Quota, Side};
+use define_quotas::{Counted, Quota, Side};
 use itoa::Buffer;
 use pool_model::{Pool, Standing};
 use std::alloc::{AllocError, Global};

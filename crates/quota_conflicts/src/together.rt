@@ -2,13 +2,13 @@
 
 ghost use Rattle.std.specs.Prelude.{◌≡◌, ◌<◌, ◌++◌, [], ◌∷◌, map, filter, length, count_by, IfOk, OnOk};
 ghost use Rattle.std.specs.List.{enumerate_from, flat_map};
-ghost use Rattle.define_conflicts.specs.AllQuotas.{all_quotas as all_of, all_together as together_of, both_bounds, household_quota, household_quotas, is_first_of_shared as is_first_of, quotas_of_category};
-ghost use Rattle.define_conflicts.specs.Conflicts.{IsConflict};
+ghost use Rattle.define_quotas.specs.AllQuotas.{all_quotas as all_of, all_together as together_of, both_bounds, household_quota, household_quotas, is_first_of_shared as is_first_of, quotas_of_category};
+ghost use Rattle.define_quotas.specs.Conflicts.{IsConflict};
 ghost use Rattle.define_pools.specs.Pool.{everybody, panels, share_household as share_of};
 
 use crate::checks::Conflict;
 use crate::quotas::is_quota_of;
-use define_conflicts::{Counted, Quota, Side, all_quotas_conflict};
+use define_quotas::{Counted, Quota, Side, all_quotas_conflict};
 use pool_model::{Category, Pool, share_household};
 use std::alloc::{AllocError, Global};
 

@@ -1,11 +1,11 @@
 use Rattle.std.proofs.Common.{◌≡◌, ℕ, ◌+◌, ◌≤◌, ◌<◌, List, [], ◌++◌, length, take, sym, ap, ◌∙◌, arith}
 use Rattle.std.specs.List.{enumerate_from, flat_map}
 use Rattle.std.proofs.lemmas.List.{append_assoc}
-use Rattle.define_conflicts.specs.declared.Quota.{Quota}
-use Rattle.define_conflicts.specs.LeastMisses.{quotas_of}
-use Rattle.define_conflicts.specs.AllQuotas.{quotas_of_value}
+use Rattle.define_quotas.specs.declared.Quota.{Quota}
+use Rattle.define_quotas.specs.LeastMisses.{quotas_of}
+use Rattle.define_quotas.specs.AllQuotas.{quotas_of_value}
 use Rattle.define_pools.specs.Pool.{BoundedValue}
-use Rattle.define_conflicts.proofs.Listed.{all_listed, one_more_list}
+use Rattle.define_quotas.proofs.Listed.{all_listed, one_more_list}
 use Rattle.loosening_by_proof.proofs.quotas.push_category.Goals as goal
 
 pub loop-value-preserved : goal.loop-value-preserved

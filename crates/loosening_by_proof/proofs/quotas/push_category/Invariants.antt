@@ -1,7 +1,7 @@
 use Rattle.std.proofs.Common.{◌≡◌, ◌++◌, take}
 use Rattle.std.specs.List.{enumerate_from, flat_map}
-use Rattle.define_conflicts.specs.LeastMisses.{quotas_of}
-use Rattle.define_conflicts.specs.AllQuotas.{quotas_of_value}
+use Rattle.define_quotas.specs.LeastMisses.{quotas_of}
+use Rattle.define_quotas.specs.AllQuotas.{quotas_of_value}
 use Rattle.loosening_by_proof.proofs.quotas.push_category.Given as goal
 
 -- the list has the quotas of the values read so far

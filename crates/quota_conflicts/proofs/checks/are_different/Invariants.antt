@@ -1,5 +1,5 @@
 use Rattle.std.proofs.Common.{◌≢◌, ◌<◌, ℕ, slice_index_or}
-use Rattle.define_conflicts.specs.declared.Quota.{Quota}
+use Rattle.define_quotas.specs.declared.Quota.{Quota}
 use Rattle.quota_conflicts.proofs.checks.are_different.Given as goal
 
 -- no quota before this place is there twice

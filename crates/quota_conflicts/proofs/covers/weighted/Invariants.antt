@@ -1,5 +1,5 @@
 use Rattle.std.proofs.Common.{◌≡◌, take}
-use Rattle.define_conflicts.specs.LeastMisses.{quotas_of}
+use Rattle.define_quotas.specs.LeastMisses.{quotas_of}
 use Rattle.quota_conflicts.proofs.covers.weighted.Given as goal
 
 -- `weighted` has the quotas read so far

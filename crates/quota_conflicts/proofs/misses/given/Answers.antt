@@ -1,8 +1,8 @@
 use Rattle.std.proofs.Common.{ℕ, ◌+◌, get_or, sym, ap₂, ◌∙◌}
 use Rattle.define_pools.specs.declared.Standing.{Standing}
 use Rattle.define_pools.specs.declared.Standing.TheVariants.{Open}
-use Rattle.define_conflicts.specs.declared.Side.TheVariants.{AtLeast, AtMost}
-use Rattle.define_conflicts.specs.LeastMisses.{given_by, weights_for}
+use Rattle.define_quotas.specs.declared.Side.TheVariants.{AtLeast, AtMost}
+use Rattle.define_quotas.specs.LeastMisses.{given_by, weights_for}
 use Rattle.quota_conflicts.proofs.Sums.{all_read, one_more, sum_returned}
 use Rattle.quota_conflicts.proofs.misses.given.Goals as goal
 

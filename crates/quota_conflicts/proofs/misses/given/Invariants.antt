@@ -1,7 +1,7 @@
 use Rattle.std.proofs.Common.{◌≡◌, take, sum_by}
 use Rattle.std.specs.List.{enumerate_from}
-use Rattle.define_conflicts.specs.declared.Side.TheVariants.{AtLeast, AtMost}
-use Rattle.define_conflicts.specs.LeastMisses.{given_by, weights_for}
+use Rattle.define_quotas.specs.declared.Side.TheVariants.{AtLeast, AtMost}
+use Rattle.define_quotas.specs.LeastMisses.{given_by, weights_for}
 use Rattle.quota_conflicts.proofs.misses.given.Given as goal
 
 -- `all` is the sum of what the volunteers read so far give (`given_by`)

@@ -5,9 +5,9 @@ use Rattle.std.proofs.lemmas.Bool.{and_from, le-leb, leb-true}
 use Rattle.std.proofs.lemmas.Grind.{common_steps}
 use Rattle.std.proofs.lemmas.List.Folds.{list_all_more}
 use Rattle.define_pools.proofs.Each.{list_all_implies, passes_at}
-use Rattle.define_conflicts.specs.declared.Counted.TheVariants.{Everybody}
-use Rattle.define_conflicts.specs.declared.Side.TheVariants.{AtLeast}
-use Rattle.define_conflicts.specs.declared.WeightedQuota.{WeightedQuota}
+use Rattle.define_quotas.specs.declared.Counted.TheVariants.{Everybody}
+use Rattle.define_quotas.specs.declared.Side.TheVariants.{AtLeast}
+use Rattle.define_quotas.specs.declared.WeightedQuota.{WeightedQuota}
 use Rattle.quota_conflicts.proofs.misses.greatest_weight.Goals as goal
 
 -- if the first `k` weights are at most `some`, and `some` and weight `k` are at most `more`, the first `k + 1` weights are at most `more`

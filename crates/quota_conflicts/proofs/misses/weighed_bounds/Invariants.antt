@@ -1,5 +1,5 @@
 use Rattle.std.proofs.Common.{◌≡◌, take}
-use Rattle.define_conflicts.specs.LeastMisses.{weighed_bounds}
+use Rattle.define_quotas.specs.LeastMisses.{weighed_bounds}
 use Rattle.quota_conflicts.proofs.misses.weighed_bounds.Given as goal
 
 -- `sum` is the sum of the bounds of the quotas read so far, each times its weight

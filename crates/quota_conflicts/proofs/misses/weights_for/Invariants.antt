@@ -1,5 +1,5 @@
 use Rattle.std.proofs.Common.{◌≡◌, take}
-use Rattle.define_conflicts.specs.LeastMisses.{weights_for}
+use Rattle.define_quotas.specs.LeastMisses.{weights_for}
 use Rattle.quota_conflicts.proofs.misses.weights_for.Given as goal
 
 -- `sum` is the sum of the weights of the quotas read so far that are of the side and count volunteer `i`

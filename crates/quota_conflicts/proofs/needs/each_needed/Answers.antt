@@ -1,6 +1,6 @@
 use Rattle.std.proofs.Common.{below_more, subst}
 use Rattle.std.specs.Bool.{OnTrue}
-use Rattle.define_conflicts.specs.Quotas.{IsNeeded}
+use Rattle.define_quotas.specs.Quotas.{IsNeeded}
 use Rattle.quota_conflicts.proofs.needs.each_needed.Goals as goal
 
 pub loop-place-preserved : goal.loop-place-preserved

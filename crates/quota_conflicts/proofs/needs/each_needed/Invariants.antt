@@ -1,5 +1,5 @@
 use Rattle.std.proofs.Common.{ℕ, ◌<◌}
-use Rattle.define_conflicts.specs.Quotas.{IsNeeded}
+use Rattle.define_quotas.specs.Quotas.{IsNeeded}
 use Rattle.quota_conflicts.proofs.needs.each_needed.Given as goal
 
 -- each quota before `place` is needed

@@ -1,5 +1,5 @@
 use Rattle.std.proofs.Common.{◌≡◌, take, count_by}
-use Rattle.define_conflicts.specs.Quotas.{counts}
+use Rattle.define_quotas.specs.Quotas.{counts}
 use Rattle.quota_conflicts.proofs.quotas.number_counted.Given as goal
 
 -- `number` is how many of the members read so far are counted

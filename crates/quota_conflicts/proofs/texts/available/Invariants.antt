@@ -1,8 +1,8 @@
 use Rattle.std.proofs.Common.{◌≡◌, ◌≤◌, ◌&&◌, count_by}
 use Rattle.std.specs.List.{range_with_len}
 use Rattle.define_pools.specs.Pool.{volunteer}
-use Rattle.define_conflicts.specs.ConflictText.{is_available}
-use Rattle.define_conflicts.specs.Quotas.{counts}
+use Rattle.define_quotas.specs.ConflictText.{is_available}
+use Rattle.define_quotas.specs.Quotas.{counts}
 use Rattle.quota_conflicts.proofs.texts.available.Given as goal
 
 -- `number` is how many of the first `i` volunteers are counted and aren't gone

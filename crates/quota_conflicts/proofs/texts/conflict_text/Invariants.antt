@@ -1,6 +1,6 @@
 use Rattle.std.proofs.Common.{◌≡◌, take}
 use Rattle.std.specs.List.{flat_map}
-use Rattle.define_conflicts.specs.ConflictText.{quota_line}
+use Rattle.define_quotas.specs.ConflictText.{quota_line}
 use Rattle.quota_conflicts.proofs.texts.conflict_text.Given as goal
 
 -- `text` has the lines of the quotas read so far

@@ -1,7 +1,7 @@
 use Rattle.std.proofs.Common.{◌≡◌, List, ℕ, [], ◌∷◌, ◌++◌, codes, sym, ap, ◌∙◌, append_assoc}
 use Rattle.std.specs.Fmt.{decimal}
 use Rattle.std.proofs.lemmas.Result.{on_ok_weaker}
-use Rattle.define_conflicts.specs.ConflictText.{miss_line}
+use Rattle.define_quotas.specs.ConflictText.{miss_line}
 use Rattle.quota_conflicts.proofs.Added.{added_if_ok}
 use Rattle.quota_conflicts.proofs.texts.push_miss.Goals as goal
 

@@ -1,8 +1,8 @@
 use Rattle.std.proofs.Common.{◌≡◌, List, ℕ, [], ◌∷◌, ◌++◌, codes, ap, ◌∙◌, append_assoc}
 use Rattle.std.specs.Fmt.{decimal}
 use Rattle.std.proofs.lemmas.Result.{on_ok_weaker}
-use Rattle.define_conflicts.specs.ConflictText.{available, counted_words, seated, side_words}
-use Rattle.define_conflicts.specs.Quotas.{bound}
+use Rattle.define_quotas.specs.ConflictText.{available, counted_words, seated, side_words}
+use Rattle.define_quotas.specs.Quotas.{bound}
 use Rattle.quota_conflicts.proofs.Added.{added_if_ok}
 use Rattle.quota_conflicts.proofs.texts.push_quota.Goals as goal
 

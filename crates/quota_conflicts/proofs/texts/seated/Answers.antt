@@ -1,7 +1,7 @@
 use Rattle.std.proofs.Common.{◌+◌, ℕ, ◌&&◌, sym, ap, ◌∙◌, arith}
 use Rattle.define_pools.specs.Pool.{volunteer}
-use Rattle.define_conflicts.specs.ConflictText.{is_seated}
-use Rattle.define_conflicts.specs.Quotas.{counts}
+use Rattle.define_quotas.specs.ConflictText.{is_seated}
+use Rattle.define_quotas.specs.Quotas.{counts}
 use Rattle.quota_conflicts.proofs.Counts.{counted_no, counted_yes}
 use Rattle.quota_conflicts.proofs.texts.seated.Goals as goal
 use Rattle.quota_conflicts.proofs.texts.seated.Goals.{then-is_counted_seated, else-is_counted_seated}

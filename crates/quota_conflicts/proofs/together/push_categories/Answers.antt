@@ -1,8 +1,8 @@
 use Rattle.std.proofs.Common.{◌≡◌, ◌≤◌, ◌<◌, ◌++◌, length, get_or, take, sym, ap, ◌∙◌, append_assoc}
 use Rattle.std.specs.List.{enumerate_from, flat_map}
 use Rattle.define_pools.specs.Pool.{Category}
-use Rattle.define_conflicts.specs.AllQuotas.{quotas_of_category}
-use Rattle.define_conflicts.proofs.Listed.{all_listed, one_more_list}
+use Rattle.define_quotas.specs.AllQuotas.{quotas_of_category}
+use Rattle.define_quotas.proofs.Listed.{all_listed, one_more_list}
 use Rattle.quota_conflicts.proofs.together.push_categories.Goals as goal
 
 pub loop-place-preserved : goal.loop-place-preserved

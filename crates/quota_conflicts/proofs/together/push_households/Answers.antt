@@ -3,7 +3,7 @@ use Rattle.std.specs.List.{range_with_len}
 use Rattle.std.proofs.lemmas.List.{map-append}
 use Rattle.std.proofs.lemmas.List.Elements.{filter-append}
 use Rattle.define_pools.proofs.Lists.{numbers_more}
-use Rattle.define_conflicts.specs.AllQuotas.{household_quota, is_first_of_shared}
+use Rattle.define_quotas.specs.AllQuotas.{household_quota, is_first_of_shared}
 use Rattle.quota_conflicts.proofs.together.push_households.Goals as goal
 
 pub loop-member-preserved : goal.loop-member-preserved

@@ -1,9 +1,9 @@
 use Rattle.std.proofs.Common.{ℕ, ◌≤◌, ◌<◌, List, [], ◌++◌, length, take, sym, ap, ◌∙◌, append_assoc, arith}
 use Rattle.std.specs.List.{enumerate_from, flat_map}
 use Rattle.define_pools.specs.Pool.{BoundedValue}
-use Rattle.define_conflicts.specs.declared.Quota.{Quota}
-use Rattle.define_conflicts.specs.AllQuotas.{quotas_of_value}
-use Rattle.define_conflicts.proofs.Listed.{all_listed, one_more_list}
+use Rattle.define_quotas.specs.declared.Quota.{Quota}
+use Rattle.define_quotas.specs.AllQuotas.{quotas_of_value}
+use Rattle.define_quotas.proofs.Listed.{all_listed, one_more_list}
 use Rattle.quota_conflicts.proofs.together.push_values.Goals as goal
 
 pub loop-value-preserved : goal.loop-value-preserved

@@ -1,6 +1,6 @@
 use Rattle.std.proofs.Common.{◌≡◌, ◌++◌, take}
 use Rattle.std.specs.List.{enumerate_from, flat_map}
-use Rattle.define_conflicts.specs.AllQuotas.{quotas_of_value}
+use Rattle.define_quotas.specs.AllQuotas.{quotas_of_value}
 use Rattle.quota_conflicts.proofs.together.push_values.Given as goal
 
 -- the list has the quotas of the values read so far

@@ -16,15 +16,15 @@ use Rattle.define_searches.specs.Classes.{shared_household}
 use Rattle.define_searches.specs.Compositions.{is_of_household}
 use Rattle.define_searches.proofs.Households.{households_kept, number_below, number_shares, share_back, share_number}
 use Rattle.define_proofs.specs.Leaves.{standings}
-use Rattle.define_conflicts.specs.declared.Counted.{Counted}
-use Rattle.define_conflicts.specs.declared.Counted.TheVariants.{Everybody, WithValue, OfHousehold}
-use Rattle.define_conflicts.specs.declared.Quota.{Quota}
-use Rattle.define_conflicts.specs.declared.Side.TheVariants.{AtLeast, AtMost}
-use Rattle.define_conflicts.specs.AllQuotas.{all_quotas, all_together, both_bounds, household_quota, is_first_of_shared, quotas_of_category, quotas_of_value}
-use Rattle.define_conflicts.specs.Conflicts.{IsConflict}
-use Rattle.define_conflicts.specs.Quotas.{MissBy, category_at, is_counted_of, is_quota_of, is_selection, keeps, miss, misses, value_at}
-use Rattle.define_conflicts.proofs.Asking.{Selected, selection_parts}
-use Rattle.define_conflicts.proofs.NoPanel.{no_panels}
+use Rattle.define_quotas.specs.declared.Counted.{Counted}
+use Rattle.define_quotas.specs.declared.Counted.TheVariants.{Everybody, WithValue, OfHousehold}
+use Rattle.define_quotas.specs.declared.Quota.{Quota}
+use Rattle.define_quotas.specs.declared.Side.TheVariants.{AtLeast, AtMost}
+use Rattle.define_quotas.specs.AllQuotas.{all_quotas, all_together, both_bounds, household_quota, is_first_of_shared, quotas_of_category, quotas_of_value}
+use Rattle.define_quotas.specs.Conflicts.{IsConflict}
+use Rattle.define_quotas.specs.Quotas.{MissBy, category_at, is_counted_of, is_quota_of, is_selection, keeps, miss, misses, value_at}
+use Rattle.define_quotas.proofs.Asking.{Selected, selection_parts}
+use Rattle.define_quotas.proofs.NoPanel.{no_panels}
 
 -- ---- each two elements of a list
 

@@ -3,11 +3,11 @@
 use Rattle.std.specs.Prelude.{ℕ, nat_le, Bool, false, ◌&&◌, List, [], ◌∷◌, ◌++◌, map, filter, count_by, None}
 use Rattle.std.specs.List.{enumerate_from, flat_map}
 use Rattle.define_pools.specs.Pool.{Category, Pool, everybody, share_household}
-use Rattle.define_conflicts.specs.declared.Counted.{Counted}
-use Rattle.define_conflicts.specs.declared.Counted.TheVariants.{Everybody, WithValue, OfHousehold}
-use Rattle.define_conflicts.specs.declared.Quota.{Quota}
-use Rattle.define_conflicts.specs.declared.Side.TheVariants.{AtLeast, AtMost}
-use Rattle.define_conflicts.specs.Quotas.{Conflict, is_counted_of}
+use Rattle.define_quotas.specs.declared.Counted.{Counted}
+use Rattle.define_quotas.specs.declared.Counted.TheVariants.{Everybody, WithValue, OfHousehold}
+use Rattle.define_quotas.specs.declared.Quota.{Quota}
+use Rattle.define_quotas.specs.declared.Side.TheVariants.{AtLeast, AtMost}
+use Rattle.define_quotas.specs.Quotas.{Conflict, is_counted_of}
 
 -- both bounds on the number of members whom a quota counts
 abbrev pub both_bounds : Counted → List Quota

@@ -4,12 +4,12 @@
 use Rattle.std.specs.Prelude.{ℕ, ◌==◌, if◌then◌else◌, Bool, false, ◌&&◌, List, map, None}
 use Rattle.std.specs.List.{enumerate_from, list_any}
 use Rattle.define_pools.specs.Pool.{BoundedValue, Category, Pool, Volunteer, share_household}
-use Rattle.define_conflicts.specs.declared.Counted.{Counted}
-use Rattle.define_conflicts.specs.declared.Counted.TheVariants.{Everybody, WithValue, OfHousehold}
-use Rattle.define_conflicts.specs.declared.Quota.{Quota}
-use Rattle.define_conflicts.specs.declared.Side.{Side}
-use Rattle.define_conflicts.specs.declared.Side.TheVariants.{AtLeast, AtMost}
-use Rattle.define_conflicts.specs.LeastMisses.{is_side}
+use Rattle.define_quotas.specs.declared.Counted.{Counted}
+use Rattle.define_quotas.specs.declared.Counted.TheVariants.{Everybody, WithValue, OfHousehold}
+use Rattle.define_quotas.specs.declared.Quota.{Quota}
+use Rattle.define_quotas.specs.declared.Side.{Side}
+use Rattle.define_quotas.specs.declared.Side.TheVariants.{AtLeast, AtMost}
+use Rattle.define_quotas.specs.LeastMisses.{is_side}
 
 -- the quota counts those who have the value at place `value` of the category at place `category`
 abbrev pub is_of_value : ℕ → ℕ → Counted → Bool

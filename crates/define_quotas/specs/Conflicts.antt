@@ -2,8 +2,8 @@
 use Rattle.std.specs.Prelude.{◌≡◌, ◌≢◌, ◌≤◌, [], IsTrue}
 use Rattle.std.specs.List.{AllPairs, list_all}
 use Rattle.define_pools.specs.Pool.{Pool, panels}
-use Rattle.define_conflicts.specs.OnlyQuotas.{only}
-use Rattle.define_conflicts.specs.Quotas.{Conflict, EachNeeded, MissBy, is_quota_of, known_miss}
+use Rattle.define_quotas.specs.OnlyQuotas.{only}
+use Rattle.define_quotas.specs.Quotas.{Conflict, EachNeeded, MissBy, is_quota_of, known_miss}
 
 pub record IsConflict (pool : Pool) (conflict : Conflict) : Type 0 where
   -- the quotas are the pool's: what each of them counts is there, and a household is somebody's

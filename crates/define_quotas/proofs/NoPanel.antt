@@ -14,14 +14,14 @@ use Rattle.define_pools.specs.declared.Standing.TheVariants.{Gone}
 use Rattle.define_pools.proofs.AllPanels.{Quota as Parts, quota_parts}
 use Rattle.define_searches.proofs.Households.{same_name}
 use Rattle.define_proofs.specs.Leaves.{standings}
-use Rattle.define_conflicts.specs.declared.Counted.{Counted}
-use Rattle.define_conflicts.specs.declared.Counted.TheVariants.{Everybody, WithValue, OfHousehold}
-use Rattle.define_conflicts.specs.declared.Quota.{Quota}
-use Rattle.define_conflicts.specs.declared.Side.{Side}
-use Rattle.define_conflicts.specs.declared.Side.TheVariants.{AtLeast, AtMost}
-use Rattle.define_conflicts.specs.LeastMisses.{is_side}
-use Rattle.define_conflicts.specs.OnlyQuotas.{has_household, has_value, is_in_household, is_of_value, only, only_category, only_value, only_volunteer}
-use Rattle.define_conflicts.specs.Quotas.{MissBy, bound_of, category_at, counts, is_counted_of, is_quota_of, is_selection, keeps, miss, missed, misses, value_at}
+use Rattle.define_quotas.specs.declared.Counted.{Counted}
+use Rattle.define_quotas.specs.declared.Counted.TheVariants.{Everybody, WithValue, OfHousehold}
+use Rattle.define_quotas.specs.declared.Quota.{Quota}
+use Rattle.define_quotas.specs.declared.Side.{Side}
+use Rattle.define_quotas.specs.declared.Side.TheVariants.{AtLeast, AtMost}
+use Rattle.define_quotas.specs.LeastMisses.{is_side}
+use Rattle.define_quotas.specs.OnlyQuotas.{has_household, has_value, is_in_household, is_of_value, only, only_category, only_value, only_volunteer}
+use Rattle.define_quotas.specs.Quotas.{MissBy, bound_of, category_at, counts, is_counted_of, is_quota_of, is_selection, keeps, miss, missed, misses, value_at}
 
 -- ---- numbers of elements that pass a test
 

@@ -1,10 +1,10 @@
 -- A small conflict on which the definitions compute: two seats for a woman and a man of one household.
 use Rattle.std.specs.Prelude.{ℕ, List, [], ◌∷◌, ◌++◌, true, codes, Some}
-use Rattle.define_conflicts.specs.declared.Counted.TheVariants.{Everybody, OfHousehold}
-use Rattle.define_conflicts.specs.declared.Side.TheVariants.{AtLeast, AtMost}
-use Rattle.define_conflicts.specs.declared.WeightedQuota.{WeightedQuota}
-use Rattle.define_conflicts.specs.LeastMisses.{quotas_of}
-use Rattle.define_conflicts.specs.Quotas.{Conflict}
+use Rattle.define_quotas.specs.declared.Counted.TheVariants.{Everybody, OfHousehold}
+use Rattle.define_quotas.specs.declared.Side.TheVariants.{AtLeast, AtMost}
+use Rattle.define_quotas.specs.declared.WeightedQuota.{WeightedQuota}
+use Rattle.define_quotas.specs.LeastMisses.{quotas_of}
+use Rattle.define_quotas.specs.Quotas.{Conflict}
 
 -- two quotas with the weight 1: at least the size, and at most one member of the household
 abbrev pub couple_weighted : List WeightedQuota

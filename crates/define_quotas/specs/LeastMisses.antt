@@ -6,11 +6,11 @@ use Rattle.std.specs.List.{enumerate_from}
 use Rattle.define_pools.specs.declared.Standing.{Standing}
 use Rattle.define_pools.specs.declared.Standing.TheVariants.{Open, Seated, Gone}
 use Rattle.define_pools.specs.Pool.{Pool}
-use Rattle.define_conflicts.specs.declared.Quota.{Quota}
-use Rattle.define_conflicts.specs.declared.Side.{Side}
-use Rattle.define_conflicts.specs.declared.Side.TheVariants.{AtLeast, AtMost}
-use Rattle.define_conflicts.specs.declared.WeightedQuota.{WeightedQuota}
-use Rattle.define_conflicts.specs.Quotas.{bound, counts, miss}
+use Rattle.define_quotas.specs.declared.Quota.{Quota}
+use Rattle.define_quotas.specs.declared.Side.{Side}
+use Rattle.define_quotas.specs.declared.Side.TheVariants.{AtLeast, AtMost}
+use Rattle.define_quotas.specs.declared.WeightedQuota.{WeightedQuota}
+use Rattle.define_quotas.specs.Quotas.{bound, counts, miss}
 
 -- the quotas, without their weights
 abbrev pub quotas_of : List WeightedQuota → List Quota

@@ -11,11 +11,11 @@ use Rattle.define_pools.specs.declared.Standing.TheVariants.{Open, Seated, Gone}
 use Rattle.define_pools.specs.Lists.{includes, is_increasing}
 use Rattle.define_pools.specs.Pool.{Pool, allows}
 use Rattle.define_pools.proofs.Weights.{total_panel}
-use Rattle.define_conflicts.specs.declared.Side.{Side}
-use Rattle.define_conflicts.specs.declared.Side.TheVariants.{AtLeast, AtMost}
-use Rattle.define_conflicts.specs.declared.WeightedQuota.{WeightedQuota}
-use Rattle.define_conflicts.specs.LeastMisses.{asked, given, given_by, is_side, quotas_of, taken_by, weighed_bound, weighed_bounds, weighed_misses, weight_for, weights_for}
-use Rattle.define_conflicts.specs.Quotas.{MissAt, bound, counts, is_selection_at, keeps, miss, missed, misses}
+use Rattle.define_quotas.specs.declared.Side.{Side}
+use Rattle.define_quotas.specs.declared.Side.TheVariants.{AtLeast, AtMost}
+use Rattle.define_quotas.specs.declared.WeightedQuota.{WeightedQuota}
+use Rattle.define_quotas.specs.LeastMisses.{asked, given, given_by, is_side, quotas_of, taken_by, weighed_bound, weighed_bounds, weighed_misses, weight_for, weights_for}
+use Rattle.define_quotas.specs.Quotas.{MissAt, bound, counts, is_selection_at, keeps, miss, missed, misses}
 
 -- a double sum is the same whether it goes over `xs` or over `ys` first
 exchanged : {X Y : Type 0} (f : X → Y → ℕ) (xs : List X) (ys : List Y) → total (λ x. total (f x) ys) xs ≡ total (λ y. total (λ x. f x y) xs) ys

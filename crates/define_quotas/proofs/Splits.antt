@@ -7,9 +7,9 @@ use Rattle.define_pools.specs.declared.Standing.{Standing}
 use Rattle.define_pools.specs.declared.Standing.TheVariants.{Seated, Gone}
 use Rattle.define_pools.specs.Lists.{includes, is_increasing}
 use Rattle.define_pools.specs.Pool.{Pool, allows}
-use Rattle.define_conflicts.specs.declared.Quota.{Quota}
-use Rattle.define_conflicts.specs.Quotas.{MissAt, is_selection_at, keeps, misses}
-use Rattle.define_conflicts.proofs.Asking.{selection_parts}
+use Rattle.define_quotas.specs.declared.Quota.{Quota}
+use Rattle.define_quotas.specs.Quotas.{MissAt, is_selection_at, keeps, misses}
+use Rattle.define_quotas.proofs.Asking.{selection_parts}
 
 module _ (selection : List ℕ) where
   -- if the selection keeps `all`, and keeps `standing` for volunteer `first + i`, it keeps `all` with this standing in place `i`

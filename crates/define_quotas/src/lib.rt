@@ -13,13 +13,13 @@ ghost use Rattle.define_pools.specs.declared.Standing.TheVariants.{Gone, Seated}
 ghost use Rattle.define_pools.specs.Pool.{Pool, panels};
 ghost use Rattle.define_pools.specs.WorkedExamples.{couple};
 ghost use Rattle.define_proofs.specs.Leaves.{standings};
-ghost use Rattle.define_conflicts.specs.AllQuotas.{all_together};
-ghost use Rattle.define_conflicts.specs.Conflicts.{IsConflict};
-ghost use Rattle.define_conflicts.specs.ConflictText.{conflict_text};
-ghost use Rattle.define_conflicts.specs.LeastMisses.{asked, given, quotas_of};
-ghost use Rattle.define_conflicts.specs.OnlyQuotas.{only};
-ghost use Rattle.define_conflicts.specs.Quotas.{MissAt, MissBy, is_quota_of, meets};
-ghost use Rattle.define_conflicts.specs.WorkedConflicts.{couple_conflict, couple_text, couple_weighted};
+ghost use Rattle.define_quotas.specs.AllQuotas.{all_together};
+ghost use Rattle.define_quotas.specs.Conflicts.{IsConflict};
+ghost use Rattle.define_quotas.specs.ConflictText.{conflict_text};
+ghost use Rattle.define_quotas.specs.LeastMisses.{asked, given, quotas_of};
+ghost use Rattle.define_quotas.specs.OnlyQuotas.{only};
+ghost use Rattle.define_quotas.specs.Quotas.{MissAt, MissBy, is_quota_of, meets};
+ghost use Rattle.define_quotas.specs.WorkedConflicts.{couple_conflict, couple_text, couple_weighted};
 
 /// Whom a quota counts.
 #[derive(Clone, Copy, Debug, PartialEq, Eq)]

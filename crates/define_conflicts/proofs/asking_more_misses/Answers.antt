@@ -1,5 +1,0 @@
-use Rattle.define_conflicts.proofs.Asking.{asking_more}
-use Rattle.define_conflicts.proofs.asking_more_misses.Goals as goal
-
-pub returns : goal.returns
-returns c pool weighted all greatest misses = asking_more pool weighted all greatest misses
