@@ -3,10 +3,10 @@ use Rattle.std.proofs.Common.{◌≡◌, ℕ, List, [], ◌∷◌, Option, Some,
 use Rattle.std.specs.Prelude.{option_map}
 use Rattle.std.specs.List.{AllByRecursion}
 use Rattle.define_pools.proofs.Each.{each_filter_passes}
-use Rattle.define_loosenings.specs.Costs.{cheapest_team}
-use Rattle.define_loosenings.specs.Loosenings.{IsCheapest, IsLeast, Loosening, least_loosening, loosening_for}
-use Rattle.define_loosenings.specs.Teams.{is_team}
-use Rattle.define_loosenings.proofs.Freed.{team_of_panel}
+use Rattle.define_quotas.specs.Costs.{cheapest_team}
+use Rattle.define_quotas.specs.Loosenings.{IsCheapest, IsLeast, Loosening, least_loosening, loosening_for}
+use Rattle.define_quotas.specs.Teams.{is_team}
+use Rattle.define_quotas.proofs.Freed.{team_of_panel}
 use Rattle.define_pools.specs.Pool.{Pool, is_quota_panel, panels}
 use Rattle.define_searches.specs.Classes.{are_alike, classes_of}
 use Rattle.define_searches.specs.Compositions.{composition_of, first_panel}

@@ -1,6 +1,6 @@
 -- `loosen` has at most one right answer: that the search needs more visits than its budget, or a least loosening, or that there is no team.
 use Rattle.std.proofs.Common.{◌≡◌, ◌∙◌, ℕ, Some, ap, sym, arith, rules}
-use Rattle.define_loosenings.specs.Loosenings.{Loosening, least_loosening}
+use Rattle.define_quotas.specs.Loosenings.{Loosening, least_loosening}
 use Rattle.define_pools.specs.Pool.{Pool}
 use Rattle.command_shell.specs.declared.status.Printed.TheVariants.{Done, NoPanel}
 use Rattle.command_shell.specs.declared.status.Cause.TheVariants.{Spent}

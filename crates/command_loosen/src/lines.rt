@@ -3,7 +3,7 @@
 ghost use Rattle.std.specs.Prelude.{◌≡◌, ◌++◌, ◌∷◌, [], length, map, nat_lt, None, IfOk, IsTrue, OnOk};
 ghost use Rattle.std.specs.List.{flat_map, list_all, zip};
 ghost use Rattle.define_lines.specs.Lines.{tabbed, text_of};
-ghost use Rattle.define_loosenings.specs.Teams.{is_team};
+ghost use Rattle.define_quotas.specs.Teams.{is_team};
 ghost use Rattle.define_pools.specs.Pool.{volunteer};
 ghost use Rattle.command_meanings.specs.Lines.{nodes_spent_line as words_of_nodes_spent, panel_line};
 ghost use Rattle.command_meanings.specs.LooseningLines.{bound_line, is_moved as has_moved, loosening_text as words_of_loosening, moved_line, moved_lines, total_line};

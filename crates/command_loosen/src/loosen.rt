@@ -7,7 +7,7 @@ ghost use Rattle.command_meanings.specs.Loosening.{LoosenMeans};
 
 use crate::lines::{loosening_text, nodes_spent_line};
 use command_shell::{Answer, Cause, Command, Meaning, Printed, no_panel};
-use define_loosenings::{cheapest_is_least, least_loosening_is_least};
+use define_quotas::loosenings::{cheapest_is_least, least_loosening_is_least};
 use define_searches::alike_make_classes;
 use pool_model::Pool;
 use quota_loosen::{LoosenStop, loosen};

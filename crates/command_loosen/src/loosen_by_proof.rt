@@ -1,8 +1,8 @@
 //! The command `loosen-by-proof`.
 
 ghost use Rattle.std.specs.Prelude.{◌≡◌, ◌≢◌, ℕ, IfOk, IsTrue, List};
-ghost use Rattle.define_loosenings.specs.Loosenings.{IsLeast, Loosening};
-ghost use Rattle.define_loosenings.specs.Teams.{is_team};
+ghost use Rattle.define_quotas.specs.Loosenings.{IsLeast, Loosening};
+ghost use Rattle.define_quotas.specs.Teams.{is_team};
 ghost use Rattle.define_pools.specs.Pool.{Pool as SeenPool};
 ghost use Rattle.command_meanings.specs.Panel.{stated_visits};
 ghost use Rattle.command_shell.specs.Answers.{IsRight, Saying, saying, status_of};

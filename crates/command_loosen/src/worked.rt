@@ -2,14 +2,14 @@
 //! rest on.
 
 ghost use Rattle.std.specs.Prelude.{codes};
-ghost use Rattle.define_loosenings.specs.WorkedLoosenings.{one_woman};
+ghost use Rattle.define_quotas.specs.WorkedLoosenings.{one_woman};
 ghost use Rattle.define_pools.specs.WorkedExamples.{couple, four, nobody};
 ghost use Rattle.command_shell.specs.declared.status.Printed.TheVariants.{Done, NoPanel};
 ghost use Rattle.command_shell.specs.declared.status.Cause.TheVariants.{Spent};
 ghost use Rattle.command_shell.specs.Answers.{IsRight, Prints, Stops};
 ghost use Rattle.command_meanings.specs.Loosening.{LoosenMeans};
 
-use define_loosenings::{cheapest_is_least, least_loosening_is_least};
+use define_quotas::loosenings::{cheapest_is_least, least_loosening_is_least};
 use define_searches::alike_make_classes;
 
 /// Two women are needed and there is one: the lower bound is moved by 1, after three visits.

@@ -1,12 +1,12 @@
 -- What `loosen-by-proof` answers: a least loosening of a pool's quotas, found by integer programs and shown to be least by sums, or else by
--- the search of `loosen`. Builds on the loosenings of `define_loosenings`, on LooseningLines and on Loosening.
+-- the search of `loosen`. Builds on the loosenings of `define_quotas`, on LooseningLines and on Loosening.
 --
 -- The engine that is asked first, within the budget of the words, has no definition. So the meaning doesn't say which of several least
 -- loosenings is told. If the engine has no answer within this budget, the search of `loosen` decides. So status 5 comes only if that search
 -- is spent. If `loosen` finds a loosening too, the totals are equal, since both loosenings are least.
 use Rattle.std.specs.Prelude.{◌≡◌, ℕ, List, [], IsTrue}
-use Rattle.define_loosenings.specs.Loosenings.{IsLeast, Loosening}
-use Rattle.define_loosenings.specs.Teams.{is_team}
+use Rattle.define_quotas.specs.Loosenings.{IsLeast, Loosening}
+use Rattle.define_quotas.specs.Teams.{is_team}
 use Rattle.define_pools.specs.Pool.{Pool, panels}
 use Rattle.command_shell.specs.Answers.{RightAnswers, no_answer}
 use Rattle.command_shell.specs.Lines.{no_panel_line}

@@ -1,9 +1,9 @@
 -- What `loosen` answers: the least loosening of a pool's quotas, found by a search of at most `nodes` visits. Builds on the loosenings of
--- `define_loosenings` and LooseningLines.
+-- `define_quotas` and LooseningLines.
 use Rattle.std.specs.Prelude.{◌≡◌, ℕ, ◌≤◌, ◌<◌, List, [], Some, None, IsTrue}
-use Rattle.define_loosenings.specs.CostSearch.{cheapest_search}
-use Rattle.define_loosenings.specs.Loosenings.{IsCheapest, IsLeast, Loosening, least_loosening}
-use Rattle.define_loosenings.specs.Teams.{is_team}
+use Rattle.define_quotas.specs.CostSearch.{cheapest_search}
+use Rattle.define_quotas.specs.Loosenings.{IsCheapest, IsLeast, Loosening, least_loosening}
+use Rattle.define_quotas.specs.Teams.{is_team}
 use Rattle.define_pools.specs.Pool.{Pool, panels}
 use Rattle.define_searches.specs.Classes.{are_alike, classes_of}
 use Rattle.define_searches.specs.Compositions.{composition_of}

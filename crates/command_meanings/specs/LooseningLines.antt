@@ -1,10 +1,10 @@
 -- What `loosen` prints about a loosening: how far bounds are moved in all, the values whose bounds are moved, and the panel. Builds on the
--- loosenings of `define_loosenings` and the lines of commands.
+-- loosenings of `define_quotas` and the lines of commands.
 use Rattle.std.specs.Prelude.{ℕ, ◌==◌, if◌then◌else◌, Bool, not, ◌||◌, List, [], ◌∷◌, ◌++◌, codes}
 use Rattle.std.specs.Fmt.{decimal}
 use Rattle.std.specs.List.{flat_map, zip}
 use Rattle.define_lines.specs.Lines.{line_of, text_of}
-use Rattle.define_loosenings.specs.Loosenings.{Loosening}
+use Rattle.define_quotas.specs.Loosenings.{Loosening}
 use Rattle.define_pools.specs.Pool.{BoundedValue, Category, Pool}
 use Rattle.command_meanings.specs.Lines.{panel_line}
 

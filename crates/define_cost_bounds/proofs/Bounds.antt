@@ -22,10 +22,10 @@ use Rattle.define_quotas.specs.Quotas.{bound_of, counts, is_selection_at, miss, 
 use Rattle.define_quotas.proofs.Asking.{asked_or_missed, few_misses}
 use Rattle.define_quotas.proofs.NoPanel.{own_household_met, own_selected, own_size_met}
 use Rattle.define_quotas.proofs.Splits.{selection_set}
-use Rattle.define_loosenings.specs.Loosenings.{IsLeast, Loosening, loosening_for}
-use Rattle.define_loosenings.specs.Teams.{is_team, loosened, team_cost}
-use Rattle.define_loosenings.proofs.Least.{has_panels, least_is}
-use Rattle.define_loosenings.proofs.MovedBounds.{loosened_fits}
+use Rattle.define_quotas.specs.Loosenings.{IsLeast, Loosening, loosening_for}
+use Rattle.define_quotas.specs.Teams.{is_team, loosened, team_cost}
+use Rattle.define_quotas.proofs.Least.{has_panels, least_is}
+use Rattle.define_quotas.proofs.MovedBounds.{loosened_fits}
 use Rattle.define_quotas.specs.AllQuotas.{value_quotas}
 use Rattle.define_cost_bounds.specs.CostBounds.{CostsAt, IsAtLeast, is_met_by_teams}
 use Rattle.define_cost_bounds.proofs.Costs.{misses_are_cost, total-append}

@@ -5,7 +5,7 @@ use Rattle.std.specs.List.{AllByRecursion, enumerate_from, flat_map}
 use Rattle.define_pools.proofs.Sums.{sum_by-is-total, total, total_eq}
 use Rattle.define_pools.specs.Pool.{BoundedValue, Category, Pool, members_with}
 use Rattle.define_quotas.specs.Quotas.{category_at, miss, misses, value_at}
-use Rattle.define_loosenings.specs.Teams.{missed_by, team_cost}
+use Rattle.define_quotas.specs.Teams.{missed_by, team_cost}
 use Rattle.define_quotas.specs.AllQuotas.{quotas_of_category, quotas_of_value, value_quotas}
 
 -- what holds of the element at each place holds of each numbered element

@@ -1,9 +1,9 @@
 -- What each team costs at least. A team costs the number of people by which it misses the quotas of all values (`value_quotas` of
--- `define_quotas`) in all. Builds on the teams of `define_loosenings` and the quotas of `define_quotas`. `loosening_by_proof` shows by it that a loosening is least.
+-- `define_quotas`) in all. Builds on the teams of `define_quotas` and the quotas of `define_quotas`. `loosening_by_proof` shows by it that a loosening is least.
 use Rattle.std.specs.Prelude.{ℕ, ◌≤◌, Bool, true, false, IsTrue, List, Option, Some, None}
 use Rattle.define_pools.specs.declared.Standing.{Standing}
 use Rattle.define_pools.specs.Pool.{Pool}
-use Rattle.define_loosenings.specs.Teams.{is_team, team_cost}
+use Rattle.define_quotas.specs.Teams.{is_team, team_cost}
 use Rattle.define_quotas.specs.declared.Counted.{Counted}
 use Rattle.define_quotas.specs.declared.Counted.TheVariants.{Everybody, WithValue, OfHousehold}
 use Rattle.define_quotas.specs.Quotas.{is_selection_at}

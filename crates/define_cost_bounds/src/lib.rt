@@ -1,5 +1,5 @@
 //! Lower bounds on what teams cost, by weights of quotas and by splits on volunteers. By these bounds, a team that any search found can be
-//! shown to be a cheapest one, and the loosening for this team to be least. The definitions are in `specs/`. Stands on `define_loosenings`
+//! shown to be a cheapest one, and the loosening for this team to be least. The definitions are in `specs/`. Stands on `define_quotas`
 //! (teams and loosenings) and `define_quotas` (quotas, what they ask for and what can be given). Used by `loosening_by_proof`, which
 //! searches, and the meaning of `loosen-by-proof`.
 //!
@@ -16,8 +16,8 @@ ghost use Rattle.define_quotas.specs.declared.WeightedQuota.{WeightedQuota};
 ghost use Rattle.define_quotas.specs.LeastMisses.{asked, given, quotas_of};
 ghost use Rattle.define_quotas.specs.AllQuotas.{value_quotas};
 ghost use Rattle.define_cost_bounds.specs.CostBounds.{CostsAt, is_met_by_teams};
-ghost use Rattle.define_loosenings.specs.Loosenings.{IsLeast, Loosening, loosening_for};
-ghost use Rattle.define_loosenings.specs.Teams.{is_team, team_cost};
+ghost use Rattle.define_quotas.specs.Loosenings.{IsLeast, Loosening, loosening_for};
+ghost use Rattle.define_quotas.specs.Teams.{is_team, team_cost};
 
 /// Take teams that keep the standings `all`; the quotas of all values, with weights of at most `greatest`; and further quotas that each
 /// team meets. If together the quotas ask for more than can be given, by more than `greatest` times `cost`, each of these teams costs at

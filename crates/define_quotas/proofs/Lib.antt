@@ -3,3 +3,9 @@ pub mod Splits
 pub mod NoPanel
 pub mod AllTogether
 pub mod Listed
+pub mod Keeping
+pub mod TeamSearch
+pub mod Freed
+pub mod Cheapest
+pub mod MovedBounds
+pub mod Least

@@ -5,3 +5,8 @@ pub mod Conflicts
 pub mod ConflictText
 pub mod WorkedConflicts
 pub mod AllQuotas
+pub mod Teams
+pub mod Costs
+pub mod CostSearch
+pub mod Loosenings
+pub mod WorkedLoosenings

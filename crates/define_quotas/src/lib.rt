@@ -6,6 +6,8 @@
 //! `conflict_leaves_no_panel`.
 #![tactic(auto)]
 
+pub mod loosenings;
+
 ghost use Rattle.std.specs.Prelude.{◌≡◌, ◌<◌, ◌≤◌, ◌+◌, ◌*◌, [], ◌∷◌, ℕ, drop, take, true, length, nat_le, IsTrue, List, slice_set};
 ghost use Rattle.std.specs.List.{list_all};
 ghost use Rattle.define_pools.specs.declared.Standing.{Standing as SeenStanding};

@@ -1,5 +1,5 @@
 -- What makes a composition the best one. Builds on Classes, Compositions and the rows of `define_rows`. The law `price_is_best` uses it,
--- and so do proofs of `define_checks` and `define_runs`; `define_loosenings` uses the order of counts.
+-- and so do proofs of `define_checks` and `define_runs`; `define_quotas` uses the order of counts.
 use Rattle.std.specs.Prelude.{ℕ, ◌==◌, nat_lt, Bool, false, ◌&&◌, ◌||◌, IsTrue, List, [], ◌∷◌, Contains, int_lt, int_le}
 use Rattle.define_rows.specs.Row.{Row}
 use Rattle.define_searches.specs.Classes.{Classes}

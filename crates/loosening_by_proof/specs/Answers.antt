@@ -1,7 +1,7 @@
 -- What a search for a least loosening answers about a pool.
 use Rattle.std.specs.Prelude.{◌≡◌, ℕ, List, Option, Some, None, IsTrue}
-use Rattle.define_loosenings.specs.Loosenings.{IsLeast, Loosening, loosening_for}
-use Rattle.define_loosenings.specs.Teams.{is_team}
+use Rattle.define_quotas.specs.Loosenings.{IsLeast, Loosening, loosening_for}
+use Rattle.define_quotas.specs.Teams.{is_team}
 use Rattle.define_pools.specs.Pool.{Pool}
 
 -- the loosening is `loosening_for` a team, and it is least

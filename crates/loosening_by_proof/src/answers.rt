@@ -4,7 +4,7 @@ ghost use Rattle.std.specs.Bool.{OnTrue};
 ghost use Rattle.std.specs.Prelude.{◌≡◌, Some, IfErr, IfOk, IsTrue};
 ghost use Rattle.define_proofs.specs.Leaves.{standings as standings_of};
 ghost use Rattle.define_cost_bounds.specs.CostBounds.{CostsAt};
-ghost use Rattle.define_loosenings.specs.Teams.{is_team as is_team_of, team_cost as team_cost_of};
+ghost use Rattle.define_quotas.specs.Teams.{is_team as is_team_of, team_cost as team_cost_of};
 ghost use Rattle.loosening_by_proof.specs.Answers.{IsLeastForTeam, IsLoosening};
 ghost use Rattle.loosening_by_proof.specs.Searches.{IsSearch};
 ghost use Rattle.prove_limits.specs.Budgets.{SpendsOn};

@@ -3,7 +3,7 @@
 ghost use Rattle.std.specs.Prelude.{◌≡◌, IsTrue, nat_lt, count_by, length, sum_by, IfSome};
 ghost use Rattle.std.specs.List.{list_all, enumerate_from};
 ghost use Rattle.define_pools.specs.Pool.{keeps_households, members_with, share_household as share};
-ghost use Rattle.define_loosenings.specs.Teams.{is_team as is_team_of, missed_by as missed_by_number, team_cost as team_cost_of};
+ghost use Rattle.define_quotas.specs.Teams.{is_team as is_team_of, missed_by as missed_by_number, team_cost as team_cost_of};
 
 use pool_model::{BoundedValue, Category, Panel, Pool, Volunteer, share_household};
 use quota_conflicts::{are_below, keep_standings};

@@ -11,8 +11,8 @@ use Rattle.define_searches.specs.Fronts.{later_than, most_given, size_reachable,
 use Rattle.define_searches.specs.Front.{FrontTally, Tracks}
 use Rattle.define_searches.specs.Tallies.{cell}
 use Rattle.define_searches.proofs.Tracking.{few_places, most_of_none}
-use Rattle.define_loosenings.specs.Costs.{cost, sure_cost, surely_missed}
-use Rattle.define_loosenings.specs.Teams.{missed_by}
+use Rattle.define_quotas.specs.Costs.{cost, sure_cost, surely_missed}
+use Rattle.define_quotas.specs.Teams.{missed_by}
 use Rattle.quota_loosen.specs.Sums.{missed_in, missed_in_all}
 
 reach_equal : (size a b c d : ℕ) → a ≡ b → c ≡ d → (leb a size && leb size (a + c)) ≡ (leb b size && leb size (b + d))

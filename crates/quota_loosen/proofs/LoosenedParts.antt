@@ -2,7 +2,7 @@
 use Rattle.std.proofs.Common.{◌≡◌, ℕ, zero, suc, ◌+◌, ◌≤◌, ◌<◌, List, [], ◌∷◌, map, length, get_or, take, max, min, refl, sym, ap, ◌∙◌, arith, subst}
 use Rattle.std.specs.List.{enumerate_from}
 use Rattle.define_pools.specs.Pool.{BoundedValue, Category, Pool, Volunteer, members_with}
-use Rattle.define_loosenings.specs.Teams.{loosened, loosened_category, loosened_value}
+use Rattle.define_quotas.specs.Teams.{loosened, loosened_category, loosened_value}
 
 as_many : {X Y : Type 0} (f : ℕ × X → Y) (first : ℕ) (xs : List X) → length (map f (enumerate_from first xs)) ≡ length xs
 as_many f first [] = refl

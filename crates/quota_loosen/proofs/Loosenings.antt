@@ -1,13 +1,13 @@
 -- A pool's least loosening, from the cheapest counts that a search keeps.
 use Rattle.std.proofs.Common.{◌≡◌, ℕ, true, List, Option, Some, None, refl, sym, ap, ◌∙◌, subst}
 use Rattle.std.specs.Prelude.{option_map}
-use Rattle.define_loosenings.specs.Costs.{cheapest_team, cost}
-use Rattle.define_loosenings.specs.CostSearch.{cheapest_search}
-use Rattle.define_loosenings.specs.Loosenings.{Loosening, least_loosening, loosening_for}
-use Rattle.define_loosenings.specs.Teams.{is_team, loosened, team_cost}
-use Rattle.define_loosenings.proofs.Freed.{cost_same}
-use Rattle.define_loosenings.proofs.Least.{cheapest_is}
-use Rattle.define_loosenings.proofs.TeamSearch.{search_keeps_cheapest}
+use Rattle.define_quotas.specs.Costs.{cheapest_team, cost}
+use Rattle.define_quotas.specs.CostSearch.{cheapest_search}
+use Rattle.define_quotas.specs.Loosenings.{Loosening, least_loosening, loosening_for}
+use Rattle.define_quotas.specs.Teams.{is_team, loosened, team_cost}
+use Rattle.define_quotas.proofs.Freed.{cost_same}
+use Rattle.define_quotas.proofs.Least.{cheapest_is}
+use Rattle.define_quotas.proofs.TeamSearch.{search_keeps_cheapest}
 use Rattle.define_pools.specs.Pool.{Pool}
 use Rattle.define_searches.specs.Classes.{Classes, are_alike, classes_of}
 use Rattle.define_searches.specs.Compositions.{first_panel}

@@ -3,8 +3,8 @@ use Rattle.std.proofs.Common.{◌≡◌, ℕ, zero, suc, ◌+◌, ◌-◌, ◌�
 use Rattle.std.specs.Prelude.{IsErr}
 use Rattle.std.proofs.lemmas.Bool.{false≢true, and_parts, leb-true}
 use Rattle.std.proofs.lemmas.List.{length-set}
-use Rattle.define_loosenings.specs.Costs.{cost, sure_cost}
-use Rattle.define_loosenings.specs.CostSearch.{CostSearch, cheapest_search, enter_cheapest, is_live_below, leads_to_team, may_cost_less}
+use Rattle.define_quotas.specs.Costs.{cost, sure_cost}
+use Rattle.define_quotas.specs.CostSearch.{CostSearch, cheapest_search, enter_cheapest, is_live_below, leads_to_team, may_cost_less}
 use Rattle.define_searches.specs.Classes.{Class, Classes}
 use Rattle.define_searches.specs.Compositions.{counts_down, counts_of, takes_one_a_household}
 use Rattle.define_searches.specs.Fronts.{size_reachable, taken_by}

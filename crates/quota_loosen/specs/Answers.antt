@@ -1,7 +1,7 @@
--- What `loosen` answers. Builds on CostSearch and Loosenings of `define_loosenings`. The contract of `loosen` cites it.
+-- What `loosen` answers. Builds on CostSearch and Loosenings of `define_quotas`. The contract of `loosen` cites it.
 use Rattle.std.specs.Prelude.{◌≡◌, ◌≤◌, ◌<◌, ℕ, Option, Result, Ok, Err}
-use Rattle.define_loosenings.specs.CostSearch.{cheapest_search}
-use Rattle.define_loosenings.specs.Loosenings.{Loosening, least_loosening}
+use Rattle.define_quotas.specs.CostSearch.{cheapest_search}
+use Rattle.define_quotas.specs.Loosenings.{Loosening, least_loosening}
 use Rattle.define_pools.specs.Pool.{Pool}
 use Rattle.define_searches.specs.Classes.{classes_of}
 use Rattle.quota_loosen.specs.declared.searching.LoosenStop.{LoosenStop}

@@ -1,7 +1,7 @@
 -- One step of the search for the cheapest team, and what the search answers. The contracts of `searching` cite it.
 use Rattle.std.specs.Prelude.{◌≡◌, ◌≤◌, ◌<◌, ℕ, if◌then◌else◌, List, [], ◌∷◌, ◌++◌, length, take, fold, Option, Some, None, Result, Ok, Err}
-use Rattle.define_loosenings.specs.Costs.{cost}
-use Rattle.define_loosenings.specs.CostSearch.{CostSearch, enter_cheapest, is_live_below}
+use Rattle.define_quotas.specs.Costs.{cost}
+use Rattle.define_quotas.specs.CostSearch.{CostSearch, enter_cheapest, is_live_below}
 use Rattle.define_searches.specs.Classes.{Class, Classes}
 use Rattle.quota_loosen.specs.Front.{Tracks}
 use Rattle.quota_loosen.specs.declared.searching.BudgetSpent.{BudgetSpent}

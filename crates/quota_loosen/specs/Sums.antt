@@ -2,7 +2,7 @@
 -- may at most be added. Both are kept in cells, one for each value. The contracts of `tallies` cite it.
 use Rattle.std.specs.Prelude.{ℕ, ◌≤◌, ◌<◌, All, List, slice_index, sum_by}
 use Rattle.std.specs.List.{enumerate_from}
-use Rattle.define_loosenings.specs.Costs.{surely_missed}
+use Rattle.define_quotas.specs.Costs.{surely_missed}
 use Rattle.define_searches.specs.declared.Bounds.{Bounds}
 use Rattle.define_searches.specs.Tallies.{cell}
 

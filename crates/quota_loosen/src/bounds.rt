@@ -2,7 +2,7 @@
 
 ghost use Rattle.std.specs.Prelude.{◌≡◌, ◌<◌, ◌++◌, [], ◌∷◌, IsTrue, None, IfOk, OnOk, length, nat_lt};
 ghost use Rattle.std.specs.List.{list_all};
-ghost use Rattle.define_loosenings.specs.Teams.{is_team, loosened as loosened_for, loosened_category};
+ghost use Rattle.define_quotas.specs.Teams.{is_team, loosened as loosened_for, loosened_category};
 ghost use Rattle.define_pools.specs.Building.{category_kind};
 ghost use Rattle.define_pools.specs.Pool.{IsPool, is_category, members_with};
 

@@ -1,9 +1,9 @@
 //! The least loosening of a pool.
 
 ghost use Rattle.std.specs.Prelude.{◌≡◌, Some, IfOk, IsTrue};
-ghost use Rattle.define_loosenings.specs.Costs.{cheapest_team, cost};
-ghost use Rattle.define_loosenings.specs.Loosenings.{loosening_for};
-ghost use Rattle.define_loosenings.specs.Teams.{is_team, team_cost};
+ghost use Rattle.define_quotas.specs.Costs.{cheapest_team, cost};
+ghost use Rattle.define_quotas.specs.Loosenings.{loosening_for};
+ghost use Rattle.define_quotas.specs.Teams.{is_team, team_cost};
 ghost use Rattle.define_searches.specs.Classes.{classes_of};
 ghost use Rattle.define_searches.specs.Compositions.{first_panel as first_panel_of};
 ghost use Rattle.quota_loosen.specs.Answers.{Loosens};
@@ -24,7 +24,7 @@ pub struct Loosened {
 }
 
 impl Model for Loosened {
-    ghost use Rattle.define_loosenings.specs.Loosenings.{Loosening};
+    ghost use Rattle.define_quotas.specs.Loosenings.{Loosening};
 
     ghost Value = { Loosening };
 
@@ -75,7 +75,7 @@ impl Loosened {
 
 /// Returns the pool's least loosening: the bounds are moved by as little as possible in all so that there is a quota panel. None means that
 /// the pool has no team: its size, standings and households alone can't be met. Fails with `Spent` if the search takes more than `nodes`
-/// visits. `define_loosenings` has the laws: nothing but bounds changes, the panel is a quota panel of the new pool, and no pool whose
+/// visits. `define_quotas` has the laws: nothing but bounds changes, the panel is a quota panel of the new pool, and no pool whose
 /// bounds are moved by less has a quota panel.
 pub fn loosen(alloc: Global, pool: &Pool, nodes: u64) -> Result<Option<Loosened>, LoosenStop>
     ensures { Loosens pool.now nodes result }

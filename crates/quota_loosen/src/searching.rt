@@ -1,7 +1,7 @@
 //! The search for the cheapest team, front by front: classes in their order, the greatest count first.
 
 ghost use Rattle.std.specs.Prelude.{◌≡◌, ◌≤◌, ◌<◌, ◌+◌, [], ◌∷◌, ◌++◌, length, take, drop, IfOk, OnOk, OnErr, None, Some};
-ghost use Rattle.define_loosenings.specs.CostSearch.{cheapest_search, enter_cheapest, is_live_below, may_cost_less};
+ghost use Rattle.define_quotas.specs.CostSearch.{cheapest_search, enter_cheapest, is_live_below, may_cost_less};
 ghost use Rattle.define_searches.specs.Compositions.{counts_down};
 ghost use Rattle.define_searches.specs.Fronts.{taken_by};
 ghost use Rattle.quota_loosen.specs.Steps.{Answers, AnswersWithin, EndsWithin, IsKept, IsLeastCost, Moves, StandsAt, child_cheapest, children_cheapest, search_of};

@@ -1,7 +1,7 @@
 //! Counters for values, 50 places for each category, and how far they miss the bounds at least. A helper of `tally`.
 
 ghost use Rattle.std.specs.Prelude.{◌≡◌, ◌≤◌, ◌<◌, ◌+◌, ◌*◌, All, length};
-ghost use Rattle.define_loosenings.specs.Costs.{surely_missed};
+ghost use Rattle.define_quotas.specs.Costs.{surely_missed};
 ghost use Rattle.define_searches.specs.Tallies.{HaveCells, CanGive, AreAtMost, FitCells, HasMore};
 ghost use Rattle.quota_loosen.specs.Sums.{AreLimited, AreSmallIn, missed_in, missed_in_all};
 

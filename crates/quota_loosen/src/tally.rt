@@ -2,7 +2,7 @@
 //! give. The search of `searching` keeps one.
 
 ghost use Rattle.std.specs.Prelude.{◌≡◌, ◌+◌, ◌*◌, ◌≤◌, ◌<◌, ◌++◌, ◌^◌, [], ◌∷◌, IfOk, nat_le, ◌&&◌, drop, length};
-ghost use Rattle.define_loosenings.specs.Costs.{sure_cost};
+ghost use Rattle.define_quotas.specs.Costs.{sure_cost};
 ghost use Rattle.define_searches.specs.Compositions.{takes_one_a_household};
 ghost use Rattle.define_searches.specs.Fronts.{size_reachable, taken_by};
 ghost use Rattle.define_searches.specs.Front.{Gives};

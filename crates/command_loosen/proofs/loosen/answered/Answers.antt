@@ -1,6 +1,6 @@
 use Rattle.std.proofs.Common.{◌≡◌, Some, None, refl, sym, subst}
 use Rattle.std.proofs.lemmas.Result.{IfOk-weaker}
-use Rattle.define_loosenings.specs.Loosenings.{least_loosening}
+use Rattle.define_quotas.specs.Loosenings.{least_loosening}
 use Rattle.define_searches.specs.Classes.{are_alike}
 use Rattle.command_shell.specs.declared.answer.Answer.{Answer}
 use Rattle.command_shell.specs.declared.status.Printed.TheVariants.{NoPanel}

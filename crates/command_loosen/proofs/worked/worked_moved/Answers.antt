@@ -1,7 +1,7 @@
 use Rattle.std.proofs.Common.{◌≡◌, ◌≤◌, ◌<◌, [], ◌∷◌, Some, refl, arith}
 use Rattle.std.specs.Fmt.{digits}
-use Rattle.define_loosenings.specs.Loosenings.{Loosening, least_loosening}
-use Rattle.define_loosenings.specs.WorkedLoosenings.{one_woman}
+use Rattle.define_quotas.specs.Loosenings.{Loosening, least_loosening}
+use Rattle.define_quotas.specs.WorkedLoosenings.{one_woman}
 use Rattle.define_searches.specs.Classes.{are_alike}
 use Rattle.command_meanings.specs.Loosening.{visits_of}
 use Rattle.command_loosen.proofs.Least.{the_least}

@@ -1,5 +1,5 @@
 use Rattle.std.proofs.Common.{◌≡◌, ◌≤◌, None, refl, arith}
-use Rattle.define_loosenings.specs.Loosenings.{least_loosening}
+use Rattle.define_quotas.specs.Loosenings.{least_loosening}
 use Rattle.define_pools.specs.WorkedExamples.{couple, nobody}
 use Rattle.command_meanings.specs.Loosening.{visits_of}
 use Rattle.command_loosen.proofs.Least.{no_panels}

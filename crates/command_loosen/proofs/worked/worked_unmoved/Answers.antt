@@ -1,6 +1,6 @@
 use Rattle.std.proofs.Common.{◌≡◌, ◌≤◌, [], ◌∷◌, Some, refl, arith}
 use Rattle.std.specs.Fmt.{digits}
-use Rattle.define_loosenings.specs.Loosenings.{Loosening, least_loosening}
+use Rattle.define_quotas.specs.Loosenings.{Loosening, least_loosening}
 use Rattle.define_pools.specs.WorkedExamples.{four}
 use Rattle.define_searches.specs.Classes.{are_alike}
 use Rattle.command_meanings.specs.Loosening.{visits_of}

@@ -1,5 +1,5 @@
 use Rattle.std.proofs.Common.{◌≡◌, ℕ, ◌+◌, get_or, sum_by, sym, ap₂, ◌∙◌}
-use Rattle.define_loosenings.specs.Teams.{missed_by}
+use Rattle.define_quotas.specs.Teams.{missed_by}
 use Rattle.define_pools.specs.Pool.{BoundedValue, members_with}
 use Rattle.loosening_by_proof.proofs.Sums.{all_read, one_more}
 use Rattle.loosening_by_proof.proofs.teams.category_cost.Goals as goal

@@ -1,6 +1,6 @@
 use Rattle.std.proofs.Common.{◌≡◌, ℕ, ◌+◌, List, get_or, sum_by, sym, ap, ap₂, ◌∙◌}
 use Rattle.std.specs.List.{enumerate_from}
-use Rattle.define_loosenings.specs.Teams.{missed_by}
+use Rattle.define_quotas.specs.Teams.{missed_by}
 use Rattle.define_pools.specs.Pool.{BoundedValue, Category, members_with}
 use Rattle.loosening_by_proof.proofs.Sums.{all_read, one_more}
 use Rattle.loosening_by_proof.proofs.teams.cost.Goals as goal

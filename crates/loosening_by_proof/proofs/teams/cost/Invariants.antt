@@ -1,6 +1,6 @@
 use Rattle.std.proofs.Common.{◌≡◌, take, sum_by}
 use Rattle.std.specs.List.{enumerate_from}
-use Rattle.define_loosenings.specs.Teams.{missed_by}
+use Rattle.define_quotas.specs.Teams.{missed_by}
 use Rattle.define_pools.specs.Pool.{members_with}
 use Rattle.loosening_by_proof.proofs.teams.cost.Given as goal
 

@@ -1,7 +1,7 @@
 use Rattle.std.proofs.Common.{◌≡◌, ℕ, List, sum_by, ap, ◌∙◌}
 use Rattle.std.specs.List.{enumerate_from}
 use Rattle.std.proofs.lemmas.Option.{IfSome_then}
-use Rattle.define_loosenings.specs.Teams.{missed_by}
+use Rattle.define_quotas.specs.Teams.{missed_by}
 use Rattle.define_pools.specs.Pool.{Category, Volunteer, members_with}
 use Rattle.loosening_by_proof.proofs.teams.team_cost.Goals as goal
 

@@ -1,5 +1,5 @@
 use Rattle.std.proofs.Common.{◌≡◌, ◌<◌, ◌≤◌, ◌++◌, ◌∷◌, [], List, length, take, ap, subst, ◌∙◌, arith}
-use Rattle.define_loosenings.specs.Teams.{loosened_category}
+use Rattle.define_quotas.specs.Teams.{loosened_category}
 use Rattle.define_pools.specs.Building.{value_added, value_kind}
 use Rattle.define_pools.specs.Pool.{BoundedValue, Category, Pool}
 use Rattle.quota_loosen.proofs.Building.{value_is_new, values_grow, with_values}

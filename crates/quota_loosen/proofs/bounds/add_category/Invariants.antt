@@ -1,5 +1,5 @@
 use Rattle.std.proofs.Common.{◌≡◌}
-use Rattle.define_loosenings.specs.Teams.{loosened_category}
+use Rattle.define_quotas.specs.Teams.{loosened_category}
 use Rattle.quota_loosen.proofs.Building.{with_values}
 use Rattle.quota_loosen.proofs.bounds.add_category.Given as goal
 

@@ -1,6 +1,6 @@
 use Rattle.std.proofs.Common.{◌≡◌, ℕ, List, ap, sym, subst, ◌∙◌, true}
-use Rattle.define_loosenings.specs.Teams.{is_team, loosened}
-use Rattle.define_loosenings.proofs.MovedBounds.{loosened_is_pool}
+use Rattle.define_quotas.specs.Teams.{is_team, loosened}
+use Rattle.define_quotas.proofs.MovedBounds.{loosened_is_pool}
 use Rattle.define_pools.specs.Pool.{Category, IsPool, Pool, Volunteer}
 use Rattle.quota_loosen.proofs.bounds.loosened.Goals as goal
 

@@ -2,8 +2,8 @@ use Rattle.std.proofs.Common.{◌≡◌, ◌<◌, ◌≤◌, ◌+◌, ◌++◌, 
 use Rattle.std.proofs.lemmas.Bool.{leb-true}
 use Rattle.std.proofs.lemmas.List.{take_more}
 use Rattle.define_pools.proofs.Each.{passes_at}
-use Rattle.define_loosenings.specs.Teams.{loosened, loosened_category}
-use Rattle.define_loosenings.proofs.MovedBounds.{loosened_is_pool}
+use Rattle.define_quotas.specs.Teams.{loosened, loosened_category}
+use Rattle.define_quotas.proofs.MovedBounds.{loosened_is_pool}
 use Rattle.define_pools.specs.Building.{category_kind}
 use Rattle.define_pools.specs.Pool.{Category, Pool, Volunteer, is_category}
 use Rattle.quota_loosen.proofs.Building.{category_is_new}

@@ -1,5 +1,5 @@
 use Rattle.std.proofs.Common.{◌≡◌, [], take}
-use Rattle.define_loosenings.specs.Teams.{loosened}
+use Rattle.define_quotas.specs.Teams.{loosened}
 use Rattle.quota_loosen.proofs.bounds.quotas.Given as goal
 
 -- `made` has the categories so far

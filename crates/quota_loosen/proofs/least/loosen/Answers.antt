@@ -1,6 +1,6 @@
 use Rattle.std.proofs.Common.{◌≡◌, ◌≤◌, Some, ap, sym, subst, ◌∙◌}
-use Rattle.define_loosenings.specs.CostSearch.{cheapest_search}
-use Rattle.define_loosenings.specs.Loosenings.{Loosening}
+use Rattle.define_quotas.specs.CostSearch.{cheapest_search}
+use Rattle.define_quotas.specs.Loosenings.{Loosening}
 use Rattle.define_searches.specs.Classes.{Classes}
 use Rattle.quota_loosen.proofs.Loosenings.{cheapest_from, kept_none, kept_some, loosening_from, no_loosening}
 use Rattle.quota_loosen.proofs.least.loosen.Goals as goal

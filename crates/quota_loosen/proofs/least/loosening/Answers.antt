@@ -1,5 +1,5 @@
 use Rattle.std.proofs.Common.{◌≡◌, true, List, ℕ, ap, sym, subst, ◌∙◌}
-use Rattle.define_loosenings.specs.Teams.{is_team}
+use Rattle.define_quotas.specs.Teams.{is_team}
 use Rattle.define_searches.specs.Compositions.{first_panel}
 use Rattle.quota_loosen.proofs.Loosenings.{first_is_team, loosening_is}
 use Rattle.quota_loosen.proofs.least.loosening.Goals as goal

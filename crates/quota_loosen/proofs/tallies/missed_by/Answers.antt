@@ -1,7 +1,7 @@
 use Rattle.std.proofs.Common.{◌≡◌, ◌≤◌, ◌<◌, ◌+◌, ◌*◌, ℕ, take, ap, sym, ◌∙◌, arith}
 use Rattle.std.specs.Prelude.{slice_index}
 use Rattle.std.proofs.lemmas.List.Elements.{All-get_or}
-use Rattle.define_loosenings.specs.Costs.{surely_missed}
+use Rattle.define_quotas.specs.Costs.{surely_missed}
 use Rattle.define_searches.specs.declared.Bounds.{Bounds}
 use Rattle.define_searches.specs.Tallies.{cell}
 use Rattle.quota_loosen.specs.Sums.{missed_in}

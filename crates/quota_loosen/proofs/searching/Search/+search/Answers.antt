@@ -1,5 +1,5 @@
 use Rattle.std.proofs.Common.{rules, ◌≡◌, ℕ, ◌+◌, ◌-◌, ◌<◌, ◌≤◌, [], ◌∷◌, ◌++◌, length, take, drop, set, Some, refl, sym, ap, ◌∙◌, arith, subst}
-use Rattle.define_loosenings.specs.CostSearch.{enter_cheapest}
+use Rattle.define_quotas.specs.CostSearch.{enter_cheapest}
 use Rattle.define_searches.specs.Compositions.{counts_down}
 use Rattle.define_searches.specs.Fronts.{taken_by}
 use Rattle.define_searches.specs.Front.{Stands}

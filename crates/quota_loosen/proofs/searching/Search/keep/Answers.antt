@@ -1,5 +1,5 @@
 use Rattle.std.proofs.Common.{take, length, drop, ap, ◌∙◌}
-use Rattle.define_loosenings.specs.Costs.{sure_cost}
+use Rattle.define_quotas.specs.Costs.{sure_cost}
 use Rattle.quota_loosen.proofs.Stepping.{kept_now, stands_kept}
 use Rattle.quota_loosen.proofs.searching.Search.keep.Goals as goal
 

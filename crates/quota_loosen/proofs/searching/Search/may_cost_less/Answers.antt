@@ -1,5 +1,5 @@
 use Rattle.std.proofs.Common.{◌≡◌, Some, take, ap, sym, ◌∙◌}
-use Rattle.define_loosenings.specs.Costs.{sure_cost}
+use Rattle.define_quotas.specs.Costs.{sure_cost}
 use Rattle.quota_loosen.proofs.Stepping.{less_is}
 use Rattle.quota_loosen.proofs.searching.Search.may_cost_less.Goals as goal
 

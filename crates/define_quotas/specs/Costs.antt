@@ -6,7 +6,7 @@ use Rattle.define_searches.specs.declared.Bounds.{Bounds}
 use Rattle.define_searches.specs.Classes.{Classes}
 use Rattle.define_searches.specs.Compositions.{all_counts, has_value, taken_of, takes_one_a_household}
 use Rattle.define_searches.specs.Fronts.{later_than, most_given}
-use Rattle.define_loosenings.specs.Teams.{missed_by}
+use Rattle.define_quotas.specs.Teams.{missed_by}
 
 -- the counts sum to the size, and no household has two members taken
 abbrev pub makes_team : Classes → List ℕ → Bool

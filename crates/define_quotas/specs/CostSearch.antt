@@ -5,7 +5,7 @@ use Rattle.std.specs.Prelude.{ℕ, ◌+◌, nat_lt, if◌then◌else◌, Bool, t
 use Rattle.define_searches.specs.Classes.{Class, Classes}
 use Rattle.define_searches.specs.Compositions.{counts_of, takes_one_a_household}
 use Rattle.define_searches.specs.Fronts.{size_reachable}
-use Rattle.define_loosenings.specs.Costs.{cost, sure_cost}
+use Rattle.define_quotas.specs.Costs.{cost, sure_cost}
 
 -- a front may lead to a team: the size is within reach, and no household has two members taken
 abbrev pub leads_to_team : Classes → List ℕ → Bool

@@ -7,8 +7,8 @@ use Rattle.define_pools.proofs.Each.{list_all_equal}
 use Rattle.define_pools.proofs.Sums.{sum_by-is-total, total, total_ext}
 use Rattle.define_pools.specs.Lists.{all_different}
 use Rattle.define_pools.specs.Pool.{BoundedValue, Category, IsPool, Pool, Volunteer, are_bounds, has_values, is_category, is_name, is_quota_panel, is_value, is_within, meets_quotas, members_with, volunteer}
-use Rattle.define_loosenings.specs.Teams.{DifferInBounds, bounds_moved, distance, is_team, loosened, loosened_category, loosened_value, missed_by, names_of_values, team_cost, values_moved}
-use Rattle.define_loosenings.proofs.Freed.{panel_of_team, team_length, team_of_panel, team_parts}
+use Rattle.define_quotas.specs.Teams.{DifferInBounds, bounds_moved, distance, is_team, loosened, loosened_category, loosened_value, missed_by, names_of_values, team_cost, values_moved}
+use Rattle.define_quotas.proofs.Freed.{panel_of_team, team_length, team_of_panel, team_parts}
 
 -- ---- the bounds of one value
 

@@ -3,7 +3,7 @@
 use Rattle.std.proofs.Common.{◌≡◌, ℕ, Bool, true, false, cond, ltb, List, [], ◌∷◌, fold, Option, Some, None, refl, sym, ◌∙◌, arith}
 use Rattle.std.specs.List.{AllByRecursion}
 use Rattle.std.proofs.lemmas.Bool.{ltb-true, ltb-false, lt-ltb, le-ltb}
-use Rattle.define_loosenings.specs.Costs.{cheaper, first_cheapest}
+use Rattle.define_quotas.specs.Costs.{cheaper, first_cheapest}
 
 -- true if nothing is kept yet, or `counts` cost less than what is kept
 abbrev pub costs_less : (List ℕ → ℕ) → Option (List ℕ) → List ℕ → Bool

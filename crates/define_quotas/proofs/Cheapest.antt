@@ -7,7 +7,7 @@ use Rattle.define_pools.proofs.Each.{each_map, each_both}
 use Rattle.define_searches.specs.Best.{comes_before}
 use Rattle.define_searches.proofs.Contained.{contains_first, contains_later}
 use Rattle.define_searches.proofs.Order.{Ordered, not_back}
-use Rattle.define_loosenings.specs.Costs.{cheaper, first_cheapest}
+use Rattle.define_quotas.specs.Costs.{cheaper, first_cheapest}
 
 -- `x` costs at least as much as `counts`, and more if it comes before `counts`
 abbrev pub IsDearer : (List ℕ → ℕ) → List ℕ → List ℕ → Type 0

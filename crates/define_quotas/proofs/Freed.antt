@@ -15,8 +15,8 @@ use Rattle.define_searches.proofs.Contained.{each_itself}
 use Rattle.define_searches.proofs.LeaderForm as by_leader
 use Rattle.define_searches.proofs.PanelCompositions.{of_compositions, passing}
 use Rattle.define_searches.proofs.PoolClasses.{composition_of_same, compositions_same, first_panels_compose, first_panels_fit, taken_same}
-use Rattle.define_loosenings.specs.Costs.{cost, makes_team, team_counts}
-use Rattle.define_loosenings.specs.Teams.{is_team, missed_by, team_cost}
+use Rattle.define_quotas.specs.Costs.{cost, makes_team, team_counts}
+use Rattle.define_quotas.specs.Teams.{is_team, missed_by, team_cost}
 
 -- ---- the pool with free bounds
 

@@ -13,10 +13,10 @@ use Rattle.define_searches.specs.Compositions.{counts_of, all_counts, taken_of, 
 use Rattle.define_searches.specs.Fronts.{later_than, most_given, size_reachable, taken_by}
 use Rattle.define_searches.proofs.FirstSearch.{Gives, InOrder, Split, all_counts_give, child_splits, empty_splits, later_is, taken_split, taken_within_most}
 use Rattle.define_searches.proofs.BestSearch.{flat_map-map}
-use Rattle.define_loosenings.specs.Costs.{makes_team, team_counts, cost, surely_missed, sure_cost, cheapest_team}
-use Rattle.define_loosenings.specs.CostSearch.{leads_to_team, may_cost_less, is_live_below, CostSearch, enter_cheapest, cheapest_search}
-use Rattle.define_loosenings.specs.Teams.{missed_by}
-use Rattle.define_loosenings.proofs.Keeping.{costs_less, keep, keep_none, keeps_first_cheapest}
+use Rattle.define_quotas.specs.Costs.{makes_team, team_counts, cost, surely_missed, sure_cost, cheapest_team}
+use Rattle.define_quotas.specs.CostSearch.{leads_to_team, may_cost_less, is_live_below, CostSearch, enter_cheapest, cheapest_search}
+use Rattle.define_quotas.specs.Teams.{missed_by}
+use Rattle.define_quotas.proofs.Keeping.{costs_less, keep, keep_none, keeps_first_cheapest}
 
 -- ---- a front and the teams that begin with it
 

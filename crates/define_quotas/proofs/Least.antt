@@ -9,12 +9,12 @@ use Rattle.define_searches.specs.Classes.{MakesClasses, are_alike, classes_by, c
 use Rattle.define_searches.specs.Compositions.{composition_of, compositions, first_panel}
 use Rattle.define_searches.proofs.Contained.{each_contains}
 use Rattle.define_searches.proofs.Order.{Ordered, compositions_ordered}
-use Rattle.define_loosenings.specs.Costs.{cheapest_team, cost, team_counts}
-use Rattle.define_loosenings.specs.Loosenings.{IsCheapest, IsLeast, Loosening, least_loosening, loosening_for}
-use Rattle.define_loosenings.specs.Teams.{is_team, team_cost}
-use Rattle.define_loosenings.proofs.Cheapest.{IsDearer, IsFirst, found_first, none_found}
-use Rattle.define_loosenings.proofs.Freed.{cost_same, first_teams, first_teams_compose, freed, panel_of_team, team_composes, team_counts_same, team_of_panel}
-use Rattle.define_loosenings.proofs.MovedBounds.{free_if_met, loosened_differs, loosened_fits, loosened_moves, met_if_free, panel_of_other}
+use Rattle.define_quotas.specs.Costs.{cheapest_team, cost, team_counts}
+use Rattle.define_quotas.specs.Loosenings.{IsCheapest, IsLeast, Loosening, least_loosening, loosening_for}
+use Rattle.define_quotas.specs.Teams.{is_team, team_cost}
+use Rattle.define_quotas.proofs.Cheapest.{IsDearer, IsFirst, found_first, none_found}
+use Rattle.define_quotas.proofs.Freed.{cost_same, first_teams, first_teams_compose, freed, panel_of_team, team_composes, team_counts_same, team_of_panel}
+use Rattle.define_quotas.proofs.MovedBounds.{free_if_met, loosened_differs, loosened_fits, loosened_moves, met_if_free, panel_of_other}
 
 all_kept : (xs : List (List ℕ)) → filter (λ counts. true) xs ≡ xs
 all_kept [] = refl

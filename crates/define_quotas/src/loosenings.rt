@@ -5,18 +5,16 @@
 //!
 //! The functions have no body: their contracts are laws over the definitions, and worked examples. Each law is a promise. The laws hold for
 //! every test of who is alike that makes classes.
-#![tactic(auto)]
-
 ghost use Rattle.std.specs.Prelude.{◌≡◌, ◌↔◌, ℕ, Bool, List, [], ◌∷◌, None, Some, IsTrue};
 ghost use Rattle.define_pools.specs.Pool.{Pool, IsPool, panels, is_quota_panel};
 ghost use Rattle.define_pools.specs.WorkedExamples.{couple, four, nobody};
 ghost use Rattle.define_searches.specs.Classes.{Classes, IsSearchable, MakesClasses, classes_by, classes_of};
 ghost use Rattle.define_searches.specs.Compositions.{first_panel};
-ghost use Rattle.define_loosenings.specs.Costs.{cheapest_team};
-ghost use Rattle.define_loosenings.specs.CostSearch.{cheapest_search};
-ghost use Rattle.define_loosenings.specs.Loosenings.{IsCheapest, IsLeast, Loosening, least_loosening};
-ghost use Rattle.define_loosenings.specs.Teams.{DifferInBounds, bounds_moved, is_team, loosened, team_cost};
-ghost use Rattle.define_loosenings.specs.WorkedLoosenings.{one_woman};
+ghost use Rattle.define_quotas.specs.Costs.{cheapest_team};
+ghost use Rattle.define_quotas.specs.CostSearch.{cheapest_search};
+ghost use Rattle.define_quotas.specs.Loosenings.{IsCheapest, IsLeast, Loosening, least_loosening};
+ghost use Rattle.define_quotas.specs.Teams.{DifferInBounds, bounds_moved, is_team, loosened, team_cost};
+ghost use Rattle.define_quotas.specs.WorkedLoosenings.{one_woman};
 
 /// The search finds the cheapest counts of a team, the first of these if several cost the same, and nothing if there is no team.
 pub fn search_finds_cheapest()

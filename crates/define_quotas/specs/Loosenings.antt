@@ -6,8 +6,8 @@ use Rattle.define_pools.specs.Pool.{Pool, is_quota_panel, panels}
 use Rattle.define_searches.specs.Best.{comes_before}
 use Rattle.define_searches.specs.Classes.{classes_by, classes_of}
 use Rattle.define_searches.specs.Compositions.{composition_of, first_panel}
-use Rattle.define_loosenings.specs.Costs.{cheapest_team}
-use Rattle.define_loosenings.specs.Teams.{DifferInBounds, bounds_moved, is_team, loosened, team_cost}
+use Rattle.define_quotas.specs.Costs.{cheapest_team}
+use Rattle.define_quotas.specs.Teams.{DifferInBounds, bounds_moved, is_team, loosened, team_cost}
 
 -- a loosening: how far bounds are moved in all, the pool with its bounds moved, and a quota panel of that pool
 pub record Loosening : Type 0 where

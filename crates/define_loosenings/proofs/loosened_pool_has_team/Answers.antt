@@ -1,5 +1,0 @@
-use Rattle.define_loosenings.proofs.MovedBounds.{loosened_differs, loosened_fits, loosened_is_pool, loosened_moves}
-use Rattle.define_loosenings.proofs.loosened_pool_has_team.Goals as goal
-
-pub returns : goal.returns
-returns c = record { bounds = loosened_differs; moved = loosened_moves; panel = loosened_fits; limits = loosened_is_pool }

@@ -1,5 +1,0 @@
-pub mod Teams
-pub mod Costs
-pub mod CostSearch
-pub mod Loosenings
-pub mod WorkedLoosenings
