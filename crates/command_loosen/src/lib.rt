@@ -1,6 +1,6 @@
 //! The commands `loosen` and `loosen-by-proof`: how to move bounds as little as possible in all so that a pool has a quota panel. Stands on
 //! `quota_loosen`, which searches all counts, `loosening_by_proof`, an engine that searches by integer programs, `define_quotas`, which
-//! says what is found, `define_cost_bounds`, by which least totals are equal, the lines of `command_meanings` and `text_lines`, and the
+//! says what is found, `define_quotas`, by which least totals are equal, the lines of `command_meanings` and `text_lines`, and the
 //! shell.
 //!
 //! Promises: `Loosen` answers as Loosening of `command_meanings` says, and the law that it has at most one right answer. `LoosenByProof` answers as

@@ -13,7 +13,7 @@ ghost use Rattle.loosening_by_proof.specs.Answers.{IsLeastForTeam};
 use crate::lines::loosening_text;
 use crate::loosen::answered as answered_by_search;
 use command_shell::{Answer, Command, Meaning, Printed, no_panel};
-use define_cost_bounds::least_totals_are_equal;
+use define_quotas::costs::least_totals_are_equal;
 use loosening_by_proof::loosen_by_proof;
 use pool_model::Pool;
 use prove_limits::{Budget, ProveStop};

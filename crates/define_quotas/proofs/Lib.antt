@@ -9,3 +9,5 @@ pub mod Freed
 pub mod Cheapest
 pub mod MovedBounds
 pub mod Least
+pub mod CostsAsked
+pub mod Bounds

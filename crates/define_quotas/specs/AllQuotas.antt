@@ -1,5 +1,5 @@
 -- All quotas of a pool, and those of its values. If the pool has no quota panel, all its quotas are a conflict. Builds on Quotas. `why` names
--- all of them if no smaller conflict is found; the costs of `define_cost_bounds` are misses of the quotas of values.
+-- all of them if no smaller conflict is found; the costs of `define_quotas` are misses of the quotas of values.
 use Rattle.std.specs.Prelude.{ℕ, nat_le, Bool, false, ◌&&◌, List, [], ◌∷◌, ◌++◌, map, filter, count_by, None}
 use Rattle.std.specs.List.{enumerate_from, flat_map}
 use Rattle.define_pools.specs.Pool.{Category, Pool, everybody, share_household}

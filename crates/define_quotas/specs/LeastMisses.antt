@@ -1,6 +1,6 @@
 -- A lower bound on what every selection misses. Each quota has a weight. `asked` is what the weighted quotas ask for, `given` the most that
 -- a selection can give. Each selection's weighted misses sum to at least `asked` less `given`. All numbers are whole and at least 0. Builds
--- on Quotas. `quota_conflicts`, `define_cost_bounds` and `loosening_by_proof` use it.
+-- on Quotas. `quota_conflicts`, `define_quotas` and `loosening_by_proof` use it.
 use Rattle.std.specs.Prelude.{ℕ, ◌+◌, ◌-◌, ◌*◌, if◌then◌else◌, Bool, true, false, ◌&&◌, List, map, sum_by}
 use Rattle.std.specs.List.{enumerate_from}
 use Rattle.define_pools.specs.declared.Standing.{Standing}

@@ -10,3 +10,4 @@ pub mod Costs
 pub mod CostSearch
 pub mod Loosenings
 pub mod WorkedLoosenings
+pub mod CostBounds

@@ -1,11 +1,12 @@
 //! Conflicts: quotas of a pool that can't be met together. The definitions are in `specs/`. Stands on `define_pools`, on
 //! `define_proofs` for standings, and on `define_searches` for a law on households. Used by `quota_conflicts`, which finds and checks
-//! conflicts; by `define_cost_bounds` and `loosening_by_proof`, which weigh quotas; and by the meaning of `why`.
+//! conflicts; by `define_quotas` and `loosening_by_proof`, which weigh quotas; and by the meaning of `why`.
 //!
 //! The functions have no body: their contracts are laws over the definitions, and worked examples. The promise that matters most is
 //! `conflict_leaves_no_panel`.
 #![tactic(auto)]
 
+pub mod costs;
 pub mod loosenings;
 
 ghost use Rattle.std.specs.Prelude.{◌≡◌, ◌<◌, ◌≤◌, ◌+◌, ◌*◌, [], ◌∷◌, ℕ, drop, take, true, length, nat_le, IsTrue, List, slice_set};

@@ -3,7 +3,7 @@
 ghost use Rattle.std.specs.Bool.{OnTrue};
 ghost use Rattle.std.specs.Prelude.{◌≡◌, Some, IfErr, IfOk, IsTrue};
 ghost use Rattle.define_proofs.specs.Leaves.{standings as standings_of};
-ghost use Rattle.define_cost_bounds.specs.CostBounds.{CostsAt};
+ghost use Rattle.define_quotas.specs.CostBounds.{CostsAt};
 ghost use Rattle.define_quotas.specs.Teams.{is_team as is_team_of, team_cost as team_cost_of};
 ghost use Rattle.loosening_by_proof.specs.Answers.{IsLeastForTeam, IsLoosening};
 ghost use Rattle.loosening_by_proof.specs.Searches.{IsSearch};
@@ -14,7 +14,7 @@ use crate::bounds::least_cost;
 use crate::covers::covers;
 use crate::searches::Search;
 use crate::teams::{is_team, team_cost};
-use define_cost_bounds::{asking_more_costs, cheapest_by_bound};
+use define_quotas::costs::{asking_more_costs, cheapest_by_bound};
 use pool_model::{Panel, Pool, Standing};
 use prove_limits::{Budget, ProveStop};
 use quota_conflicts::{reported, standings};

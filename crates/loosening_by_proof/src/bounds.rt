@@ -4,11 +4,11 @@ ghost use Rattle.std.specs.Bool.{OnTrue};
 ghost use Rattle.std.specs.Prelude.{◌≡◌, ◌≤◌, ◌<◌, ◌+◌, ◌-◌, ◌*◌, ◌++◌, length, IfOk, IfSome, IsTrue, None, Some, nat_le};
 ghost use Rattle.std.specs.List.{list_all};
 ghost use Rattle.define_quotas.specs.LeastMisses.{asked as asked_of, given as given_of};
-ghost use Rattle.define_cost_bounds.specs.CostBounds.{CostsAt, is_met_by_teams as is_always_met};
+ghost use Rattle.define_quotas.specs.CostBounds.{CostsAt, is_met_by_teams as is_always_met};
 
 use crate::quotas::weighted_values;
 use define_quotas::{Counted, WeightedQuota};
-use define_cost_bounds::asking_more_costs;
+use define_quotas::costs::asking_more_costs;
 use pool_model::{Pool, Standing};
 use quota_conflicts::{asked, given, greatest_weight, times_below};
 use std::alloc::{AllocError, Global};

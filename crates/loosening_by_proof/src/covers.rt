@@ -3,10 +3,10 @@
 
 ghost use Rattle.std.specs.Bool.{OnTrue};
 ghost use Rattle.std.specs.Prelude.{ℕ, ◌≡◌, ◌<◌, ◌≤◌, length, IfOk, IfSome, Some};
-ghost use Rattle.define_cost_bounds.specs.CostBounds.{CostsAt, IsAtLeast};
+ghost use Rattle.define_quotas.specs.CostBounds.{CostsAt, IsAtLeast};
 
 use crate::bounds::{Leaf, least_cost};
-use define_cost_bounds::both_parts_cost;
+use define_quotas::costs::both_parts_cost;
 use pool_model::{Pool, Standing};
 use quota_conflicts::with_standing;
 use std::alloc::{AllocError, Global};

@@ -1,6 +1,6 @@
 use Rattle.std.proofs.Common.{Some}
 use Rattle.define_proofs.specs.Leaves.{standings}
-use Rattle.define_cost_bounds.specs.CostBounds.{CostsAt}
+use Rattle.define_quotas.specs.CostBounds.{CostsAt}
 use Rattle.prove_limits.specs.Budgets.{SpendsOn}
 use Rattle.loosening_by_proof.specs.Searches.{IsSearch}
 use Rattle.loosening_by_proof.proofs.answers.cost_shown.Given as goal

@@ -1,7 +1,7 @@
 use Rattle.std.proofs.Common.{◌≡◌, ℕ, Some, refl, sym, subst}
 use Rattle.std.proofs.lemmas.Result.{IfOk-weaker}
 use Rattle.define_proofs.specs.Leaves.{standings}
-use Rattle.define_cost_bounds.specs.CostBounds.{CostsAt}
+use Rattle.define_quotas.specs.CostBounds.{CostsAt}
 use Rattle.define_quotas.specs.Loosenings.{loosening_for}
 use Rattle.loosening_by_proof.specs.Answers.{IsLeastForTeam}
 use Rattle.loosening_by_proof.proofs.answers.least_loosening.Goals as goal

@@ -3,7 +3,7 @@ use Rattle.std.proofs.lemmas.Option.{IfSome_then, MatchOption-at_some}
 use Rattle.std.proofs.lemmas.Result.{IfOk-weaker}
 use Rattle.define_pools.specs.declared.Standing.{Standing}
 use Rattle.define_pools.specs.declared.Standing.TheVariants.{Gone}
-use Rattle.define_cost_bounds.specs.CostBounds.{CostsAt}
+use Rattle.define_quotas.specs.CostBounds.{CostsAt}
 use Rattle.loosening_by_proof.proofs.covers.+end_of_tree.Goals as goal
 
 pub returns-in_ok-with-in-Split-clause-costs : goal.returns-in_ok-with-in-Split-clause-costs

@@ -4,8 +4,6 @@
 //! searches, and the meaning of `loosen-by-proof`.
 //!
 //! The functions have no body: their contracts are laws over the definitions. The promise that matters most is `cheapest_by_bound`.
-#![tactic(auto)]
-
 ghost use Rattle.std.specs.Prelude.{◌≡◌, ◌+◌, ◌*◌, ◌<◌, ◌++◌, ℕ, nat_le, IsTrue, List, Option, Some, None, slice_set};
 ghost use Rattle.std.specs.List.{list_all};
 ghost use Rattle.define_pools.specs.declared.Standing.{Standing};
@@ -15,7 +13,7 @@ ghost use Rattle.define_proofs.specs.Leaves.{standings};
 ghost use Rattle.define_quotas.specs.declared.WeightedQuota.{WeightedQuota};
 ghost use Rattle.define_quotas.specs.LeastMisses.{asked, given, quotas_of};
 ghost use Rattle.define_quotas.specs.AllQuotas.{value_quotas};
-ghost use Rattle.define_cost_bounds.specs.CostBounds.{CostsAt, is_met_by_teams};
+ghost use Rattle.define_quotas.specs.CostBounds.{CostsAt, is_met_by_teams};
 ghost use Rattle.define_quotas.specs.Loosenings.{IsLeast, Loosening, loosening_for};
 ghost use Rattle.define_quotas.specs.Teams.{is_team, team_cost};
 

@@ -27,8 +27,8 @@ use Rattle.define_quotas.specs.Teams.{is_team, loosened, team_cost}
 use Rattle.define_quotas.proofs.Least.{has_panels, least_is}
 use Rattle.define_quotas.proofs.MovedBounds.{loosened_fits}
 use Rattle.define_quotas.specs.AllQuotas.{value_quotas}
-use Rattle.define_cost_bounds.specs.CostBounds.{CostsAt, IsAtLeast, is_met_by_teams}
-use Rattle.define_cost_bounds.proofs.Costs.{misses_are_cost, total-append}
+use Rattle.define_quotas.specs.CostBounds.{CostsAt, IsAtLeast, is_met_by_teams}
+use Rattle.define_quotas.proofs.CostsAsked.{misses_are_cost, total-append}
 
 -- ---- quotas that each team meets
 

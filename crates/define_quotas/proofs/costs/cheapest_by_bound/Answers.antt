@@ -1,5 +1,5 @@
-use Rattle.define_cost_bounds.proofs.Bounds.{least_by_bound, no_team_by_bound}
-use Rattle.define_cost_bounds.proofs.cheapest_by_bound.Goals as goal
+use Rattle.define_quotas.proofs.Bounds.{least_by_bound, no_team_by_bound}
+use Rattle.define_quotas.proofs.costs.cheapest_by_bound.Goals as goal
 
 pub returns-clause-least : goal.returns-clause-least
 returns-clause-least c = least_by_bound

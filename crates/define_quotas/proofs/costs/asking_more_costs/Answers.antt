@@ -1,5 +1,5 @@
-use Rattle.define_cost_bounds.proofs.Bounds.{more_costs, none_keeps}
-use Rattle.define_cost_bounds.proofs.asking_more_costs.Goals as goal
+use Rattle.define_quotas.proofs.Bounds.{more_costs, none_keeps}
+use Rattle.define_quotas.proofs.costs.asking_more_costs.Goals as goal
 
 pub returns-clause-more : goal.returns-clause-more
 returns-clause-more c = more_costs
