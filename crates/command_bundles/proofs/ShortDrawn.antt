@@ -7,9 +7,9 @@ use Rattle.define_bundles.specs.BundleText.{Bundle, IsBundle}
 use Rattle.define_draws.specs.declared.DiceStop.TheVariants as dice
 use Rattle.define_draws.specs.Draw as draws
 use Rattle.define_draws.specs.Draw.{Refused, draw}
-use Rattle.define_short_draws.specs.Short.{shortened}
-use Rattle.define_short_draws.proofs.ShortRanges.{short_in_ranges, total_from_ranges}
-use Rattle.define_short_draws.proofs.Shortened.{agrees_shortened}
+use Rattle.define_draws.specs.Short.{shortened}
+use Rattle.define_draws.proofs.ShortRanges.{short_in_ranges, total_from_ranges}
+use Rattle.define_draws.proofs.Shortened.{agrees_shortened}
 use Rattle.sealed_draw.specs.Answers.{DrawSays, IsOfRow}
 use Rattle.sealed_draw.specs.declared.drawn.DrawStop.{DrawStop}
 use Rattle.sealed_draw.specs.declared.drawn.DrawStop.TheVariants.{SealDiffers, BadDigit, MoreDigits, OutOfMemory}

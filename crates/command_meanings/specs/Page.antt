@@ -5,7 +5,7 @@ use Rattle.std.specs.Prelude.{◌≡◌, ℕ, List, Option, Some, None, Ok}
 use Rattle.define_bundles.specs.BundleText.{Bundle}
 use Rattle.define_draws.specs.Draw.{Drawn, draw}
 use Rattle.define_pools.specs.Lottery.{Lottery, TotalAgrees}
-use Rattle.define_short_draws.specs.Short.{shortened}
+use Rattle.define_draws.specs.Short.{shortened}
 use Rattle.bundle_page.specs.Page.{drawn_page_text, page_text}
 use Rattle.command_shell.specs.Answers.{RightAnswers, no_answer}
 use Rattle.command_meanings.specs.ShortDraw.{ShortDrawMeans}

@@ -4,7 +4,7 @@ use Rattle.std.specs.Prelude.{◌≡◌, ℕ, List, Ok, Err}
 use Rattle.define_pools.specs.Lottery.{TotalAgrees}
 use Rattle.define_bundles.specs.BundleText.{Bundle}
 use Rattle.define_draws.specs.Draw.{Drawn, Refused, draw}
-use Rattle.define_short_draws.specs.Short.{shortened}
+use Rattle.define_draws.specs.Short.{shortened}
 use Rattle.command_shell.specs.Answers.{RightAnswers, no_answer}
 use Rattle.command_meanings.specs.Draw.{HasWrongTotal, drawn_lines, refused_draw_line}
 use Rattle.command_meanings.specs.Seal.{bundle_seal}

@@ -30,7 +30,7 @@ use Rattle.define_pools.specs.Pool.{Pool, panels}
 use Rattle.define_proofs.specs.ProofText.{IsProof, proof_spelling}
 use Rattle.define_rows.specs.Table.{Table}
 use Rattle.define_runs.specs.Run.{Ending, RunEnds, RunFinds}
-use Rattle.define_short_draws.specs.Short.{shortened}
+use Rattle.define_draws.specs.Short.{shortened}
 use Rattle.office_core.specs.Acting.{IsLoaded}
 use Rattle.command_shell.specs.declared.status.Printed.{Printed}
 use Rattle.command_shell.specs.Answers.{IsRight, IsTheAnswer, Prints, Saying}

@@ -3,7 +3,7 @@
 use Rattle.std.specs.Prelude.{ℕ, List}
 use Rattle.define_bundles.specs.BundleText.{Bundle}
 use Rattle.define_lines.specs.Lines.{text_of}
-use Rattle.define_short_draws.specs.ShortBundle.{shortened_bundle}
+use Rattle.define_draws.specs.ShortBundle.{shortened_bundle}
 use Rattle.command_questions.specs.declared.questions.Question.{Question}
 use Rattle.command_questions.specs.declared.questions.Question.TheVariants.{Chances, Dice, InTickets, Tickets}
 use Rattle.command_questions.specs.Chances.{lines_of_chances}

@@ -1,5 +1,5 @@
 -- What is printed about a bundle in a round number of tickets. Builds on Dice and Tickets. `short` is the bundle whose lottery is shortened
--- (`shortened_bundle` of `define_short_draws`).
+-- (`shortened_bundle` of `define_draws`).
 use Rattle.std.specs.Prelude.{ℕ, List, ◌∷◌, codes, map}
 use Rattle.define_bundles.specs.BundleText.{Bundle, panel_line}
 use Rattle.define_made_pools.specs.Summary.{number_line}

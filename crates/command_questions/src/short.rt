@@ -4,7 +4,7 @@ ghost use Rattle.std.specs.Prelude.{◌≡◌, ◌++◌, ◌∷◌, [], map, IfO
 ghost use Rattle.define_bundles.specs.BundleText.{panel_line};
 ghost use Rattle.define_lines.specs.Lines.{text_of};
 ghost use Rattle.define_pools.specs.Lottery.{TotalAgrees};
-ghost use Rattle.define_short_draws.specs.ShortBundle.{shortened_bundle};
+ghost use Rattle.define_draws.specs.ShortBundle.{shortened_bundle};
 ghost use Rattle.command_questions.specs.Short.{lines_in_tickets, short_lines};
 
 use crate::dice::{dice_text, push_number};

@@ -1,3 +1,11 @@
 pub mod TicketLemmas
 pub mod DiceLemmas
 pub mod DrawLemmas
+pub mod ByPlace
+pub mod Ranks
+pub mod Rows
+pub mod Totals
+pub mod Tickets
+pub mod Nearest
+pub mod Shortened
+pub mod ShortRanges

@@ -1,6 +1,6 @@
 //! A public draw: the tickets of a lottery's rows, which ticket the digits of dice name, seals, and what is drawn. The definitions are in
 //! `specs/`. Stands on `define_pools` and the toolchain's definition of SHA-256. Used by `tickets`, which reads dice and finds rows;
-//! `sealed_draw`, which draws; `define_short_draws`, which shortens lotteries; `define_made_pools`, whose summary has a seal;
+//! `sealed_draw`, which draws; `define_draws`, which shortens lotteries; `define_made_pools`, whose summary has a seal;
 //! `define_offices`, whose rounds are sealed and drawn in this way; `define_desk`, which finds a volunteer by the digest of a key;
 //! `define_reports`, whose reports show draws; the crates that compute by these definitions; the commands about seals, draws and dice; and
 //! the proofs of `laws_of_offices` and `command_office`.
@@ -8,6 +8,8 @@
 //! The functions have no body: their contracts are laws over the definitions, and worked examples. The promise that matters most is
 //! `dice_are_fair`.
 #![tactic(auto)]
+
+pub mod short;
 
 ghost use Rattle.std.specs.Prelude.{◌≡◌, ◌↔◌, ◌≤◌, ◌<◌, ◌+◌, ◌*◌, ◌^◌, ℕ, List, [], ◌∷◌, codes, filter, length, map, slice_index, sum, IsTrue, Ok, Err, pos};
 ghost use Rattle.std.specs.Char.{to_ascii_lowercase};

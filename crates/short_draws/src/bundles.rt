@@ -2,7 +2,7 @@
 
 ghost use Rattle.std.specs.Prelude.{◌≡◌, ◌^◌, ◌≤ℤ◌, pos, unsigned_abs, IfOk};
 ghost use Rattle.define_pools.specs.Lottery.{TotalAgrees};
-ghost use Rattle.define_short_draws.specs.ShortBundle.{shortened_bundle};
+ghost use Rattle.define_draws.specs.ShortBundle.{shortened_bundle};
 
 use bundle_text::Bundle;
 use pool_model::Answer;

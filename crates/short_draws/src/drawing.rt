@@ -2,7 +2,7 @@
 
 ghost use Rattle.std.specs.Prelude.{◌^◌, ◌≤ℤ◌, pos, unsigned_abs, IfOk};
 ghost use Rattle.define_pools.specs.Lottery.{TotalAgrees};
-ghost use Rattle.define_short_draws.specs.Short.{shortened};
+ghost use Rattle.define_draws.specs.Short.{shortened};
 ghost use Rattle.sealed_draw.specs.Answers.{DrawSays, IsOfRow};
 
 use crate::bundles::short_bundle;

@@ -7,8 +7,8 @@ use Rattle.std.proofs.lemmas.List.{get_or-drop, get_or-take, get_or_default, len
 use Rattle.std.proofs.lemmas.List.Sorted.{length_permutation, sum_by-IsPermutation}
 use Rattle.std.proofs.lemmas.List.Sums.{count_by-le-length, sum_by-cons, sum_by-take-drop}
 use Rattle.define_pools.proofs.Sums.{one_if}
-use Rattle.define_short_draws.specs.Short.{is_among_first}
-use Rattle.define_short_draws.proofs.Ranks.{IsLine, above, at_least, at_least-split, given_by_line, on}
+use Rattle.define_draws.specs.Short.{is_among_first}
+use Rattle.define_draws.proofs.Ranks.{IsLine, above, at_least, at_least-split, given_by_line, on}
 use Rattle.short_tickets.specs.declared.lines.Line.{Line}
 use Rattle.short_tickets.specs.Parts.{IsLineFor}
 

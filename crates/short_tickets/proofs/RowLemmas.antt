@@ -8,8 +8,8 @@ use Rattle.std.proofs.lemmas.List.FromFn.{get_or-map-range_with_len, length-map-
 use Rattle.std.proofs.lemmas.List.Sums.{sum_by-cons}
 use Rattle.define_pools.proofs.Each.{each_at, each_from_list_all}
 use Rattle.define_pools.specs.Lottery.{Lottery, LotteryRow, TotalAgrees}
-use Rattle.define_short_draws.specs.Short.{rows_with_tickets, shortened, tickets_at, tickets_by_weight}
-use Rattle.define_short_draws.proofs.Shortened.{agrees_shortened}
+use Rattle.define_draws.specs.Short.{rows_with_tickets, shortened, tickets_at, tickets_by_weight}
+use Rattle.define_draws.proofs.Shortened.{agrees_shortened}
 use Rattle.short_tickets.specs.Parts.{AreWithin, weights_in}
 
 pub weight_within : (total : ℕ) (rows : List LotteryRow) (place : ℕ) (row : LotteryRow) → AreWithin total rows → place < length rows → row ≡ get_or rows place row → row.weight ≤ total

@@ -2,7 +2,7 @@
 use Rattle.std.proofs.Common.{◌≡◌, ℕ, ◌+◌, ◌*◌, ◌/◌, ◌%◌, ◌<◌, ◌≤◌, sym, ap, ◌∙◌, arith}
 use Rattle.std.proofs.lemmas.Nat.{div-mul-add, mod-mul-add}
 use Rattle.std.proofs.Math.Nat.{mul-le-mul_right}
-use Rattle.define_short_draws.proofs.ByPlace.{le_unscaled}
+use Rattle.define_draws.proofs.ByPlace.{le_unscaled}
 use Rattle.short_tickets.specs.declared.shares.Share.{Share}
 use Rattle.short_tickets.specs.Parts.{IsShare}
 

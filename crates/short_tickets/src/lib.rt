@@ -1,7 +1,7 @@
-//! Shortens a lottery to a round number of tickets, so that a hall can draw with fewer dice. Stands on `define_short_draws`, which says how
+//! Shortens a lottery to a round number of tickets, so that a hall can draw with fewer dice. Stands on `define_draws`, which says how
 //! many tickets each panel gets, and on the lotteries of `pool_model`. Used by `short_draws`.
 //!
-//! Promises: `shorten` returns exactly what the definition says. The laws of `define_short_draws` say how near that is to the lottery.
+//! Promises: `shorten` returns exactly what the definition says. The laws of `define_draws` say how near that is to the lottery.
 #![tactic(auto)]
 
 mod lines;

@@ -1,7 +1,7 @@
 //! The rows of a lottery with their tickets.
 
 ghost use Rattle.std.specs.Prelude.{◌≡◌, ◌≤◌, ◌+◌, ◌-◌, ◌^◌, ◌==◌, ◌||◌, ◌&&◌, ◌++◌, ◌∷◌, [], if◌then◌else◌, length, map, nat_lt, sum, IfOk, OnOk};
-ghost use Rattle.define_short_draws.specs.Short.{remainder, rows_with_tickets as words_of_rows, tickets_by_weight, tickets_left};
+ghost use Rattle.define_draws.specs.Short.{remainder, rows_with_tickets as words_of_rows, tickets_by_weight, tickets_left};
 ghost use Rattle.short_tickets.specs.Parts.{AreWithin, IsLineFor, weights_in};
 
 use crate::lines::Line;

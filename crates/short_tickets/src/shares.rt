@@ -1,7 +1,7 @@
 //! The share of a row: its weight over the total, times the number of tickets, as a whole number and a remainder.
 
 ghost use Rattle.std.specs.Prelude.{◌≡◌, ◌<◌, ◌≤◌, ◌+◌, ◌*◌, ◌^◌};
-ghost use Rattle.define_short_draws.specs.Short.{remainder, whole_tickets};
+ghost use Rattle.define_draws.specs.Short.{remainder, whole_tickets};
 ghost use Rattle.short_tickets.specs.Parts.{IsShare};
 
 use pool_model::LotteryRow;

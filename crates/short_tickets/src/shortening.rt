@@ -2,7 +2,7 @@
 
 ghost use Rattle.std.specs.Prelude.{◌≡◌, ◌≤◌, ◌^◌, ◌≤ℤ◌, pos, unsigned_abs, IfOk};
 ghost use Rattle.define_pools.specs.Lottery.{TotalAgrees};
-ghost use Rattle.define_short_draws.specs.Short.{shortened};
+ghost use Rattle.define_draws.specs.Short.{shortened};
 
 use crate::lines::line_for;
 use crate::rows::{left_of, remainders_of, rows_with_tickets};

@@ -9,7 +9,7 @@ use Rattle.define_pools.specs.Pool.{Pool}
 use Rattle.command_shell.specs.Answers.{saying}
 use Rattle.define_draws.specs.Draw.{Drawn, draw}
 use Rattle.define_draws.specs.Seal.{seal_of}
-use Rattle.define_short_draws.specs.Short.{shortened}
+use Rattle.define_draws.specs.Short.{shortened}
 use Rattle.command_meanings.specs.Lines.{panel_line}
 use Rattle.command_meanings.specs.Draw.{ticket_line}
 use Rattle.command_meanings.specs.Seal.{bundle_seal}

@@ -6,8 +6,8 @@ use Rattle.define_bundles.specs.Ranges.{IsInRanges}
 use Rattle.define_pools.specs.Certificate.{Answer, Stage}
 use Rattle.define_pools.specs.Lottery.{Lottery, TotalAgrees}
 use Rattle.define_pools.specs.Pool.{Pool}
-use Rattle.define_short_draws.specs.Short.{shortened}
-use Rattle.define_short_draws.proofs.ShortRanges.{short_in_ranges}
+use Rattle.define_draws.specs.Short.{shortened}
+use Rattle.define_draws.proofs.ShortRanges.{short_in_ranges}
 use Rattle.short_draws.proofs.bundles.short_bundle.Goals as goal
 
 -- the shortened lottery of a bundle, with the bundle's pool and stages, is in the ranges of a bundle

@@ -2,7 +2,7 @@ use Rattle.std.proofs.Common.{◌≡◌, ◌-◌, ◌≤◌, get_or, max, length
 use Rattle.std.specs.List.Sorted.{IsNonDecreasingBy, IsPermutation}
 use Rattle.std.proofs.lemmas.List.{get_or_default}
 use Rattle.std.proofs.lemmas.List.Sorted.{IsNonDecreasingBy-from_sort, length_permutation}
-use Rattle.define_short_draws.proofs.Ranks.{IsLine, above}
+use Rattle.define_draws.proofs.Ranks.{IsLine, above}
 use Rattle.short_tickets.proofs.LineLemmas.{is_line_for, line_in_order}
 use Rattle.short_tickets.proofs.lines.line_for.Goals as goal
 

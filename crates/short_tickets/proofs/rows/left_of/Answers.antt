@@ -5,8 +5,8 @@ use Rattle.std.proofs.lemmas.List.{length-map, take_all}
 use Rattle.std.proofs.lemmas.List.Sums.{sum-map, sum_by_more, sum_by_more_le}
 use Rattle.define_pools.specs.Lottery.{LotteryRow}
 use Rattle.define_draws.proofs.TicketLemmas.{weight_at}
-use Rattle.define_short_draws.specs.Short.{remainder, tickets_left, whole_tickets}
-use Rattle.define_short_draws.proofs.Tickets.{left-le-length, wholes_within}
+use Rattle.define_draws.specs.Short.{remainder, tickets_left, whole_tickets}
+use Rattle.define_draws.proofs.Tickets.{left-le-length, wholes_within}
 use Rattle.short_tickets.specs.Parts.{weights_in}
 use Rattle.short_tickets.proofs.rows.left_of.Goals as goal
 

@@ -1,6 +1,6 @@
 use Rattle.std.proofs.Common.{◌≡◌, ◌+◌, take}
 use Rattle.std.specs.List.{sum_by}
-use Rattle.define_short_draws.specs.Short.{whole_tickets}
+use Rattle.define_draws.specs.Short.{whole_tickets}
 use Rattle.short_tickets.specs.Parts.{weights_in}
 use Rattle.short_tickets.proofs.rows.left_of.Given as goal
 

@@ -2,7 +2,7 @@ use Rattle.std.proofs.Common.{◌≡◌, ◌<◌, ◌++◌, ◌∷◌, [], ℕ, 
 use Rattle.std.proofs.lemmas.List.{length-map, map_more}
 use Rattle.define_pools.specs.Lottery.{LotteryRow}
 use Rattle.define_draws.proofs.TicketLemmas.{weight_at}
-use Rattle.define_short_draws.specs.Short.{remainder}
+use Rattle.define_draws.specs.Short.{remainder}
 use Rattle.short_tickets.specs.Parts.{weights_in}
 use Rattle.short_tickets.proofs.rows.remainders_of.Goals as goal
 

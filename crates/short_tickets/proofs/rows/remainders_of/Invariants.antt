@@ -1,5 +1,5 @@
 use Rattle.std.proofs.Common.{◌≡◌, map, take}
-use Rattle.define_short_draws.specs.Short.{remainder}
+use Rattle.define_draws.specs.Short.{remainder}
 use Rattle.short_tickets.specs.Parts.{weights_in}
 use Rattle.short_tickets.proofs.rows.remainders_of.Given as goal
 

@@ -4,8 +4,8 @@ use Rattle.std.proofs.lemmas.List.Sums.{sum_by_more}
 use Rattle.define_pools.proofs.Sums.{one_if}
 use Rattle.define_pools.specs.Lottery.{LotteryRow}
 use Rattle.define_draws.proofs.TicketLemmas.{weight_at}
-use Rattle.define_short_draws.specs.Short.{is_among_first, remainder, rows_with_tickets, tickets_by_weight, tickets_left, whole_tickets}
-use Rattle.define_short_draws.proofs.Ranks.{on}
+use Rattle.define_draws.specs.Short.{is_among_first, remainder, rows_with_tickets, tickets_by_weight, tickets_left, whole_tickets}
+use Rattle.define_draws.proofs.Ranks.{on}
 use Rattle.short_tickets.specs.Parts.{weights_in}
 use Rattle.short_tickets.proofs.LineLemmas.{gives_is}
 use Rattle.short_tickets.proofs.RowLemmas.{all_rows, length-tickets, rows_more, tickets_are, with_count}

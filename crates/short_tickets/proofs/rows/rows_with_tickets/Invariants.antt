@@ -1,6 +1,6 @@
 use Rattle.std.proofs.Common.{◌≡◌, ◌-◌, map, take}
-use Rattle.define_short_draws.specs.Short.{remainder, rows_with_tickets, tickets_by_weight}
-use Rattle.define_short_draws.proofs.Ranks.{on}
+use Rattle.define_draws.specs.Short.{remainder, rows_with_tickets, tickets_by_weight}
+use Rattle.define_draws.proofs.Ranks.{on}
 use Rattle.short_tickets.specs.Parts.{weights_in}
 use Rattle.short_tickets.proofs.rows.rows_with_tickets.Given as goal
 

@@ -9,8 +9,8 @@ use Rattle.define_draws.specs.Tickets.{weights_of}
 use Rattle.define_pools.specs.Certificate.{Answer}
 use Rattle.define_pools.specs.Lottery.{Lottery, LotteryRow, TotalAgrees}
 use Rattle.define_pools.specs.Pool.{Pool}
-use Rattle.define_short_draws.specs.Short.{shortened, tickets_by_weight}
-use Rattle.define_short_draws.proofs.Rows.{kept_pass, rows_from_weight}
+use Rattle.define_draws.specs.Short.{shortened, tickets_by_weight}
+use Rattle.define_draws.proofs.Rows.{kept_pass, rows_from_weight}
 
 -- if the weights of rows are at least 1 and sum to at most 10^38, and `is_group` is true of each panel, `is_row` is true of each row
 rows_in_range : (volunteers : ℕ) (rows : List LotteryRow) → list_all (λ (row : LotteryRow). leb 1 row.weight) rows ≡ true →

@@ -8,8 +8,8 @@ use Rattle.define_draws.proofs.TicketLemmas.{sum-cons}
 use Rattle.define_pools.specs.Lists.{all_different, includes, includes_list}
 use Rattle.define_pools.specs.Lottery.{LotteryRow}
 use Rattle.define_pools.proofs.Weights.{counted}
-use Rattle.define_short_draws.specs.Short.{rows_with_tickets}
-use Rattle.define_short_draws.specs.Shares.{distance}
+use Rattle.define_draws.specs.Short.{rows_with_tickets}
+use Rattle.define_draws.specs.Shares.{distance}
 
 abbrev with_count : LotteryRow → ℕ → LotteryRow
 with_count row count = record { panel = row.panel; weight = count }

@@ -8,11 +8,11 @@ use Rattle.std.proofs.lemmas.List.FromFn.{get_or-map-range_with_len, length-rang
 use Rattle.std.proofs.lemmas.List.Sums.{sum-map}
 use Rattle.std.proofs.lemmas.Nat.{mod_below}
 use Rattle.std.proofs.Math.Nat.{mul-le-mul_right}
-use Rattle.define_short_draws.specs.Short.{is_among_first, remainder, rows_before, tickets_at, tickets_by_weight, whole_tickets}
-use Rattle.define_short_draws.specs.Shares.{distance, distance_from_share, distance_from_shares}
-use Rattle.define_short_draws.proofs.ByPlace.{below, below-add, below-scaled, below-whole, below_le, below_same, sum-places, sum_by-places}
-use Rattle.define_short_draws.proofs.Ranks.{IsLine, above_is_first, below_is_not}
-use Rattle.define_short_draws.proofs.Tickets.{left, line_of, remainder_at, remainders, share_parts, sum-tickets}
+use Rattle.define_draws.specs.Short.{is_among_first, remainder, rows_before, tickets_at, tickets_by_weight, whole_tickets}
+use Rattle.define_draws.specs.Shares.{distance, distance_from_share, distance_from_shares}
+use Rattle.define_draws.proofs.ByPlace.{below, below-add, below-scaled, below-whole, below_le, below_same, sum-places, sum_by-places}
+use Rattle.define_draws.proofs.Ranks.{IsLine, above_is_first, below_is_not}
+use Rattle.define_draws.proofs.Tickets.{left, line_of, remainder_at, remainders, share_parts, sum-tickets}
 
 -- ---- the best number of tickets for one row
 

@@ -5,17 +5,15 @@
 //!
 //! The functions have no body: their contracts are laws over the definitions, and worked examples. That a shortened lottery is leximin
 //! greatest is not promised: `no_list_is_nearer` says how near it is, and `chances_move_little` how far a volunteer's chance may move.
-#![tactic(auto)]
-
 ghost use Rattle.std.specs.Prelude.{◌≡◌, ◌<◌, ◌≤◌, ◌+◌, ◌*◌, ◌⊎◌, ℕ, List, [], ◌∷◌, Ok, Err, codes, length, map, slice_index, sum, IsTrue, IsFalse};
 ghost use Rattle.define_draws.specs.Draw.{Refused, draw};
 ghost use Rattle.define_draws.specs.Tickets.{weights_of};
 ghost use Rattle.define_pools.specs.Lottery.{Lottery, IsLottery, TotalAgrees, count};
 ghost use Rattle.define_pools.specs.Pool.{Pool};
 ghost use Rattle.define_pools.specs.WorkedExamples.{row};
-ghost use Rattle.define_short_draws.specs.Shares.{distance, distance_from_share, distance_from_shares, panels_with};
-ghost use Rattle.define_short_draws.specs.Short.{is_among_first, shortened, tickets_at, tickets_by_weight};
-ghost use Rattle.define_short_draws.specs.WorkedShort.{two_by_three};
+ghost use Rattle.define_draws.specs.Shares.{distance, distance_from_share, distance_from_shares, panels_with};
+ghost use Rattle.define_draws.specs.Short.{is_among_first, shortened, tickets_at, tickets_by_weight};
+ghost use Rattle.define_draws.specs.WorkedShort.{two_by_three};
 
 /// The tickets of all rows sum to the number of tickets. Each row's tickets are its share, rounded down or up.
 pub fn tickets_sum()

@@ -1,7 +1,7 @@
 use Rattle.std.proofs.lemmas.Bool.{ltb-false, ltb-true}
-use Rattle.define_short_draws.specs.Short.{rows_before}
-use Rattle.define_short_draws.proofs.Ranks.{first_by_remainder}
-use Rattle.define_short_draws.proofs.greatest_remainders_first.Goals as goal
+use Rattle.define_draws.specs.Short.{rows_before}
+use Rattle.define_draws.proofs.Ranks.{first_by_remainder}
+use Rattle.define_draws.proofs.short.greatest_remainders_first.Goals as goal
 
 pub returns : goal.returns
 returns c left remainders first second in_first in_second comes stays =

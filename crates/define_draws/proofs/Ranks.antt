@@ -6,8 +6,8 @@ use Rattle.std.proofs.lemmas.Bool.{cases_lt, cases_order, eq-eqb, eqb-true, le-l
 use Rattle.std.proofs.lemmas.List.{take-take, take_all}
 use Rattle.std.proofs.lemmas.List.Sums.{sum_by-cons, sum_by-drop_more, sum_by-le-sum_by, sum_by-take-drop, sum_by-take-le, sum_by_more}
 use Rattle.define_pools.proofs.Sums.{one_if}
-use Rattle.define_short_draws.specs.Short.{is_among_first, rows_before}
-use Rattle.define_short_draws.proofs.ByPlace.{below}
+use Rattle.define_draws.specs.Short.{is_among_first, rows_before}
+use Rattle.define_draws.proofs.ByPlace.{below}
 
 -- ---- how many numbers are above a line, and how many on it
 

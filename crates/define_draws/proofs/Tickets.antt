@@ -9,10 +9,10 @@ use Rattle.std.proofs.lemmas.Nat.{div-add-mod', mod_below}
 use Rattle.std.proofs.Math.Nat.{mul-le-mul_right}
 use Rattle.define_pools.proofs.Sums.{one_if}
 use Rattle.define_draws.proofs.TicketLemmas.{sum-cons}
-use Rattle.define_short_draws.specs.Short.{is_among_first, remainder, rows_before, tickets_at, tickets_by_weight, tickets_left, whole_tickets}
-use Rattle.define_short_draws.specs.Shares.{distance_from_share}
-use Rattle.define_short_draws.proofs.ByPlace.{below, below-add, below-whole, below_same, le_unscaled, sum-places}
-use Rattle.define_short_draws.proofs.Ranks.{IsLine, above, at_least, count_le, count_split, find_line, given_all}
+use Rattle.define_draws.specs.Short.{is_among_first, remainder, rows_before, tickets_at, tickets_by_weight, tickets_left, whole_tickets}
+use Rattle.define_draws.specs.Shares.{distance_from_share}
+use Rattle.define_draws.proofs.ByPlace.{below, below-add, below-whole, below_same, le_unscaled, sum-places}
+use Rattle.define_draws.proofs.Ranks.{IsLine, above, at_least, count_le, count_split, find_line, given_all}
 
 -- the whole tickets times the total, plus the remainder, are the row's share times the total
 pub share_parts : (total tickets weight : ℕ) → whole_tickets total tickets weight * total + remainder total tickets weight ≡ weight * tickets

@@ -2,7 +2,7 @@
 -- Short, and on BundleText of `define_bundles`.
 use Rattle.std.specs.Prelude.{ℕ}
 use Rattle.define_bundles.specs.BundleText.{Bundle}
-use Rattle.define_short_draws.specs.Short.{shortened}
+use Rattle.define_draws.specs.Short.{shortened}
 
 abbrev pub shortened_bundle : Bundle → ℕ → Bundle
 shortened_bundle bundle tickets = record {

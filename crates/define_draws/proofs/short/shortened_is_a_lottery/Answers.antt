@@ -1,5 +1,5 @@
-use Rattle.define_short_draws.proofs.Shortened.{agrees_shortened, is_lottery_shortened}
-use Rattle.define_short_draws.proofs.shortened_is_a_lottery.Goals as goal
+use Rattle.define_draws.proofs.Shortened.{agrees_shortened, is_lottery_shortened}
+use Rattle.define_draws.proofs.short.shortened_is_a_lottery.Goals as goal
 
 pub returns-clause-agrees : goal.returns-clause-agrees
 returns-clause-agrees c = agrees_shortened

@@ -9,11 +9,11 @@ use Rattle.define_pools.specs.Lottery.{IsLottery, Lottery, LotteryRow, TotalAgre
 use Rattle.define_pools.specs.Pool.{Pool, is_quota_panel}
 use Rattle.define_pools.proofs.Greatest.{count-is}
 use Rattle.define_pools.proofs.Weights.{counted}
-use Rattle.define_short_draws.specs.Shares.{distance, distance_from_share, panels_with}
-use Rattle.define_short_draws.specs.Short.{rows_with_tickets, shortened, tickets_at, tickets_by_weight}
-use Rattle.define_short_draws.proofs.Rows.{counted-moves, kept_differ, kept_have_tickets, kept_pass, rows_from_weight, sum-kept, weight_from_rows}
-use Rattle.define_short_draws.proofs.Tickets.{near_share, sum-tickets}
-use Rattle.define_short_draws.proofs.Totals.{total_is}
+use Rattle.define_draws.specs.Shares.{distance, distance_from_share, panels_with}
+use Rattle.define_draws.specs.Short.{rows_with_tickets, shortened, tickets_at, tickets_by_weight}
+use Rattle.define_draws.proofs.Rows.{counted-moves, kept_differ, kept_have_tickets, kept_pass, rows_from_weight, sum-kept, weight_from_rows}
+use Rattle.define_draws.proofs.Tickets.{near_share, sum-tickets}
+use Rattle.define_draws.proofs.Totals.{total_is}
 
 pub length-tickets : (lottery : Lottery) (tickets : ℕ) → length (tickets_by_weight lottery.total tickets (weights_of lottery)) ≡ length lottery.rows
 length-tickets lottery tickets =

@@ -1,4 +1,0 @@
-pub mod Short
-pub mod ShortBundle
-pub mod Shares
-pub mod WorkedShort
