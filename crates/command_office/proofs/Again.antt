@@ -13,8 +13,8 @@ use Rattle.define_offices.specs.Facts.{IsCommand, IsTables}
 use Rattle.define_offices.specs.Repeats.{CharterAgain, RepeatsChangeNothing as OthersAgain, RulesAgain}
 use Rattle.define_offices.specs.Steps.{AtOnce, ByRun, Comes, LeadThrough, applied, apply, tables_after}
 use Rattle.define_offices.specs.Tables.{Entry, Tables}
-use Rattle.laws_of_offices.proofs.Later.{RowsStay, through_extends}
-use Rattle.laws_of_offices.proofs.Steps.{one_outcome}
+use Rattle.define_offices.proofs.Later.{RowsStay, through_extends}
+use Rattle.define_offices.proofs.Steps.{one_outcome}
 use Rattle.command_office.specs.Again.{HasOutcome, MayComeAgain, RepeatsChangeNothing, replied_again}
 
 has_outcome : (tables : Tables) (command : Command) (outcome : Outcome) → Comes tables command outcome → HasOutcome tables command outcome

@@ -16,7 +16,7 @@ use Rattle.define_offices.specs.Facts.{IsTables}
 use Rattle.define_offices.specs.Pools.{pool_of}
 use Rattle.define_offices.specs.Steps.{tables_after, withdrawn_at}
 use Rattle.define_offices.specs.Tables.{Entry, Tables}
-use Rattle.laws_of_offices.proofs.RowsAgain.{place_from}
+use Rattle.define_offices.proofs.RowsAgain.{place_from}
 use Rattle.office_http.specs.Visits.{EndsBy, FromBytes, FromTables, IsAttended, IsReply, NoMemory, RepliesTo, Unavailable, Visit}
 use Rattle.command_office.specs.Isolation.{ChangesOwnRow, ComeAlike, EndsWell, GoAlike, RowsStayButOwn, TellsNothingOfOthers, is_own_page}
 

@@ -19,8 +19,8 @@ use Rattle.define_offices.specs.Lines.{solved_line}
 use Rattle.define_offices.specs.Pools.{pool_of}
 use Rattle.define_offices.specs.Steps.{AtOnce, ByRun, Comes}
 use Rattle.define_offices.specs.Tables.{Drawn, Open, Round, Sealed, Solved, Tables, bundle_of, named_round}
-use Rattle.laws_of_offices.proofs.Pools.{pool_of_has}
-use Rattle.laws_of_offices.proofs.Steps.{same_pools}
+use Rattle.define_offices.proofs.Pools.{pool_of_has}
+use Rattle.define_offices.proofs.Steps.{same_pools}
 use Rattle.command_meanings.specs.ProvedRounds.{IsOpenWith}
 use Rattle.define_pools.proofs.LeximinParts.{leximin}
 use Rattle.command_office.proofs.SolvedRounds.{HadBundle, Opened, SettlesRound}

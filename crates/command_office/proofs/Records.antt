@@ -36,7 +36,7 @@ use Rattle.command_office.specs.declared.asked.Asked.{Asked}
 use Rattle.command_office.specs.declared.asked.Asked.TheVariants as asks
 use Rattle.command_office.specs.Records.{AreCalls, AreDone, Call, CallsAreRecorded, CommandsOf, DidIt, DidNone, DidOne, IsOfRound, IsReadFrom, Served, ServedAll, Unread, Unserved, VisitDid, VisitsDid, desk_commands, is_one_of, key_commands, page_commands, row_commands}
 use Rattle.command_office.proofs.Reading.{its_status}
-use Rattle.laws_of_offices.proofs.Certified.{folds_are_greatest}
+use Rattle.define_offices.proofs.Certified.{folds_are_greatest}
 
 -- ---- lists of commands
 

@@ -17,7 +17,7 @@ use Rattle.define_offices.specs.Facts.{IsTables}
 use Rattle.define_offices.specs.Pools.{pool_of}
 use Rattle.define_offices.specs.Steps.{AtOnce, ByRun, Comes}
 use Rattle.define_offices.specs.Tables.{Round, Open, Solved, Sealed, Drawn, Tables, bundle_of, named_round}
-use Rattle.laws_of_offices.proofs.Steps.{Answers, Leaves, Settles, Stays, solve_settles}
+use Rattle.define_offices.proofs.Steps.{Answers, Leaves, Settles, Stays, solve_settles}
 use Rattle.define_pools.specs.Leximin.{IsLeximin}
 use Rattle.define_pools.proofs.LeximinParts.{leximin}
 use Rattle.command_office.proofs.Plain.{solve_plain}

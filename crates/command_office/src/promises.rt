@@ -12,7 +12,7 @@ ghost use Rattle.command_office.specs.Records.{CallsAreRecorded};
 ghost use Rattle.command_office.specs.Workers.{WorkersChangeNothing};
 
 use command_stores::steps_answer_once;
-use laws_of_offices::repeats_change_nothing as commands_repeat;
+use define_offices::laws::repeats_change_nothing as commands_repeat;
 use office_desk::desk_is_isolated;
 
 /// Every call that satisfies the contract of `office` keeps the promises of `Headline`.

@@ -5,7 +5,7 @@ use Rattle.define_runs.specs.Run as run
 use Rattle.define_runs.specs.Run.{Ending, Limits}
 use Rattle.define_offices.specs.Commands.{Change, Command, Given, SetCharter, SetRules, Register, Solve, Keep, Seal, Draw, Drop, NextRound, Show, Withdraw, Lines, NoPanel, Outcome, Refuses, Replies, Stops, Unproved}
 use Rattle.define_offices.specs.Tables.{Tables}
-use Rattle.laws_of_offices.proofs.Steps.{one_outcome}
+use Rattle.define_offices.proofs.Steps.{one_outcome}
 use Rattle.define_imports.specs.Cells.{Fault}
 use Rattle.define_imports.specs.Registers.{ReadsRows}
 use Rattle.define_imports.specs.Rules.{ReadsRules}

@@ -6,7 +6,7 @@ use Rattle.define_offices.specs.Commands.{Command, Outcome, Refuses, Replies, St
 use Rattle.define_offices.specs.Facts.{IsCommand, IsTables}
 use Rattle.define_offices.specs.Steps.{Comes, Folds, applied, tables_after}
 use Rattle.define_offices.specs.Tables.{Tables}
-use Rattle.laws_of_offices.proofs.Steps.{comes_keeps, folds_grow}
+use Rattle.define_offices.proofs.Steps.{comes_keeps, folds_grow}
 use Rattle.office_steps.specs.Replies.{seen_refusal, seen_reply}
 use Rattle.office_steps.specs.declared.replies.Reply.{Reply}
 use Rattle.office_core.specs.Acting.{ActsOn, ActsOver, FailsAtStore, FailsInOrder, FailsInOrderOver, GoesOn, HasFault, HasOutcome, HasOutcomeOver, IsDone, IsLoaded, stop_of_decision, stop_of_keeper}

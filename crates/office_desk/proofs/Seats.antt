@@ -18,7 +18,7 @@ use Rattle.define_offices.specs.Deciding.{is_seated, is_seated_in, place_of_hash
 use Rattle.define_offices.specs.Facts.{IsTables, entry_ids}
 use Rattle.define_offices.specs.Pools.{after_withdrawals, drawn_of, has_withdrawn, next_pool, next_standing, numbers_of, open_pool, pool_after, pool_by, pool_if, pool_of, restood, standing_of, volunteer_of}
 use Rattle.define_offices.specs.Tables.{Charter, Entry, Round, Open, Solved, Sealed, Drawn, Tables, round_at}
-use Rattle.laws_of_offices.proofs.Pools.{length-restood}
+use Rattle.define_offices.proofs.Pools.{length-restood}
 
 -- ---- the elements of lists and of filtered ranges
 

@@ -1,7 +1,7 @@
 use Rattle.std.proofs.Common.{◌≡◌, ◌∙◌, subst, sym}
 use Rattle.define_bundles.specs.Ranges.{IsInRanges}
 use Rattle.define_pools.specs.Pool.{Pool}
-use Rattle.laws_of_offices.proofs.Steps.{same_pools}
+use Rattle.define_offices.proofs.Steps.{same_pools}
 use Rattle.office_core.proofs.solving.keep_answer.Goals as goal
 
 pub answered-requires : goal.answered-requires

@@ -6,7 +6,7 @@ use Rattle.define_pools.specs.Pool.{Category}
 use Rattle.define_offices.specs.Tables.{Entry, Round, Open, Solved, Sealed, Drawn, Tables, changed_at, changed_named, is_enrolling, named_round, round_at}
 use Rattle.define_offices.specs.Facts.{IsTables, KeepsRound, closed_but_last, entry_ids, has_drop, is_entry, rows_fit}
 use Rattle.define_offices.specs.Steps.{withdrawn_at}
-use Rattle.laws_of_offices.proofs.Rounds.{IsChanged, closed-changed, closed-push, round_at-changed, round_at-push}
+use Rattle.define_offices.proofs.Rounds.{IsChanged, closed-changed, closed-push, round_at-changed, round_at-push}
 
 -- the tables `new` have a charter if `old` have one, have rules if `old` have them, and have the same ids
 pub record HasSame (old new : Tables) : Type 0 where

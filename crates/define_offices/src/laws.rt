@@ -2,8 +2,6 @@
 //! command does when it is given again. Stands on `define_offices` and `laws_of_runs`. Used by `office_core`, `office_desk`,
 //! `office_pools`, `office_steps`, `command_stores` and `command_office`. The functions have no body: their contracts are the laws, and
 //! each is a promise.
-#![tactic(auto)]
-
 ghost use Rattle.define_offices.specs.Laws.{ChangesChange, CommandsHaveOutcomes, FoldsAreGreatest, FoldsAreTables, FoldsGrow, PoolsArePools, StepsAreFunctions, StepsKeepCertified, StepsKeepTables};
 ghost use Rattle.define_offices.specs.Repeats.{CharterAgain, RepeatsChangeNothing, RulesAgain};
 

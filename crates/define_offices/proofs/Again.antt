@@ -15,10 +15,10 @@ use Rattle.define_offices.specs.Facts.{IsCommand, IsTables}
 use Rattle.define_offices.specs.Lines.{charter_line, rules_line}
 use Rattle.define_offices.specs.Repeats.{IsRepeatable, reply_again}
 use Rattle.define_offices.specs.Steps.{AtOnce, ByRun, Comes, LeadThrough, apply, applied}
-use Rattle.laws_of_offices.proofs.Later.{Extends, through_extends}
-use Rattle.laws_of_offices.proofs.Repeats.{draw_again, drop_again, next_again, seal_again, settled_again}
-use Rattle.laws_of_offices.proofs.RowsAgain.{register_again, withdraw_again}
-use Rattle.laws_of_offices.proofs.Steps.{comes_keeps, proof_settles, solve_settles, through_keeps}
+use Rattle.define_offices.proofs.Later.{Extends, through_extends}
+use Rattle.define_offices.proofs.Repeats.{draw_again, drop_again, next_again, seal_again, settled_again}
+use Rattle.define_offices.proofs.RowsAgain.{register_again, withdraw_again}
+use Rattle.define_offices.proofs.Steps.{comes_keeps, proof_settles, solve_settles, through_keeps}
 
 -- ---- a charter or rules given again at once
 

@@ -20,8 +20,8 @@ use Rattle.define_offices.specs.Deciding.{Answered, Finds, FindsNone, IsDecided,
 use Rattle.define_offices.specs.Lines.{bundle_seal, drawn_lines, dropped_line, one_line, round_line, seal_line, solved_line}
 use Rattle.define_offices.specs.Pools.{drawn_of, drawn_or_nothing}
 use Rattle.define_offices.specs.Steps.{apply, drawn_by, dropped_out, seal_told, solved_with}
-use Rattle.laws_of_offices.proofs.Steps.{Answers, Leaves, Settles}
-use Rattle.laws_of_offices.proofs.Later.{Grows, StaysSolved, IsSealed, IsDrawn, StaysSealed, DrawnFrom, MoreDrops, RoundsGrow}
+use Rattle.define_offices.proofs.Steps.{Answers, Leaves, Settles}
+use Rattle.define_offices.proofs.Later.{Grows, StaysSolved, IsSealed, IsDrawn, StaysSealed, DrawnFrom, MoreDrops, RoundsGrow}
 
 same_bytes : (xs : List ℕ) → bytes_eq xs xs ≡ true
 same_bytes xs = (bytes_eq-Decides xs xs).1 refl

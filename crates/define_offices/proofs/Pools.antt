@@ -12,7 +12,7 @@ use Rattle.define_offices.specs.Tables.{Charter, Entry, Round, Open, Solved, Sea
 use Rattle.define_offices.specs.Deciding.{fits_rules}
 use Rattle.define_offices.specs.Facts.{IsTables, entry_ids, is_entry}
 use Rattle.define_offices.specs.Pools.{after_withdrawals, drawn_of, first_pool, next_pool, next_standing, numbers_of, open_pool, pool_after, pool_by, pool_if, pool_of, restood, restood_pool, round_pool, volunteer_of}
-use Rattle.laws_of_offices.proofs.Rounds.{drawn_before}
+use Rattle.define_offices.proofs.Rounds.{drawn_before}
 
 -- ---- if volunteers get other standings, nothing else of the pool changes
 

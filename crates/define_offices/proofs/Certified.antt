@@ -18,8 +18,8 @@ use Rattle.define_offices.specs.Facts.{AreCertified, AreGreatest, IsCommand, IsT
 use Rattle.define_offices.specs.Lines.{bundle_seal}
 use Rattle.define_offices.specs.Pools.{pool_of}
 use Rattle.define_offices.specs.Steps.{AtOnce, ByRun, Comes, Folds, LeadThrough, Leads, applied, drawn_by, dropped_out, seal_told, solved_with, tables_after}
-use Rattle.laws_of_offices.proofs.Rounds.{IsChanged, round_at-changed, round_at-push}
-use Rattle.laws_of_offices.proofs.Steps.{Answers, IsRight, Leaves, Settles, Stays, first_keeps, proof_settles, solve_settles, solve_stays, step_keeps}
+use Rattle.define_offices.proofs.Rounds.{IsChanged, round_at-changed, round_at-push}
+use Rattle.define_offices.proofs.Steps.{Answers, IsRight, Leaves, Settles, Stays, first_keeps, proof_settles, solve_settles, solve_stays, step_keeps}
 
 -- ---- which outcomes bring a bundle
 

@@ -17,8 +17,8 @@ use Rattle.define_offices.specs.Facts.{IsTables, rows_fit}
 use Rattle.define_offices.specs.Lines.{one_line, register_line}
 use Rattle.define_offices.specs.Pools.{pool_of}
 use Rattle.define_offices.specs.Steps.{apply, withdrawn_at}
-use Rattle.laws_of_offices.proofs.Later.{IsSameRow, RowsStay}
-use Rattle.laws_of_offices.proofs.Register.{IsSortedAs, row_case_new, sorted_first}
+use Rattle.define_offices.proofs.Later.{IsSameRow, RowsStay}
+use Rattle.define_offices.proofs.Register.{IsSortedAs, row_case_new, sorted_first}
 
 -- ---- tests of equality
 

@@ -22,8 +22,8 @@ use Rattle.define_offices.specs.Facts.{AreRules, IsTables, KeepsRound, has_drop,
 use Rattle.define_offices.specs.Lines.{bundle_seal, dropped_line}
 use Rattle.define_offices.specs.Pools.{pool_of}
 use Rattle.define_offices.specs.Steps.{applied, drawn_by, dropped_out, seal_told, tables_after}
-use Rattle.laws_of_offices.proofs.Changes.{changed_keeps, open_rounds, pushed_keeps, withdrawn_keeps}
-use Rattle.laws_of_offices.proofs.Register.{RowsKeep, late_adds_nothing, sorted_keep}
+use Rattle.define_offices.proofs.Changes.{changed_keeps, open_rounds, pushed_keeps, withdrawn_keeps}
+use Rattle.define_offices.proofs.Register.{RowsKeep, late_adds_nothing, sorted_keep}
 
 module _ (tables : Tables) (keeps : IsTables tables) where
   -- the facts hold of the tables after `outcome`

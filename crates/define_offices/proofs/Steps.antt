@@ -32,9 +32,9 @@ use Rattle.define_offices.specs.Facts.{IsCommand, IsTables, KeepsBundle, KeepsRo
 use Rattle.define_offices.specs.Lines.{solved_line}
 use Rattle.define_offices.specs.Pools.{pool_of}
 use Rattle.define_offices.specs.Steps.{Comes, AtOnce, ByRun, Folds, LeadThrough, Leads, solved_with, tables_after}
-use Rattle.laws_of_offices.proofs.Changes.{changed_keeps}
-use Rattle.laws_of_offices.proofs.Outcomes.{charter_keeps, draw_keeps, drop_keeps, next_keeps, register_keeps, rules_keep, seal_keeps, show_keeps, withdraw_keeps}
-use Rattle.laws_of_offices.proofs.Pools.{pool_of_has}
+use Rattle.define_offices.proofs.Changes.{changed_keeps}
+use Rattle.define_offices.proofs.Outcomes.{charter_keeps, draw_keeps, drop_keeps, next_keeps, register_keeps, rules_keep, seal_keeps, show_keeps, withdraw_keeps}
+use Rattle.define_offices.proofs.Pools.{pool_of_has}
 
 -- ---- answers that are certified and in the ranges of a bundle
 

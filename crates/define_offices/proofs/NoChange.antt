@@ -16,10 +16,10 @@ use Rattle.define_offices.specs.Facts.{IsCommand, IsTables}
 use Rattle.define_offices.specs.Lines.{bundle_seal}
 use Rattle.define_offices.specs.Pools.{pool_of}
 use Rattle.define_offices.specs.Steps.{AtOnce, ByRun, Comes, apply, drawn_by, dropped_out, seal_told, solved_with, withdrawn_at}
-use Rattle.laws_of_offices.proofs.Again.{rules_set_or_same, same_charter_itself, same_rules_itself, says, set_or_same, show_changes_nothing}
-use Rattle.laws_of_offices.proofs.Repeats.{begun, dropped_so, named_there, same_draw_changes_nothing}
-use Rattle.laws_of_offices.proofs.RowsAgain.{place_from, withdrawal}
-use Rattle.laws_of_offices.proofs.Steps.{Answers, Leaves, Settles, proof_settles, solve_settles}
+use Rattle.define_offices.proofs.Again.{rules_set_or_same, same_charter_itself, same_rules_itself, says, set_or_same, show_changes_nothing}
+use Rattle.define_offices.proofs.Repeats.{begun, dropped_so, named_there, same_draw_changes_nothing}
+use Rattle.define_offices.proofs.RowsAgain.{place_from, withdrawal}
+use Rattle.define_offices.proofs.Steps.{Answers, Leaves, Settles, proof_settles, solve_settles}
 
 -- ---- a list that got longer is a different list
 

@@ -1,5 +1,0 @@
-use Rattle.laws_of_offices.proofs.Steps.{one_outcome, some_outcome}
-use Rattle.laws_of_offices.proofs.steps_are_functions.Goals as goal
-
-pub returns : goal.returns
-returns c = record { some = some_outcome; one = one_outcome }
