@@ -1,5 +1,5 @@
 -- What the commands of the office answer, which is the outcome of the step over the tables; and the texts that are made of the tables.
--- Builds on `define_offices`, Report of `define_reports`, RoundPages and Lines. The contract of `office` cites it
+-- Builds on `define_offices`, Report of `define_offices`, RoundPages and Lines. The contract of `office` cites it
 -- with one line for all commands and one for all texts.
 use Rattle.std.specs.Prelude.{◌≡◌, ℕ, List, [], ◌∷◌, Option, Some, None, Result, Ok, Err}
 use Rattle.command_shell.specs.Answers.{Prints, Saying, Stops as StopsBy}
@@ -19,7 +19,7 @@ use Rattle.define_offices.specs.Lines.{rule_line}
 use Rattle.define_offices.specs.Pools.{pool_of}
 use Rattle.define_offices.specs.Steps.{Comes}
 use Rattle.define_offices.specs.Tables.{Tables}
-use Rattle.define_reports.specs.Report.{report_of}
+use Rattle.define_offices.specs.Report.{report_of}
 use Rattle.command_meanings.specs.RoundPages.{page_of}
 use Rattle.command_meanings.specs.declared.office.StoreText.{StoreText}
 use Rattle.command_meanings.specs.declared.office.RoundText.{RoundText}

@@ -2,7 +2,7 @@
 //! `specs/`. Stands on `define_pools` and the toolchain's definition of SHA-256. Used by `tickets`, which reads dice and finds rows;
 //! `sealed_draw`, which draws; `define_draws`, which shortens lotteries; `define_made_pools`, whose summary has a seal;
 //! `define_offices`, whose rounds are sealed and drawn in this way; `define_desk`, which finds a volunteer by the digest of a key;
-//! `define_reports`, whose reports show draws; the crates that compute by these definitions; the commands about seals, draws and dice; and
+//! `define_offices`, whose reports show draws; the crates that compute by these definitions; the commands about seals, draws and dice; and
 //! the proofs of `define_offices` and `command_office`.
 //!
 //! The functions have no body: their contracts are laws over the definitions, and worked examples. The promise that matters most is

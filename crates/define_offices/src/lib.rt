@@ -1,10 +1,11 @@
 //! The office as a small machine, in definitions: its tables and the facts that hold of them, its commands, what each command answers and
 //! changes, and the tables that a list of commands leaves. The definitions are in `specs/`. Stands on the definitions of pools, bundles,
 //! checks, draws, runs and proofs, and of their texts. `define_offices` proves laws over it; `define_desk`, `define_imports` and
-//! `define_reports` build on it; `rounds` and the `office_*` crates implement it; the commands about a store cite it. The functions have no
+//! `define_offices` build on it; `rounds` and the `office_*` crates implement it; the commands about a store cite it. The functions have no
 //! body: their contracts are worked examples, no promises.
 #![tactic(auto)]
 
+pub mod reports;
 pub mod laws;
 
 ghost use Rattle.std.specs.Prelude.{◌≡◌, ◌++◌, [], ◌∷◌, codes, Ok, Err, Some, None};

@@ -6,7 +6,7 @@ use Rattle.define_bundles.specs.BundleText.{Bundle}
 use Rattle.define_draws.specs.Draw as draws
 use Rattle.define_offices.specs.Facts.{IsTables, KeepsRound}
 use Rattle.define_offices.specs.Tables.{Round, Open, Solved, Sealed, Drawn, Tables, named_round}
-use Rattle.define_reports.specs.Report.{counted, not_gone}
+use Rattle.define_offices.specs.Report.{counted, not_gone}
 use Rattle.round_reports.specs.Rounds.{HasPool, IsDrawnIn, IsOfPool, KeepsDraw, counted_with}
 use Rattle.sealed_draw.specs.declared.drawn.Draw.{Draw}
 

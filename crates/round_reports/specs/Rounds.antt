@@ -1,4 +1,4 @@
--- What the steps of a report need of a round and find in it. Builds on Report of `define_reports`. The contracts of `reports` and of
+-- What the steps of a report need of a round and find in it. Builds on Report of `define_offices`. The contracts of `reports` and of
 -- `command_stores` cite it.
 use Rattle.std.specs.Prelude.{◌≡◌, ℕ, IsTrue, List, [], ◌∷◌, length, Option, Some, None, is_ok, Result, Ok, Err, Vec, ⊤}
 use Rattle.std.specs.Global.{Global}
@@ -9,7 +9,7 @@ use Rattle.define_bundles.specs.BundleText.{Bundle}
 use Rattle.define_draws.specs.Dice.{name_ticket}
 use Rattle.define_offices.specs.Commands as office
 use Rattle.define_offices.specs.Tables.{Round, Open, Solved, Sealed, Drawn, bundle_of}
-use Rattle.define_reports.specs.Report.{not_gone}
+use Rattle.define_offices.specs.Report.{not_gone}
 use Rattle.office_pools.specs.declared.PoolStop.{PoolStop}
 use Rattle.office_pools.specs.declared.PoolStop.TheVariants.{NoRound, Incomplete, OutOfMemory}
 use Rattle.round_reports.specs.Groups.{AreBelow}

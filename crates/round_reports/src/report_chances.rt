@@ -4,7 +4,7 @@ ghost use Rattle.std.specs.Prelude.{◌≡◌, ◌≤◌, ◌≤ℤ◌, ◌<ℤ�
 ghost use Rattle.frac128.specs.Fractions.{lowest_of};
 ghost use Rattle.define_lines.specs.Lines.{text_of};
 ghost use Rattle.define_pools.specs.Lottery.{TotalAgrees};
-ghost use Rattle.define_reports.specs.Report.{chance_line, chance_lines};
+ghost use Rattle.define_offices.specs.Report.{chance_line, chance_lines};
 
 use frac128::lowest;
 use pool_model::{Lottery, Name, Pool, chances};

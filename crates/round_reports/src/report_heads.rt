@@ -5,7 +5,7 @@ ghost use Rattle.define_lines.specs.Lines.{text_of};
 ghost use Rattle.define_bundles.specs.BundleText.{total_line};
 ghost use Rattle.define_offices.specs.Lines.{member_ids, phase_name as name_of_phase};
 ghost use Rattle.define_made_pools.specs.Summary.{number_line};
-ghost use Rattle.define_reports.specs.Report.{draw_lines, head_lines, lottery_lines, member_line, ticket_line};
+ghost use Rattle.define_offices.specs.Report.{draw_lines, head_lines, lottery_lines, member_line, ticket_line};
 ghost use Rattle.round_reports.specs.Groups.{AreBelow};
 
 use define_offices::Phase;

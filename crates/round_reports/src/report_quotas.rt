@@ -3,7 +3,7 @@
 ghost use Rattle.std.specs.Prelude.{◌≡◌, ◌++◌, ◌∷◌, [], length, map, true, IfOk, OnOk};
 ghost use Rattle.define_lines.specs.Lines.{text_of};
 ghost use Rattle.define_pools.specs.Pool.{allows, members_with};
-ghost use Rattle.define_reports.specs.Report.{not_gone as numbers_not_gone, numbers_with as numbers_of_groups, quota_line, quota_lines, value_lines};
+ghost use Rattle.define_offices.specs.Report.{not_gone as numbers_not_gone, numbers_with as numbers_of_groups, quota_line, quota_lines, value_lines};
 ghost use Rattle.round_reports.specs.Groups.{AreBelow, GroupsAreBelow};
 
 use pool_model::{BoundedValue, Category, Name, Pool, Standing, Volunteer};

@@ -2,7 +2,7 @@
 
 ghost use Rattle.std.specs.Prelude.{◌≡◌, ◌++◌, IfOk, OnOk};
 ghost use Rattle.define_lines.specs.Lines.{text_of};
-ghost use Rattle.define_reports.specs.Report.{bundle_lines, chance_lines_in, quota_lines, report_lines, report_of, seal_lines};
+ghost use Rattle.define_offices.specs.Report.{bundle_lines, chance_lines_in, quota_lines, report_lines, report_of, seal_lines};
 ghost use Rattle.round_reports.specs.Rounds.{HasPool, IsDrawnIn, IsOfPool, KeepsDraw, TellsReport, WeightsAgree, counted_with};
 
 use crate::report_chances::push_chances;

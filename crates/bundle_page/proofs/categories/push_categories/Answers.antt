@@ -1,6 +1,6 @@
 use Rattle.std.proofs.Common.{◌≡◌, ℕ, ◌<◌, List, get_or, length, ap, ◌∙◌, arith}
 use Rattle.define_pools.specs.Pool.{Category}
-use Rattle.define_reports.proofs.LineSteps.{lines_of_each}
+use Rattle.define_offices.proofs.LineSteps.{lines_of_each}
 use Rattle.bundle_page.specs.Page.{category_parts}
 use Rattle.bundle_page.proofs.categories.push_categories.Goals as goal
 

@@ -1,7 +1,7 @@
 use Rattle.std.proofs.Common.{◌≡◌, ℕ, ◌<◌, List, ◌++◌, get_or, length, ap, ◌∙◌, arith}
 use Rattle.define_lines.specs.Lines.{text_of}
 use Rattle.define_pools.specs.Pool.{BoundedValue}
-use Rattle.define_reports.proofs.LineSteps.{lines_of_each}
+use Rattle.define_offices.proofs.LineSteps.{lines_of_each}
 use Rattle.bundle_page.specs.Numbers.{share_of, sizes_of}
 use Rattle.bundle_page.specs.Page.{value_parts}
 use Rattle.bundle_page.proofs.categories.push_values.Goals as goal

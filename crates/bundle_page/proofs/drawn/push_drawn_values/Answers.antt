@@ -1,7 +1,7 @@
 use Rattle.std.proofs.Common.{◌≡◌, ℕ, ◌<◌, List, [], ◌∷◌, ◌++◌, get_or, length, ap, ◌∙◌, arith}
 use Rattle.define_lines.specs.Lines.{text_of}
 use Rattle.define_pools.specs.Pool.{BoundedValue, members_with}
-use Rattle.define_reports.proofs.LineSteps.{line_of_each}
+use Rattle.define_offices.proofs.LineSteps.{line_of_each}
 use Rattle.bundle_page.specs.Drawn.{drawn_line}
 use Rattle.bundle_page.proofs.drawn.push_drawn_values.Goals as goal
 

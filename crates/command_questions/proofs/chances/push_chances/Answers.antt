@@ -2,7 +2,7 @@ use Rattle.std.proofs.Common.{◌≡◌, ℕ, List, [], ◌∷◌, ◌++◌, ap,
 use Rattle.std.specs.Prelude.{slice_index}
 use Rattle.define_lines.specs.Lines.{text_of}
 use Rattle.define_pools.specs.Pool.{Volunteer}
-use Rattle.define_reports.proofs.LineSteps.{line_of_each}
+use Rattle.define_offices.proofs.LineSteps.{line_of_each}
 use Rattle.command_questions.specs.Chances.{chance_line}
 use Rattle.command_questions.proofs.chances.push_chances.Goals as goal
 

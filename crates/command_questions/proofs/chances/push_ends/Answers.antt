@@ -2,7 +2,7 @@ use Rattle.std.proofs.Common.{◌≡◌, [], ◌∷◌, ◌++◌, codes, ap, ◌
 use Rattle.std.proofs.lemmas.Result.{on_ok_weaker}
 use Rattle.define_lines.specs.Lines.{text_of}
 use Rattle.define_made_pools.specs.Summary.{greatest, least, number_line}
-use Rattle.define_reports.proofs.LineSteps.{lines_added}
+use Rattle.define_offices.proofs.LineSteps.{lines_added}
 use Rattle.command_questions.specs.Chances.{number_line_of, number_with}
 use Rattle.command_questions.proofs.chances.push_ends.Goals as goal
 

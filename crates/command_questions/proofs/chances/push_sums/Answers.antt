@@ -1,7 +1,7 @@
 use Rattle.std.proofs.Common.{◌≡◌, ℕ, ◌<◌, List, ◌++◌, get_or, length, ap, ◌∙◌, arith}
 use Rattle.define_lines.specs.Lines.{text_of}
 use Rattle.define_pools.specs.Pool.{Category}
-use Rattle.define_reports.proofs.LineSteps.{lines_of_each}
+use Rattle.define_offices.proofs.LineSteps.{lines_of_each}
 use Rattle.command_questions.specs.Chances.{value_lines}
 use Rattle.command_questions.proofs.chances.push_sums.Goals as goal
 

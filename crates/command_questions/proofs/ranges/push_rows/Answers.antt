@@ -4,7 +4,7 @@ use Rattle.std.proofs.lemmas.Int.{to_z-of_z}
 use Rattle.define_draws.specs.Tickets.{first_ticket, weights_of}
 use Rattle.define_lines.specs.Lines.{text_of}
 use Rattle.define_pools.specs.Lottery.{LotteryRow}
-use Rattle.define_reports.proofs.LineSteps.{line_of_each}
+use Rattle.define_offices.proofs.LineSteps.{line_of_each}
 use Rattle.command_questions.specs.Tickets.{row_line}
 use Rattle.command_questions.proofs.Rows.{row_members, row_next, row_some, row_tickets}
 use Rattle.command_questions.proofs.ranges.push_rows.Goals as goal

@@ -7,8 +7,8 @@ use Rattle.frac128.specs.Fractions.{lowest_of}
 use Rattle.define_lines.specs.Lines.{text_of}
 use Rattle.define_pools.specs.Lottery.{Lottery, count, counts}
 use Rattle.define_pools.specs.Pool.{Pool, Volunteer}
-use Rattle.define_reports.specs.Report.{chance_line}
-use Rattle.define_reports.proofs.VolunteerSteps.{chance_added, count_read}
+use Rattle.define_offices.specs.Report.{chance_line}
+use Rattle.define_offices.proofs.VolunteerSteps.{chance_added, count_read}
 use Rattle.round_reports.proofs.report_chances.push_chances.Goals as goal
 
 -- there is a count for each volunteer

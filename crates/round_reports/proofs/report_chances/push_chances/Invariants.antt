@@ -2,7 +2,7 @@ use Rattle.std.proofs.Common.{◌≡◌, ◌++◌, map}
 use Rattle.std.specs.List.{range_with_len}
 use Rattle.define_lines.specs.Lines.{text_of}
 use Rattle.define_pools.specs.Pool.{volunteer}
-use Rattle.define_reports.specs.Report.{chance_line, chance_of}
+use Rattle.define_offices.specs.Report.{chance_line, chance_of}
 use Rattle.round_reports.proofs.report_chances.push_chances.Given as goal
 
 -- the lines of the chances of the first `i` volunteers are appended

@@ -1,7 +1,7 @@
 use Rattle.std.proofs.Common.{◌≡◌, ◌++◌, map, take}
 use Rattle.define_lines.specs.Lines.{text_of}
 use Rattle.define_offices.specs.Lines.{member_ids}
-use Rattle.define_reports.specs.Report.{member_line}
+use Rattle.define_offices.specs.Report.{member_line}
 use Rattle.round_reports.proofs.report_heads.push_members.Given as goal
 
 -- the lines of the members so far are appended

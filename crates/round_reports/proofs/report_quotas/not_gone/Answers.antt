@@ -1,6 +1,6 @@
 use Rattle.std.proofs.Common.{◌≡◌, ℕ, ◌<◌, List, length, get_or, Vec, Global, ap, ◌∙◌, arith}
 use Rattle.define_pools.specs.Pool.{Volunteer}
-use Rattle.define_reports.proofs.VolunteerSteps.{gone_passed, here_added}
+use Rattle.define_offices.proofs.VolunteerSteps.{gone_passed, here_added}
 use Rattle.round_reports.proofs.report_quotas.not_gone.Goals as goal
 use Rattle.round_reports.proofs.report_quotas.not_gone.Goals.{then-may_be_chosen+in_ok-push, else-may_be_chosen}
 

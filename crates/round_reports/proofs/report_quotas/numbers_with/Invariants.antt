@@ -1,5 +1,5 @@
 use Rattle.std.proofs.Common.{◌≡◌, map, take}
-use Rattle.define_reports.specs.Report.{numbers_with}
+use Rattle.define_offices.specs.Report.{numbers_with}
 use Rattle.round_reports.proofs.report_quotas.numbers_with.Given as goal
 
 -- `numbers` has, for each group read so far, how many of its members have the value

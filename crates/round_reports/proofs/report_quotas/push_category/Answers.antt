@@ -1,8 +1,8 @@
 use Rattle.std.proofs.Common.{◌≡◌, ℕ, ◌<◌, List, [], ◌∷◌, ◌++◌, length, map, get_or, Bor, ap, ◌∙◌, arith}
 use Rattle.define_lines.specs.Lines.{text_of}
 use Rattle.define_pools.specs.Pool.{BoundedValue}
-use Rattle.define_reports.specs.Report.{numbers_with, quota_line}
-use Rattle.define_reports.proofs.LineSteps.{line_of_each}
+use Rattle.define_offices.specs.Report.{numbers_with, quota_line}
+use Rattle.define_offices.proofs.LineSteps.{line_of_each}
 use Rattle.round_reports.proofs.report_quotas.push_category.Goals as goal
 
 pub loop-value_place-preserved : goal.loop-value_place-preserved

@@ -1,7 +1,7 @@
 use Rattle.std.proofs.Common.{◌≡◌, ◌++◌, map, take}
 use Rattle.std.specs.List.{enumerate_from}
 use Rattle.define_lines.specs.Lines.{text_of}
-use Rattle.define_reports.specs.Report.{numbers_with, quota_line}
+use Rattle.define_offices.specs.Report.{numbers_with, quota_line}
 use Rattle.round_reports.proofs.report_quotas.push_category.Given as goal
 
 -- the lines of the values so far are appended

@@ -1,8 +1,8 @@
 use Rattle.std.proofs.Common.{◌≡◌, ℕ, ◌<◌, List, ◌++◌, length, map, get_or, Bor, ap, ◌∙◌, arith}
 use Rattle.define_lines.specs.Lines.{text_of}
 use Rattle.define_pools.specs.Pool.{Category}
-use Rattle.define_reports.specs.Report.{value_lines}
-use Rattle.define_reports.proofs.LineSteps.{lines_of_each}
+use Rattle.define_offices.specs.Report.{value_lines}
+use Rattle.define_offices.proofs.LineSteps.{lines_of_each}
 use Rattle.round_reports.proofs.report_quotas.push_counts.Goals as goal
 
 pub loop-place-preserved : goal.loop-place-preserved

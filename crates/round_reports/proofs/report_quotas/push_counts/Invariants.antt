@@ -1,7 +1,7 @@
 use Rattle.std.proofs.Common.{◌≡◌, ◌++◌, map, take}
 use Rattle.std.specs.List.{enumerate_from, flat_map}
 use Rattle.define_lines.specs.Lines.{text_of}
-use Rattle.define_reports.specs.Report.{value_lines}
+use Rattle.define_offices.specs.Report.{value_lines}
 use Rattle.round_reports.proofs.report_quotas.push_counts.Given as goal
 
 -- the lines of the categories so far are appended

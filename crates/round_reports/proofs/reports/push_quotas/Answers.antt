@@ -2,7 +2,7 @@ use Rattle.std.proofs.Common.{◌≡◌, ℕ, true, ltb, arith, List, [], ◌∷
 use Rattle.std.proofs.lemmas.Bool.{lt-ltb}
 use Rattle.define_pools.proofs.Each.{each_filter, each_range, list_all_from_each}
 use Rattle.define_pools.specs.Pool.{Pool, allows, everybody, volunteer}
-use Rattle.define_reports.specs.Report.{not_gone}
+use Rattle.define_offices.specs.Report.{not_gone}
 use Rattle.round_reports.specs.Groups.{AreBelow, GroupsAreBelow}
 use Rattle.round_reports.specs.Rounds.{IsOfPool}
 use Rattle.round_reports.proofs.reports.push_quotas.Goals as goal

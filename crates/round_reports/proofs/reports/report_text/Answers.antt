@@ -2,8 +2,8 @@ use Rattle.std.proofs.Common.{◌≡◌, [], ◌∷◌, ◌++◌, ap, ◌∙◌}
 use Rattle.define_lines.specs.Lines.{text_of}
 use Rattle.define_bundles.specs.PoolText.{end_line}
 use Rattle.define_offices.specs.Tables.{bundle_of, phase_of}
-use Rattle.define_reports.specs.Report.{bundle_lines, chance_lines_in, counted, head_lines, quota_lines}
-use Rattle.define_reports.proofs.LineSteps.{lines_added}
+use Rattle.define_offices.specs.Report.{bundle_lines, chance_lines_in, counted, head_lines, quota_lines}
+use Rattle.define_offices.proofs.LineSteps.{lines_added}
 use Rattle.round_reports.proofs.DrawnRounds.{groups_are_counted, members_are_of_pool}
 use Rattle.round_reports.proofs.reports.report_text.Goals as goal
 

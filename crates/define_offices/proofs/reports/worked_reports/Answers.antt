@@ -3,7 +3,7 @@ use Rattle.std.specs.Fmt.{digits}
 use Rattle.hex.specs.Hex.{encode_with}
 use Rattle.frac128.specs.Divisors.{common_divisor_up_to, gcd_of}
 use Rattle.sha2.specs.Sha256.{compress, digest_bytes, first_words, hash_after, rounds, schedule, sha256}
-use Rattle.define_reports.proofs.worked_reports.Goals as goal
+use Rattle.define_offices.proofs.reports.worked_reports.Goals as goal
 
 -- proved by computation, with the definition of digests unfolded, since the report shows a seal
 pub returns-clause-drawn : goal.returns-clause-drawn

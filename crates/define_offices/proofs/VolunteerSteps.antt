@@ -13,8 +13,8 @@ use Rattle.define_pools.specs.Lottery.{Lottery, count, counts}
 use Rattle.define_pools.specs.Pool.{Pool, Volunteer, allows, volunteer}
 use Rattle.define_lines.specs.Lines.{text_of}
 use Rattle.define_offices.specs.Lines.{member_ids}
-use Rattle.define_reports.specs.Report.{chance_line, chance_of, member_line}
-use Rattle.define_reports.proofs.LineSteps.{lines_added}
+use Rattle.define_offices.specs.Report.{chance_line, chance_of, member_line}
+use Rattle.define_offices.proofs.LineSteps.{lines_added}
 
 module _ (pool : Pool) where
   -- ---- the lines of members

@@ -4,8 +4,6 @@
 //! proofs use its laws on growing texts.
 //!
 //! The functions have no body: their contracts are laws over the definitions, and worked examples.
-#![tactic(auto)]
-
 ghost use Rattle.std.specs.Prelude.{◌≡◌, ◌∷◌, [], ℕ, Err, IsOk, Ok, codes};
 ghost use Rattle.define_pools.specs.Pool.{Pool};
 ghost use Rattle.define_offices.specs.Commands.{Incomplete, NoRound, Refusal};
@@ -13,8 +11,8 @@ ghost use Rattle.define_offices.specs.declared.Part.TheVariants as part;
 ghost use Rattle.define_offices.specs.Pools.{pool_of};
 ghost use Rattle.define_offices.specs.Tables.{Tables, first_tables};
 ghost use Rattle.define_offices.specs.WorkedOffice.{with_rows};
-ghost use Rattle.define_reports.specs.Report.{report_of};
-ghost use Rattle.define_reports.specs.WorkedReports.{drawn_report, drawn_tables, open_report, open_tables};
+ghost use Rattle.define_offices.specs.Report.{report_of};
+ghost use Rattle.define_offices.specs.WorkedReports.{drawn_report, drawn_tables, open_report, open_tables};
 
 /// A round has a report if it has a pool. If it has no pool, the report is refused with the same refusal as the pool.
 pub fn reports_need_pools()
