@@ -1,5 +1,5 @@
 //! The walk through the lines of a tree, which finds the first fault: a line that can't come next, a leaf whose multipliers do not show the
-//! cap, or that the lines end before the tree is complete. Stands on `paths`, `leaves` and `line_counts`; `verifying` calls `tree_fault`.
+//! cap, or that the lines end before the tree is complete. Stands on `paths`, `leaves` and `check_reasons`; `verifying` calls `tree_fault`.
 
 ghost use Rattle.std.specs.Prelude.{◌≡◌, IfOk, IsTrue, OnOk, length, true, Ok, Err};
 ghost use Rattle.std.specs.List.{list_all};
@@ -11,7 +11,7 @@ ghost use Rattle.check_proofs.specs.Steps.{next, place, seen_step};
 
 use crate::leaves::{Problem, leaf_shows};
 use crate::paths::Path;
-use line_counts::lines_after;
+use check_reasons::lines_after;
 use pool_model::Pool;
 use proof_model::{Leaf, Node, TreeLine};
 use std::alloc::{AllocError, Global};

@@ -22,7 +22,7 @@ use crate::constraints::Constraints;
 use crate::leaves::Problem;
 use crate::trees::{Fault, tree_fault};
 use check_reasons::{Course, Verdict, lottery_verdict};
-use line_counts::{bundle_line_count, lines_after, pool_line_count};
+use check_reasons::{bundle_line_count, lines_after, pool_line_count};
 use pool_model::{Answer, Pool, Stage, Volunteer};
 use proof_model::{Parts, Proof, TreeLine, TreeLines};
 use std::alloc::{AllocError, Global};

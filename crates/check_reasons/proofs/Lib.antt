@@ -4,3 +4,4 @@ pub mod InOrder
 pub mod Kept
 pub mod QuotaTests
 pub mod Twice
+pub mod LineCounts

@@ -7,10 +7,13 @@
 //! Promises: `lottery_verdict`, the calls of `Course`, and `Verdict` with its `Refusal`. The module `quotas` is a helper.
 #![tactic(auto)]
 
+mod counting;
 mod courses;
 mod lotteries;
 mod quotas;
 mod verdicts;
+
+pub use counting::{bundle_line_count, lines_after, pool_line_count};
 
 pub use courses::Course;
 pub use lotteries::lottery_verdict;

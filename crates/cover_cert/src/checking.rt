@@ -15,7 +15,7 @@ use crate::trees::{Fault, tree_fault};
 use check_reasons::{Course, Verdict, lottery_verdict};
 use check_search::terms_of;
 use cover_model::{Cover, FrontLine, Fronts};
-use line_counts::{bundle_line_count, lines_after};
+use check_reasons::{bundle_line_count, lines_after};
 use pool_model::Stage;
 use std::alloc::{AllocError, Global};
 use std::sync::ledger::Ledger;

@@ -13,7 +13,7 @@ use crate::order::{continues, turned};
 use crate::steps::Steps;
 use check_search::{Tally, Terms};
 use cover_model::FrontLine;
-use line_counts::lines_after;
+use check_reasons::lines_after;
 use std::alloc::{AllocError, Global};
 use std::marker::Model;
 use std::sync::ledger::Ledger;

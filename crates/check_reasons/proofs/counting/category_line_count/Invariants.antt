@@ -1,7 +1,7 @@
 use Rattle.std.proofs.Common.{◌≡◌, length, take}
 use Rattle.std.specs.List.{flat_map}
 use Rattle.define_bundles.specs.PoolText.{category_lines}
-use Rattle.line_counts.proofs.counting.category_line_count.Given as goal
+use Rattle.check_reasons.proofs.counting.category_line_count.Given as goal
 
 -- `count` is the number of lines of the categories so far
 abbrev pub invariant-loop-category : goal.invariant-loop-category

@@ -1,7 +1,7 @@
 use Rattle.std.proofs.Common.{◌+◌, length}
 use Rattle.define_bundles.specs.BundleText.{pool_lines}
-use Rattle.line_counts.proofs.LineCounts.{pool_sum, same_sum}
-use Rattle.line_counts.proofs.counting.pool_line_count.Goals as goal
+use Rattle.check_reasons.proofs.LineCounts.{pool_sum, same_sum}
+use Rattle.check_reasons.proofs.counting.pool_line_count.Goals as goal
 
 pub returns : goal.returns
 returns c =
