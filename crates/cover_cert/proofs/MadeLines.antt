@@ -6,8 +6,8 @@ use Rattle.define_rows.specs.Row.{Row}
 use Rattle.define_searches.specs.Classes.{Class, Classes, KeepsLimits}
 use Rattle.define_covers.specs.Covers.{Cause, FrontLine}
 use Rattle.define_covers.specs.FrontOrder.{turned}
-use Rattle.cover_model.specs.declared.fronts.Cause.{Cause as CodeCause}
-use Rattle.cover_model.specs.Causes.{seen_cause}
+use Rattle.cover_text.specs.declared.fronts.Cause.{Cause as CodeCause}
+use Rattle.cover_text.specs.Causes.{seen_cause}
 use Rattle.define_covers.specs.Counts.{Fits}
 use Rattle.define_covers.specs.FirstCause.{first_cause}
 use Rattle.define_covers.specs.Made.{IsSearched}

@@ -4,7 +4,7 @@ ghost use Rattle.std.specs.Prelude.{◌≡◌, ◌≤◌, [], drop, length, opti
 ghost use Rattle.std.specs.List.{find, range_with_len};
 ghost use Rattle.check_search.specs.Front.{Tracks};
 ghost use Rattle.check_search.specs.Terms.{AreTerms};
-ghost use Rattle.cover_model.specs.Causes.{seen_cause};
+ghost use Rattle.cover_text.specs.Causes.{seen_cause};
 ghost use Rattle.define_covers.specs.Causes.{all_values, applies};
 ghost use Rattle.define_covers.specs.Covers.{ByClosed, ByValue};
 ghost use Rattle.define_covers.specs.FirstCause.{first_cause as first_cause_of};
@@ -12,7 +12,7 @@ ghost use Rattle.define_searches.specs.Front.{AreWithin};
 
 use crate::judging::{does_apply, go_back, go_to};
 use check_search::{Tally, Terms};
-use cover_model::Cause;
+use cover_text::Cause;
 
 /// Returns the first cause that applies to a front, or None if the front is live. The classes have `values` values in all categories. The
 /// tally is brought to the front and back.

@@ -14,7 +14,7 @@ use crate::steps::Steps;
 use crate::trees::{Fault, tree_fault};
 use check_reasons::{Course, Verdict, lottery_verdict};
 use check_search::terms_of;
-use cover_model::{Cover, FrontLine, Fronts};
+use cover_text::{Cover, FrontLine, Fronts};
 use check_reasons::{bundle_line_count, lines_after};
 use pool_model::Stage;
 use std::alloc::{AllocError, Global};

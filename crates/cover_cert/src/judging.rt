@@ -3,14 +3,14 @@
 ghost use Rattle.std.specs.Prelude.{◌≡◌, ◌+◌, ◌-◌, ◌≤◌, ◌<◌, [], drop, length, int_le};
 ghost use Rattle.check_search.specs.Front.{Tracks};
 ghost use Rattle.check_search.specs.Terms.{AreTerms};
-ghost use Rattle.cover_model.specs.Causes.{seen_cause};
+ghost use Rattle.cover_text.specs.Causes.{seen_cause};
 ghost use Rattle.define_covers.specs.Causes.{applies, closed_fails as fails_closed, value_fails as fails_value};
 ghost use Rattle.define_searches.specs.Fronts.{optimistic, taken_by};
 ghost use Rattle.define_searches.specs.Front.{AreWithin};
 
 use crate::steps::Steps;
 use check_search::{Classes, Tally, Terms, optimistic_weight};
-use cover_model::Cause;
+use cover_text::Cause;
 use std::sync::ledger::Ledger;
 
 /// Judges a front, which takes one step: true if the cause applies to it.

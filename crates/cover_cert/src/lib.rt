@@ -3,7 +3,7 @@
 //! whether a cover shows what it should; if not, why it is refused. It searches nothing: it judges each front of the cover once.
 //!
 //! Stands on `cert_check`, which searches, on `check_reasons`, for the reasons that do not concern trees, on the classes, rows and tallies of
-//! `check_search`, on the values of `cover_model`, on `check_reasons`, for the lines that verdicts name, and on `define_covers` and
+//! `check_search`, on the values of `cover_text`, on `check_reasons`, for the lines that verdicts name, and on `define_covers` and
 //! `define_covers`.
 //!
 //! Promises: `check_cover` returns exactly the verdict of the definitions, with a step for each front that it judges. `cover` answers as
@@ -22,6 +22,6 @@ mod trees;
 pub use cert_check::CheckStop;
 pub use check_reasons::{Refusal, Verdict};
 pub use checking::check_cover;
-pub use cover_model::{Cause, Cover, FrontLine, Fronts};
+pub use cover_text::{Cause, Cover, FrontLine, Fronts};
 pub use making::{Covered, cover};
 pub use steps::Steps;

@@ -24,7 +24,7 @@ use bundle_text::Bundle;
 use cert_check::{CheckStop, check};
 use check_reasons::Refusal;
 use check_search::{Tally, Terms, terms_of};
-use cover_model::{Cover, FrontLine, Fronts, value_count};
+use cover_text::{Cover, FrontLine, Fronts, value_count};
 use pool_model::{Pool, Stage};
 use std::alloc::{AllocError, Global};
 

@@ -12,7 +12,7 @@ use crate::judging::judge;
 use crate::order::{continues, turned};
 use crate::steps::Steps;
 use check_search::{Tally, Terms};
-use cover_model::FrontLine;
+use cover_text::FrontLine;
 use check_reasons::lines_after;
 use std::alloc::{AllocError, Global};
 use std::marker::Model;

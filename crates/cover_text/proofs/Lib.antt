@@ -1,3 +1,4 @@
 pub mod LineByLine
 pub mod Counts
 pub mod Texts
+pub mod Values

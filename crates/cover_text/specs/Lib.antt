@@ -1,3 +1,4 @@
 pub mod Answers
 pub mod Progress
 pub mod Stopped
+pub mod Causes

@@ -1,4 +1,4 @@
-//! The lines of a tree: what each is read as. Stands on `text_lines` and the ranges of `cover_model`; `progress` reads lines by these
+//! The lines of a tree: what each is read as. Stands on `text_lines` and the ranges of `cover_text`; `progress` reads lines by these
 //! calls.
 
 ghost use Rattle.std.specs.Prelude.{◌≡◌, ◌<◌, ◌^◌, ◌==◌, nat_lt, ◌&&◌, if◌then◌else◌, map, IfOk, option_map};
@@ -6,11 +6,11 @@ ghost use Rattle.define_bundles.specs.BundleReading.{numbers_up_to};
 ghost use Rattle.define_covers.specs.CoverRanges.{greatest_count};
 ghost use Rattle.define_covers.specs.CoverText.{most_trees};
 ghost use Rattle.define_covers.specs.CoverReading.{NextTree, TheClose, Unknown, cause_of as cause_in, fields_said, front_in_range, front_said, line_in_tree as line_said, unnumbered as unnumbered_in};
-ghost use Rattle.cover_model.specs.Causes.{seen_cause};
+ghost use Rattle.cover_text.specs.Causes.{seen_cause};
 ghost use Rattle.cover_text.specs.Progress.{said};
 
 use crate::shared::begins_tree;
-use cover_model::{Cause, FrontLine, is_front_line, value_count};
+use crate::{Cause, FrontLine, is_front_line, value_count};
 use pool_model::Pool;
 use std::alloc::{AllocError, Global};
 use text_lines::{fields, number_up_to};

@@ -10,7 +10,7 @@ ghost use Rattle.cover_text.specs.Progress.{seen};
 use crate::lines::{LineInTree, line_in_tree};
 use crate::shared::begins_tree;
 use bundle_text::Progress as BundleProgress;
-use cover_model::Fronts;
+use crate::Fronts;
 use pool_model::{Answer, BuildStop, Pool};
 use std::alloc::Global;
 

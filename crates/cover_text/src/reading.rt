@@ -10,7 +10,7 @@ ghost use Rattle.cover_text.specs.Progress.{seen, IsClosedRight};
 use crate::progress::{ENDING, Progress, after};
 use crate::shared::{missing_in_bundle, stop_at};
 use bundle_text::{Bundle, Progress as BundleProgress};
-use cover_model::{Cover, Fronts};
+use crate::{Cover, Fronts};
 use pool_model::{Answer, Pool};
 use std::alloc::Global;
 use text_lines::{TextFault, TextStop, next_line};

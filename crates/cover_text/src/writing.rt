@@ -6,10 +6,10 @@ ghost use Rattle.std.specs.Fmt.{decimal};
 ghost use Rattle.define_lines.specs.Lines.{tabbed, text_of};
 ghost use Rattle.define_covers.specs.CoverText.{cause_fields, cover_spelling, front_line, lines_before_close, tree_lines, trees_from};
 ghost use Rattle.define_covers.specs.CoverReading.{read_cover};
-ghost use Rattle.cover_model.specs.Causes.{seen_cause};
+ghost use Rattle.cover_text.specs.Causes.{seen_cause};
 
 use crate::shared::{push_bundle, push_number_line};
-use cover_model::{Cause, Cover, FrontLine, Fronts};
+use crate::{Cause, Cover, FrontLine, Fronts};
 use std::alloc::{AllocError, Global};
 use text_lines::{end_line, push_field, push_line, push_number, push_numbers};
 

@@ -1,6 +1,6 @@
 use Rattle.std.proofs.Common.{List, length, Some, None, ap, arith}
 use Rattle.define_searches.specs.Classes.{Class}
-use Rattle.cover_model.specs.Causes.{seen_cause}
+use Rattle.cover_text.specs.Causes.{seen_cause}
 use Rattle.define_covers.proofs.Counts.{fits_few, fits_within}
 use Rattle.cover_cert.proofs.MadeLines.{done, down, first_is, next_is, on, read_fits, short}
 use Rattle.cover_cert.proofs.making.lines_of.Goals as goal

@@ -5,7 +5,7 @@ use Rattle.std.proofs.lemmas.Grind.{common_steps}
 use Rattle.std.proofs.lemmas.Result.{on_ok_weaker}
 use Rattle.define_lines.specs.Lines.{tabbed}
 use Rattle.define_covers.specs.CoverText.{cause_fields}
-use Rattle.cover_model.specs.Causes.{seen_cause}
+use Rattle.cover_text.specs.Causes.{seen_cause}
 use Rattle.cover_text.proofs.Texts.{front_text}
 use Rattle.cover_text.proofs.writing.push_front.Goals as goal
 

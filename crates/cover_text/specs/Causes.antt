@@ -1,7 +1,7 @@
 -- What contracts see of a cause: the causes of `define_covers`. The contracts of this crate and of those above cite it.
 use Rattle.define_covers.specs.Covers as words
-use Rattle.cover_model.specs.declared.fronts.Cause.{Cause}
-use Rattle.cover_model.specs.declared.fronts.Cause.TheVariants.{Size, Value, Household, Closed, Cap}
+use Rattle.cover_text.specs.declared.fronts.Cause.{Cause}
+use Rattle.cover_text.specs.declared.fronts.Cause.TheVariants.{Size, Value, Household, Closed, Cap}
 
 -- a cause as contracts see it
 abbrev pub seen_cause : Cause → words.Cause

@@ -1,7 +1,7 @@
 //! Fronts with their causes, and lists of them. `ranges`, `covers` and the crates above use them.
 
 ghost use Rattle.std.specs.Prelude.{◌≡◌, ◌++◌, ◌∷◌, [], OnOk, OnErr};
-ghost use Rattle.cover_model.specs.Causes.{seen_cause};
+ghost use Rattle.cover_text.specs.Causes.{seen_cause};
 
 use std::alloc::AllocError;
 use std::marker::Model;
@@ -30,7 +30,7 @@ pub struct FrontLine {
 
 impl Model for FrontLine {
     ghost use Rattle.define_covers.specs.Covers.{FrontLine as Seen};
-    ghost use Rattle.cover_model.specs.Causes.{seen_cause};
+    ghost use Rattle.cover_text.specs.Causes.{seen_cause};
 
     ghost Value = { Seen };
 

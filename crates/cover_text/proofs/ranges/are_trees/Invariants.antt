@@ -1,7 +1,7 @@
 use Rattle.std.proofs.Common.{◌≡◌, ℕ, ◌+◌, ◌<◌, true, [], get_or}
 use Rattle.std.specs.List.{list_all}
 use Rattle.define_covers.specs.CoverRanges.{is_front_line}
-use Rattle.cover_model.proofs.ranges.are_trees.Given as goal
+use Rattle.cover_text.proofs.ranges.are_trees.Given as goal
 
 -- the lines of the trees so far are in their ranges
 abbrev pub invariant-loop-i : goal.invariant-loop-i

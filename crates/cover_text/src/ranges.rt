@@ -4,7 +4,7 @@ ghost use Rattle.std.specs.Prelude.{◌≡◌, nat_le};
 ghost use Rattle.std.specs.List.{list_all};
 ghost use Rattle.define_covers.specs.CoverRanges.{is_cause as keeps_cause, is_front_line as keeps_line, is_numbered as numbered, most_count, value_count as values_of};
 ghost use Rattle.define_covers.specs.CoverText.{keep_ranges};
-ghost use Rattle.cover_model.specs.Causes.{seen_cause};
+ghost use Rattle.cover_text.specs.Causes.{seen_cause};
 
 use crate::fronts::{Cause, FrontLine, Fronts};
 use pool_model::{Limits, Pool};

@@ -5,7 +5,7 @@ use Rattle.define_pools.proofs.Each.{enumerated-each, list_all-enumerated}
 use Rattle.define_covers.specs.Covers.{FrontLine}
 use Rattle.define_covers.specs.CoverRanges.{is_front_line}
 use Rattle.define_covers.specs.CoverText.{keep_ranges}
-use Rattle.cover_model.proofs.ranges.are_trees.Goals as goal
+use Rattle.cover_text.proofs.ranges.are_trees.Goals as goal
 
 pub returns-then-not-is_tree : goal.returns-then-not-is_tree
 returns-then-not-is_tree c =

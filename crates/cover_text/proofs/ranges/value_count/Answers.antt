@@ -1,7 +1,7 @@
 use Rattle.std.proofs.Common.{◌≡◌, length, sum_by, take, arith, ap}
 use Rattle.define_pools.specs.Pool.{Category}
-use Rattle.cover_model.proofs.Values.{few_so_far}
-use Rattle.cover_model.proofs.ranges.value_count.Goals as goal
+use Rattle.cover_text.proofs.Values.{few_so_far}
+use Rattle.cover_text.proofs.ranges.value_count.Goals as goal
 
 pub overflow_add-count : goal.overflow_add-count
 overflow_add-count c =
