@@ -11,7 +11,7 @@ ghost use Rattle.define_pools.specs.Certificate.{weight_of as weight_of_one};
 
 use crate::constraints::Constraint;
 use pool_model::{Stage, Standing};
-use proof_model::{Leaf, Multiplier};
+use proof_text::{Leaf, Multiplier};
 use std::marker::Model;
 
 /// What is to be shown: that no panel that meets the constraints weighs more in the stage than its cap.

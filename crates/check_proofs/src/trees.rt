@@ -13,7 +13,7 @@ use crate::leaves::{Problem, leaf_shows};
 use crate::paths::Path;
 use check_reasons::lines_after;
 use pool_model::Pool;
-use proof_model::{Leaf, Node, TreeLine};
+use proof_text::{Leaf, Node, TreeLine};
 use std::alloc::{AllocError, Global};
 use std::marker::Model;
 

@@ -24,7 +24,7 @@ use crate::trees::{Fault, tree_fault};
 use check_reasons::{Course, Verdict, lottery_verdict};
 use check_reasons::{bundle_line_count, lines_after, pool_line_count};
 use pool_model::{Answer, Pool, Stage, Volunteer};
-use proof_model::{Parts, Proof, TreeLine, TreeLines};
+use proof_text::{Parts, Proof, TreeLine, TreeLines};
 use std::alloc::{AllocError, Global};
 
 /// The greatest reach of a stage, which is the sum of the absolute values of its cap and weights: 2^56.

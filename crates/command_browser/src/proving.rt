@@ -5,14 +5,14 @@ ghost use Rattle.command_proofs.specs.Proved.{IsValidOf, ending, proof_said};
 ghost use Rattle.command_shell.specs.Answers.{Stops, saying};
 ghost use Rattle.command_shell.specs.declared.status.Cause.TheVariants as cause;
 ghost use Rattle.define_pools.specs.Pool.{Pool as SeenPool};
-ghost use Rattle.proof_model.specs.Parts.{seen};
+ghost use Rattle.proof_text.specs.Parts.{seen};
 ghost use Rattle.command_browser.specs.Proving.{ProvesByEngine, no_proof_line};
 
 use command_proofs::{Made, proof_within};
 use command_shell::{Answer, Cause, Command, Meaning, Printed};
 use pool_model::Pool;
 use prove_limits::Budget;
-use proof_model::{Parts, Proof};
+use proof_text::{Parts, Proof};
 use proof_text::write_proof;
 use std::alloc::{AllocError, Global};
 

@@ -10,7 +10,7 @@ use define_bundles::{bundle_or_fault, pool_or_fault};
 use define_covers::texts::cover_or_fault;
 use define_proofs::proof_or_fault;
 use pool_model::Pool;
-use proof_model::Proof;
+use proof_text::Proof;
 use std::alloc::{AllocError, Global};
 use text_lines::{TextFault, TextStop};
 

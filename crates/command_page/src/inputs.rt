@@ -2,11 +2,11 @@
 
 ghost use Rattle.std.specs.Prelude.{◌≡◌, option_map};
 ghost use Rattle.command_shell.specs.BundlesOrProofs.{bundle_in as words_of_bundle_in, bundle_of_proof};
-ghost use Rattle.proof_model.specs.Parts.{seen};
+ghost use Rattle.proof_text.specs.Parts.{seen};
 
 use bundle_text::Bundle;
 use command_shell::BundleOrProof;
-use proof_model::Parts;
+use proof_text::Parts;
 
 /// Returns the bundle, or the bundle that the proof holds. A proof that there is no quota panel holds none.
 pub(crate) fn bundle_in(input: &BundleOrProof) -> Option<&Bundle>

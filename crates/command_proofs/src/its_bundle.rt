@@ -3,13 +3,13 @@
 ghost use Rattle.std.specs.Prelude.{IfOk};
 ghost use Rattle.command_shell.specs.Answers.{IsRight, saying};
 ghost use Rattle.command_meanings.specs.ItsBundle.{BundleMeans};
-ghost use Rattle.proof_model.specs.Parts.{seen};
+ghost use Rattle.proof_text.specs.Parts.{seen};
 
 use crate::lines::no_lottery_line;
 use bundle_text::write_bundle;
 use command_meanings::bundle_has_one_answer;
 use command_shell::{Answer, Cause, Command, Meaning, Printed};
-use proof_model::{Parts, Proof};
+use proof_text::{Parts, Proof};
 use std::alloc::{AllocError, Global};
 
 /// `bundle`: the bundle of a proof.

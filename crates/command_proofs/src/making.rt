@@ -9,7 +9,7 @@ ghost use Rattle.command_proofs.specs.Proved.{MakesOf};
 use bundle_text::Bundle;
 use pool_model::Pool;
 use prove_limits::Budget;
-use proof_model::Proof;
+use proof_text::Proof;
 use prove_run::{RunMade, make_proof};
 use check_proofs::verify;
 use std::alloc::{AllocError, Global};

@@ -24,7 +24,7 @@ use command_shell::{Answer, Meaning, PoolOrBundle, Resources, Status, call_answe
 use outside::{Sink, Source, Watch};
 use pool_model::Pool;
 use prove_limits::Budget;
-use proof_model::Proof;
+use proof_text::Proof;
 use prove_run::prove_none;
 use std::alloc::{AllocError, Global};
 use std::thread::Threads;

@@ -9,7 +9,7 @@ ghost use Rattle.command_shell.specs.declared.status.Printed.TheVariants.{Refuse
 ghost use Rattle.define_checks.specs.Reasons.{Valid};
 ghost use Rattle.define_checks.specs.Visits.{check_answer};
 ghost use Rattle.prove_limits.specs.Budgets.{SpendsOn};
-ghost use Rattle.proof_model.specs.Parts.{seen};
+ghost use Rattle.proof_text.specs.Parts.{seen};
 
 use crate::beyond::first_beyond;
 use crate::proving_lines::spent;
@@ -17,7 +17,7 @@ use bundle_text::Bundle;
 use command_bundles::{check_bundle, verdict_answer};
 use command_shell::{Answer, Printed};
 use prove_limits::Budget;
-use proof_model::{Parts, Proof};
+use proof_text::{Parts, Proof};
 use prove_run::{TreesBy, prove_bundle};
 use proof_text::write_proof;
 use check_proofs::{Verdict, verify};

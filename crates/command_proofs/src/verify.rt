@@ -4,13 +4,13 @@ ghost use Rattle.std.specs.Prelude.{◌≡◌, IfOk};
 ghost use Rattle.command_shell.specs.Answers.{IsRight, saying};
 ghost use Rattle.command_meanings.specs.Verify.{VerifyMeans, shown_line};
 ghost use Rattle.command_proofs.specs.Verified.{TellsVerdict};
-ghost use Rattle.proof_model.specs.Parts.{seen};
+ghost use Rattle.proof_text.specs.Parts.{seen};
 
 use crate::lines::valid_none_line;
 use command_bundles::{refused_line, valid_line};
 use command_meanings::verify_has_one_answer;
 use command_shell::{Answer, Command, Meaning, Printed};
-use proof_model::{Parts, Proof};
+use proof_text::{Parts, Proof};
 use check_proofs::{Verdict, verify};
 use std::alloc::{AllocError, Global};
 

@@ -2,7 +2,7 @@
 
 use crate::subject::Subject;
 use bundle_text::Bundle;
-use proof_model::Proof;
+use proof_text::Proof;
 use std::alloc::Global;
 use text_lines::TextStop;
 

@@ -2,7 +2,7 @@
 
 use command_shell::Subject;
 use pool_model::Pool;
-use proof_model::Proof;
+use proof_text::Proof;
 use std::alloc::Global;
 use text_lines::TextStop;
 

@@ -6,7 +6,7 @@ ghost use Rattle.command_meanings.specs.Panel.{PanelMeans, stated_visits};
 ghost use Rattle.command_shell.specs.Answers.{IsRight, Saying, saying, status_of};
 ghost use Rattle.command_why.specs.PoolsAndProofs.{pool_in, pool_of};
 ghost use Rattle.command_meanings.specs.Why.{WhyMeans};
-ghost use Rattle.proof_model.specs.Parts.{seen};
+ghost use Rattle.proof_text.specs.Parts.{seen};
 ghost use Rattle.quota_conflicts.specs.Answers.{IsExplanation};
 
 use crate::about::PoolOrProof;
@@ -16,7 +16,7 @@ use command_shell::{Answer, Command, Meaning, Printed};
 use panel_search::SearchStop;
 use pool_model::Pool;
 use prove_limits::{Budget, ProveStop};
-use proof_model::{Parts, TreeLine};
+use proof_text::{Parts, TreeLine};
 use quota_conflicts::{Explanation, all_together, conflict_text, why};
 use std::alloc::{AllocError, Global};
 

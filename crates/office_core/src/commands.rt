@@ -6,7 +6,7 @@ ghost use Rattle.office_core.specs.Commands.{seen_command};
 use define_runs::Limits;
 use office_tables::{Charter, Rows, Rules};
 use pool_model::Name;
-use proof_model::Proof;
+use proof_text::Proof;
 
 /// A command of the office. Rounds are named by their numbers, counted from 1.
 #[derive(Debug, Drop)]

@@ -21,7 +21,7 @@ use office_tables::{Change, Tables};
 use outside::Watch;
 use pool_model::{Answer, Pool};
 use pool_text::write_pool;
-use proof_model::{Parts, Proof};
+use proof_text::{Parts, Proof};
 use check_proofs::verify;
 use std::alloc::{AllocError, Global};
 use std::thread::Threads;

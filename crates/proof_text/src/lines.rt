@@ -1,4 +1,4 @@
-//! The lines of a tree: what each is read as. Stands on `text_lines` and the ranges of `proof_model`; `progress` reads lines by these
+//! The lines of a tree: what each is read as. Stands on `text_lines` and the ranges of `proof_text`; `progress` reads lines by these
 //! calls.
 
 ghost use Rattle.std.specs.Prelude.{◌≡◌, ◌<◌, ◌^◌, ◌==◌, nat_lt, ◌&&◌, if◌then◌else◌, map, IfOk, bytes_eq, option_map};
@@ -10,7 +10,7 @@ ghost use Rattle.define_proofs.specs.ProofReading.{NextTree, TheClose, Unknown, 
 ghost use Rattle.proof_text.specs.Progress.{said};
 
 use itoa::Buffer;
-use proof_model::{GREATEST_CONSTRAINT, Leaf, Multiplier, TreeLine, is_tree_line, most_trees};
+use crate::{GREATEST_CONSTRAINT, Leaf, Multiplier, TreeLine, is_tree_line, most_trees};
 use std::alloc::{AllocError, Global};
 use text_lines::{fields, number_up_to, signed_number};
 

@@ -12,7 +12,7 @@ use crate::lines::{LineInTree, begins_tree, line_in_tree};
 use bundle_text::Progress as BundleProgress;
 use pool_model::{Answer, BuildStop, Pool};
 use pool_text::Progress as PoolProgress;
-use proof_model::TreeLines;
+use crate::TreeLines;
 use std::alloc::Global;
 
 const FIRST: &[u8] = b"proof\t1";

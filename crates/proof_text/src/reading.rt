@@ -11,7 +11,7 @@ use crate::progress::{ENDING, Progress, after};
 use bundle_text::{Bundle, Progress as BundleProgress};
 use pool_model::{Answer, BuildStop, Pool};
 use pool_text::Progress as PoolProgress;
-use proof_model::{Proof, TreeLines};
+use crate::{Proof, TreeLines};
 use std::alloc::Global;
 use text_lines::{TextFault, TextStop, next_line};
 

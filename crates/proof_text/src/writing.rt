@@ -9,13 +9,13 @@ ghost use Rattle.define_proofs.specs.ProofVerdict.{OfLottery, OfNoPanel};
 ghost use Rattle.define_bundles.specs.BundleText.{pool_lines};
 ghost use Rattle.define_proofs.specs.ProofText.{bundle_lines, leaf_line, lines_before_close, multiplier_fields, node_line, proof_spelling, tree_lines, trees_from};
 ghost use Rattle.define_proofs.specs.ProofReading.{read_proof};
-ghost use Rattle.proof_model.specs.Parts.{seen};
+ghost use Rattle.proof_text.specs.Parts.{seen};
 
 use bundle_text::{Bundle, write_bundle};
 use itoa::Buffer;
 use pool_model::Pool;
 use pool_text::write_pool;
-use proof_model::{Leaf, Multiplier, Node, Parts, Proof, TreeLine, TreeLines};
+use crate::{Leaf, Multiplier, Node, Parts, Proof, TreeLine, TreeLines};
 use std::alloc::{AllocError, Global};
 use text_lines::{end_line, push_line, push_number, push_signed};
 

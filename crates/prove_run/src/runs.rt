@@ -12,7 +12,7 @@ use crate::trees::{TreesBy, searched_trees, stage_trees, tree_of_steps};
 use bundle_text::Bundle;
 use pool_model::Pool;
 use prove_limits::{Budget, ProveStop};
-use proof_model::{Proof, TreeLines};
+use proof_text::{Proof, TreeLines};
 use prove_peeling::{PanelRows, Peeled, WeightedPanel, lottery_of_point, mix_of};
 use prove_program::Program;
 use prove_stages::{Chances, ClassStage, Columned, Relaxed, column_stages_from, relaxed_stages};

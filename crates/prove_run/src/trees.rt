@@ -10,7 +10,7 @@ use crate::programs::Programs;
 use pool_model::Stage;
 use prove_branching::{Refutation, Step};
 use prove_limits::{Budget, Narrow, ProveStop, narrow_add};
-use proof_model::{Leaf, Multiplier, TreeLine, TreeLines};
+use proof_text::{Leaf, Multiplier, TreeLine, TreeLines};
 use prove_peeling::weights_of;
 use prove_stages::ClassStage;
 use std::alloc::{AllocError, Global};

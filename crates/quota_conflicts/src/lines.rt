@@ -5,7 +5,7 @@ use crate::covers::Node;
 use crate::kept::{Kept, is_kept, is_least};
 use define_quotas::Side;
 use prove_branching::Step;
-use proof_model::{Node as TreeNode, TreeLine};
+use proof_text::{Node as TreeNode, TreeLine};
 use std::alloc::{AllocError, Global};
 
 /// A line of a tree.

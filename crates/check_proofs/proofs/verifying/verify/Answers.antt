@@ -1,6 +1,6 @@
 use Rattle.std.proofs.Common.{sym, ap, ap₂, ◌∙◌}
 use Rattle.define_proofs.specs.ProofVerdict.{OfLottery, OfNoPanel}
-use Rattle.proof_model.specs.Parts.{seen}
+use Rattle.proof_text.specs.Parts.{seen}
 use Rattle.check_proofs.proofs.Shown.{greatest, no_panel}
 use Rattle.check_proofs.proofs.verifying.verify.Goals as goal
 

@@ -4,7 +4,7 @@ use Rattle.command_shell.specs.declared.status.Printed.TheVariants.{Done}
 use Rattle.command_shell.specs.declared.status.Cause.TheVariants.{Rule}
 use Rattle.command_shell.specs.Answers.{IsRight, Prints, Stops}
 use Rattle.command_meanings.specs.ItsBundle.{BundleMeans}
-use Rattle.proof_model.specs.Parts.{seen}
+use Rattle.proof_text.specs.Parts.{seen}
 use Rattle.command_proofs.proofs.its_bundle.told.Goals as goal
 
 pub returns-in_ok-write_bundle-in-Lottery : goal.returns-in_ok-write_bundle-in-Lottery

@@ -3,7 +3,7 @@ use Rattle.define_lines.specs.Lines.{text_of}
 use Rattle.define_proofs.specs.ProofReading.{read_proof}
 use Rattle.define_proofs.specs.ProofText.{close_line, lines_before_close, proof_spelling}
 use Rattle.define_proofs.proofs.ReadAgain.{spelled_is_read}
-use Rattle.proof_model.specs.Parts.{seen}
+use Rattle.proof_text.specs.Parts.{seen}
 use Rattle.proof_text.proofs.writing.write_proof.Goals as goal
 use Rattle.define_lines.proofs.LineLemmas.{text_of-append}
 

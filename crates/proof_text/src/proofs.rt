@@ -4,7 +4,7 @@
 ghost use Rattle.std.specs.Prelude.{◌≡◌, ◌↔◌, IfSome, IsSome, IsTrue};
 ghost use Rattle.define_proofs.specs.ProofVerdict.{OfLottery, OfNoPanel};
 ghost use Rattle.define_proofs.specs.ProofText.{IsProof, IsLotteryProof, IsNoPanelProof, most_trees as most};
-ghost use Rattle.proof_model.specs.Parts.{seen};
+ghost use Rattle.proof_text.specs.Parts.{seen};
 
 use crate::ranges::{are_tree_lines, are_trees};
 use crate::trees::TreeLines;
@@ -32,7 +32,7 @@ pub struct Proof {
 impl Model for Proof {
     ghost use Rattle.define_proofs.specs.ProofVerdict.{Proof as Seen};
     ghost use Rattle.define_proofs.specs.ProofText.{IsProof};
-    ghost use Rattle.proof_model.specs.Parts.{seen};
+    ghost use Rattle.proof_text.specs.Parts.{seen};
 
     ghost Value = { Seen };
 

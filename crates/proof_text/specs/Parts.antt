@@ -2,10 +2,10 @@
 -- of those above cite `seen`.
 use Rattle.define_proofs.specs.ProofVerdict as words
 use Rattle.define_proofs.specs.TreeLines as lines
-use Rattle.proof_model.specs.declared.proofs.Parts.{Parts}
-use Rattle.proof_model.specs.declared.proofs.Parts.TheVariants.{Lottery, NoPanel}
-use Rattle.proof_model.specs.declared.trees.Node.{Node}
-use Rattle.proof_model.specs.declared.trees.Node.TheVariants.{Split, Leaf}
+use Rattle.proof_text.specs.declared.proofs.Parts.{Parts}
+use Rattle.proof_text.specs.declared.proofs.Parts.TheVariants.{Lottery, NoPanel}
+use Rattle.proof_text.specs.declared.trees.Node.{Node}
+use Rattle.proof_text.specs.declared.trees.Node.TheVariants.{Split, Leaf}
 
 -- a node as contracts see it
 abbrev pub seen_node : Node → lines.TreeLine

@@ -4,7 +4,7 @@ use Rattle.std.proofs.lemmas.List.{length-map}
 use Rattle.define_pools.specs.Lists.{is_increasing}
 use Rattle.define_pools.proofs.Increasing.{is_increasing-from_neighbours, neighbours-from_is_increasing}
 use Rattle.define_proofs.specs.Leaves.{Multiplier}
-use Rattle.proof_model.proofs.ranges.are_in_order.Goals as goal
+use Rattle.proof_text.proofs.ranges.are_in_order.Goals as goal
 
 pub returns-then-number_at : goal.returns-then-number_at
 returns-then-number_at c =

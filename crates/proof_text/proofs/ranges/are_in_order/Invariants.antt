@@ -1,5 +1,5 @@
 use Rattle.std.proofs.Common.{ℕ, ◌<◌, ◌+◌, get_or, map}
-use Rattle.proof_model.proofs.ranges.are_in_order.Given as goal
+use Rattle.proof_text.proofs.ranges.are_in_order.Given as goal
 
 -- the numbers of the first `i` multipliers are in rising order
 abbrev pub invariant-loop-i : goal.invariant-loop-i

@@ -2,7 +2,7 @@
 
 ghost use Rattle.std.specs.Prelude.{◌≡◌, ◌++◌, ◌∷◌, [], OnOk, OnErr};
 ghost use Rattle.define_proofs.specs.TreeLines.{OfLeaf, OfSplit};
-ghost use Rattle.proof_model.specs.Parts.{seen_node};
+ghost use Rattle.proof_text.specs.Parts.{seen_node};
 
 use crate::leaves::Leaf as OneLeaf;
 use std::alloc::AllocError;
@@ -25,7 +25,7 @@ pub struct TreeLine {
 
 impl Model for TreeLine {
     ghost use Rattle.define_proofs.specs.TreeLines.{TreeLine as Seen};
-    ghost use Rattle.proof_model.specs.Parts.{seen_node};
+    ghost use Rattle.proof_text.specs.Parts.{seen_node};
 
     ghost Value = { Seen };
 
