@@ -19,7 +19,7 @@ use command_bundles::{Draw, ShortDraw};
 use command_page::DrawnPage;
 use command_questions::{InTickets, Question};
 use command_shell::{Answer, Cause, Command, Subject, input_line};
-use short_draws::TicketCount;
+use short_tickets::TicketCount;
 use std::alloc::{AllocError, Global};
 use std::str;
 use text_lines::{TextFault, TextStop};

@@ -1,5 +1,5 @@
 //! The commands about a bundle: `seal`, `draw`, `short-draw` and `check`. Each is a struct of its arguments that answers about a bundle;
-//! `command_meanings` defines which answers are right. Stands on `sealed_draw`, `short_draws`, the checker, and the texts of bundles.
+//! `command_meanings` defines which answers are right. Stands on `sealed_draw`, `short_tickets`, the checker, and the texts of bundles.
 //!
 //! Promises: the four commands; `check_bundle`, which `command_proofs` asks too; the answers for a verdict and for spent visits, which
 //! `command_covers` gives too; and the lines for valid and refused certificates, which `command_proofs` and `command_stores` print too.

@@ -11,7 +11,7 @@ use crate::lines::drawn_lines;
 use bundle_text::Bundle;
 use command_shell::{Answer, Cause, Command, Meaning, Printed, input_line};
 use sealed_draw::{seal, total_agrees};
-use short_draws::{TicketCount, draw_short};
+use short_tickets::{TicketCount, draw_short};
 use std::alloc::{AllocError, Global};
 
 /// `short-draw`: prints the panel that is drawn from a bundle in a round number of tickets.

@@ -18,7 +18,7 @@ use bundle_text::{Bundle, write_bundle};
 use command_bundles::{Draw, ShortDraw};
 use command_shell::{Answer, BundleOrProof, Cause, Command, Meaning, Printed, input_line};
 use sealed_draw::{Draw as Drawn, DrawStop, draw, seal, total_agrees};
-use short_draws::{TicketCount, draw_short};
+use short_tickets::{TicketCount, draw_short};
 use std::alloc::{AllocError, Global};
 
 /// `page --drawn`: prints the page about a bundle, or about the bundle that a proof holds, with the panel that the digits draw from it.

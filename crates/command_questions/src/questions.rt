@@ -13,7 +13,7 @@ use crate::{chances, dice, ranges, short};
 use bundle_text::Bundle;
 use command_shell::{Answer, Cause, Command, Meaning, Printed, input_line};
 use sealed_draw::total_agrees;
-use short_draws::TicketCount;
+use short_tickets::TicketCount;
 use std::alloc::{AllocError, Global};
 
 /// The kind of fault of a bundle whose weights don't sum to its total. It is printed with line number 0, since no single line is faulty.

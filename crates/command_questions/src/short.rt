@@ -11,7 +11,7 @@ use crate::dice::{dice_text, push_number};
 use crate::ranges::tickets_text;
 use bundle_text::Bundle;
 use pool_model::LotteryRow;
-use short_draws::{TicketCount, short_bundle};
+use short_tickets::{TicketCount, short_bundle};
 use std::alloc::{AllocError, Global};
 use text_lines::{end_line, push_numbers, push_signed};
 

@@ -26,7 +26,7 @@ use command_proofs::{ItsBundle, Prove, Verify};
 use command_questions::{InTickets, Question};
 use command_why::Why;
 use command_words::{CommandName, Given, Word};
-use short_draws::TicketCount;
+use short_tickets::TicketCount;
 
 /// Returns the command that reads one text, with the values that the words give. Returns None if the words ask for a command of another
 /// kind, if a value is missing or out of its range, or if options don't go together. A store that the words name is passed over.

@@ -10,7 +10,7 @@ use command_proofs::{ItsBundle, Verify};
 use command_questions::Question;
 use command_why::Why;
 use command_words::Word;
-use short_draws::TicketCount;
+use short_tickets::TicketCount;
 
 /// A command that reads one text. Texts among its arguments are borrowed from the words.
 #[derive(Debug, Drop)]

@@ -8,7 +8,7 @@ use Rattle.define_pools.specs.Lottery.{Lottery, TotalAgrees}
 use Rattle.define_pools.specs.Pool.{Pool}
 use Rattle.define_draws.specs.Short.{shortened}
 use Rattle.define_draws.proofs.ShortRanges.{short_in_ranges}
-use Rattle.short_draws.proofs.bundles.short_bundle.Goals as goal
+use Rattle.short_tickets.proofs.bundles.short_bundle.Goals as goal
 
 -- the shortened lottery of a bundle, with the bundle's pool and stages, is in the ranges of a bundle
 made_in_ranges : (bundle : Bundle) (pool : Pool) (lottery : Lottery) (stages : List Stage) (tickets : ℕ) → IsInRanges bundle.pool bundle.answer → 1 ≤ tickets → tickets ≤ 10 ^ 9 →
