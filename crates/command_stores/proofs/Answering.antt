@@ -11,8 +11,8 @@ use Rattle.command_shell.specs.Lines.{no_panel_line}
 use Rattle.command_shell.specs.declared.status.Printed.TheVariants as printed
 use Rattle.office_core.specs.Deciding.{IsEnding}
 use Rattle.office_core.specs.declared.stops.ActStop.TheVariants as act
-use Rattle.office_pools.specs.declared.PoolStop.{PoolStop}
-use Rattle.office_pools.specs.declared.PoolStop.TheVariants as pool
+use Rattle.office_steps.specs.declared.pools.PoolStop.{PoolStop}
+use Rattle.office_steps.specs.declared.pools.PoolStop.TheVariants as pool
 use Rattle.office_steps.specs.declared.replies.Reply.TheVariants as reply
 use Rattle.outside.specs.Faults.{Rose}
 use Rattle.command_shell.specs.Answers.{Prints, Saying, Stops as StopsBy, saying}

@@ -14,7 +14,7 @@ use bundle_page::{drawn_part, page_with, round_head};
 use bundle_text::{Bundle, write_bundle};
 use command_shell::{Answer, Printed};
 use office_core::{Phase, Refusal, Tables};
-use office_pools::round_named;
+use office_steps::pools::round_named;
 use office_tables::{Round, drawn_by};
 use sealed_draw::seal;
 use std::alloc::{AllocError, Global};

@@ -3,7 +3,7 @@
 ghost use Rattle.std.specs.Prelude.{◌≡◌, ℕ, IfOk, IfSome, List, OnOk, Result};
 ghost use Rattle.command_shell.specs.Told.{Bytes, IsUntouched, object, told};
 ghost use Rattle.command_shell.specs.Answers.{status_number, saying};
-ghost use Rattle.office_pools.specs.declared.PoolStop.TheVariants.{OutOfMemory};
+ghost use Rattle.office_steps.specs.declared.pools.PoolStop.TheVariants.{OutOfMemory};
 ghost use Rattle.round_reports.specs.Rounds.{TellsReport};
 ghost use Rattle.define_offices.specs.Commands.{Refusal as SeenRefusal};
 ghost use Rattle.define_offices.specs.Pools.{pool_of as pool_of_round};

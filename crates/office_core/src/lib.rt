@@ -19,7 +19,7 @@ pub use acting::{act, act_over};
 pub use commands::Command;
 pub use deciding::decide;
 pub use keeper::{Keeper, KeeperStop};
-pub use office_pools::{PoolStop, pool_of};
+pub use office_steps::pools::{PoolStop, pool_of};
 pub use office_steps::{OfficeStop, Refusal, Reply};
 pub use office_tables::{
     Change, Charter, Entry, Given, Part, Parts, Phase, Round, Rows, Rules, Tables, apply, tables_of,

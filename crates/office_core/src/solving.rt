@@ -15,7 +15,7 @@ use bundle_text::Bundle;
 use define_runs::Limits;
 use itoa::Buffer;
 use leximin_run::{Solved, Stop, solve};
-use office_pools::{PoolStop, pool_of};
+use office_steps::pools::{PoolStop, pool_of};
 use office_steps::{Refusal, Reply, line, no_round, round_named};
 use office_tables::{Change, Tables};
 use outside::Watch;

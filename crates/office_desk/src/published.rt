@@ -6,7 +6,7 @@ ghost use Rattle.define_offices.specs.Tables.{last_phase as phase_last};
 ghost use Rattle.office_desk.specs.Shown.{IsSound, seen_published};
 
 use bundle_text::Bundle;
-use office_pools::round_named;
+use office_steps::pools::round_named;
 use office_tables::{Phase, Round, Tables};
 
 /// What is published of a round: its bundle once it is sealed, with the digits of the dice once it is drawn.

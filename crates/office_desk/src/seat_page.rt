@@ -11,7 +11,7 @@ ghost use Rattle.office_desk.specs.Shown.{own_in, shown_to};
 use crate::bodies::seat_body;
 use crate::chances::is_drawn;
 use crate::published::published_of;
-use office_pools::round_named;
+use office_steps::pools::round_named;
 use office_tables::{Entry, Round, Tables};
 use pool_model::Name;
 use serde_json::Value;

@@ -6,3 +6,5 @@ mod PanelLines
 mod RegisterSays
 mod SameByPlaces
 mod SortedRows
+mod Numbers
+mod Rounds

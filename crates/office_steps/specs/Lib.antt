@@ -3,3 +3,4 @@ pub mod Replies
 pub mod Rows
 pub mod Steps
 pub mod Withdrawals
+pub mod Told

@@ -19,7 +19,7 @@ use crate::replies::{Refusal, Reply};
 use crate::stops::OfficeStop;
 use bundle_text::{Bundle, write_bundle};
 use itoa::Buffer;
-use office_pools::round_named;
+use crate::pools::round_named;
 use office_tables::{Change, Phase, Round, Tables, drawn_by, is_member};
 use pool_model::Name;
 use sealed_draw::{draw, seal};

@@ -15,7 +15,7 @@ use crate::replies::{Refusal, Reply};
 use crate::stops::OfficeStop;
 use bundle_text::{Bundle, write_bundle};
 use itoa::Buffer;
-use office_pools::round_named;
+use crate::pools::round_named;
 use office_tables::{Change, Part, Phase, Round, Tables};
 use std::alloc::{AllocError, Global};
 

@@ -11,7 +11,7 @@ ghost use Rattle.office_steps.specs.Withdrawals.{IsPlaceOf};
 use crate::named::last_phase;
 use crate::replies::{Refusal, Reply};
 use crate::stops::OfficeStop;
-use office_pools::{PoolStop, pool_of};
+use crate::pools::{PoolStop, pool_of};
 use office_tables::{Change, Entry, Phase, Round, Tables};
 use pool_model::{Standing, Volunteer};
 use sealed_draw::seal;

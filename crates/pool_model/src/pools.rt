@@ -1,4 +1,4 @@
-//! Pools, and the calls that build one. `pool_text`, `office_import`, `office_keeper`, `office_pools`, `office_reports` and `quota_loosen`
+//! Pools, and the calls that build one. `pool_text`, `office_import`, `office_keeper`, `office_steps`, `office_reports` and `quota_loosen`
 //! use them.
 
 ghost use Rattle.std.specs.Prelude.{◌≡◌, ◌≢◌, ◌<◌, ◌==◌, ◌||◌, nat_le, not, [], ◌∷◌, length, map, None, Err, OnOk, OnErr, IfOk, vec_len};

@@ -10,8 +10,8 @@ use Rattle.define_draws.specs.Dice.{name_ticket}
 use Rattle.define_offices.specs.Commands as office
 use Rattle.define_offices.specs.Tables.{Round, Open, Solved, Sealed, Drawn, bundle_of}
 use Rattle.define_offices.specs.Report.{not_gone}
-use Rattle.office_pools.specs.declared.PoolStop.{PoolStop}
-use Rattle.office_pools.specs.declared.PoolStop.TheVariants.{NoRound, Incomplete, OutOfMemory}
+use Rattle.office_steps.specs.declared.pools.PoolStop.{PoolStop}
+use Rattle.office_steps.specs.declared.pools.PoolStop.TheVariants.{NoRound, Incomplete, OutOfMemory}
 use Rattle.round_reports.specs.Groups.{AreBelow}
 use Rattle.office_tables.specs.Drawn.{Draws}
 use Rattle.sealed_draw.specs.declared.drawn.Draw.{Draw}

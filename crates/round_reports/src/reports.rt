@@ -9,7 +9,7 @@ use crate::report_chances::push_chances;
 use crate::report_heads::{push_draw, push_head, push_lottery};
 use crate::report_quotas::{not_gone, push_counts};
 use bundle_text::{Bundle, write_bundle};
-use office_pools::{PoolStop, pool_of, round_named};
+use office_steps::pools::{PoolStop, pool_of, round_named};
 use office_tables::{Phase, Round, Tables, drawn_by};
 use pool_model::{Name, Pool};
 use sealed_draw::{Draw, seal};

@@ -1,7 +1,7 @@
 use Rattle.std.proofs.Common.{Bor, option_map, ap, sym, ◌∙◌}
 use Rattle.define_offices.specs.Tables.{Round}
-use Rattle.office_pools.proofs.Rounds.{named_round-below}
-use Rattle.office_pools.proofs.pool_of.Goals as goal
+use Rattle.office_steps.proofs.Rounds.{named_round-below}
+use Rattle.office_steps.proofs.pools.pool_of.Goals as goal
 
 pub open_pool-requires-clause-place : goal.open_pool-requires-clause-place
 open_pool-requires-clause-place c =

@@ -7,7 +7,7 @@ use Rattle.define_offices.specs.Pools.{first_pool, open_pool, pool_after}
 use Rattle.define_offices.specs.Tables.{Charter, Round, Open, Drawn, Tables, named_round, round_at}
 use Rattle.define_offices.proofs.Pools.{open_is_pool}
 use Rattle.define_offices.proofs.Rounds.{drawn_before}
-use Rattle.office_pools.specs.Told.{IsDrawn}
+use Rattle.office_steps.specs.Told.{IsDrawn}
 
 -- ---- the round of a place
 

@@ -5,7 +5,7 @@ ghost use Rattle.define_pools.specs.Lists.{includes_list};
 ghost use Rattle.define_pools.specs.Lottery.{TotalAgrees};
 ghost use Rattle.define_draws.specs.Dice.{name_ticket};
 ghost use Rattle.define_offices.specs.Pools.{after_withdrawals, drawn_of, next_pool as pool_next, numbers_of as numbers_by, pool_after as pool_after_round, restood_pool};
-ghost use Rattle.office_pools.specs.Told.{IsDrawn};
+ghost use Rattle.office_steps.specs.Told.{IsDrawn};
 
 use bundle_text::Bundle;
 use office_tables::{Entry, Round, drawn_by};

@@ -5,8 +5,8 @@ use Rattle.define_pools.specs.Pool.{Pool}
 use Rattle.define_draws.specs.Dice.{name_ticket}
 use Rattle.define_offices.specs.Commands as office
 use Rattle.define_offices.specs.Tables.{Round, Open, Solved, Sealed, Drawn}
-use Rattle.office_pools.specs.declared.PoolStop.{PoolStop}
-use Rattle.office_pools.specs.declared.PoolStop.TheVariants.{NoRound, Incomplete, OutOfMemory}
+use Rattle.office_steps.specs.declared.pools.PoolStop.{PoolStop}
+use Rattle.office_steps.specs.declared.pools.PoolStop.TheVariants.{NoRound, Incomplete, OutOfMemory}
 
 -- what `pool_of` may return if the definition's result is `is`: the same pool, or the same reason why there is none; running out of memory
 -- is allowed at any time

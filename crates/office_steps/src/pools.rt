@@ -2,18 +2,16 @@
 //! and `rounds`. Used by `office_core`, `office_steps`, `round_reports`, `office_desk` and `command_stores`.
 //!
 //! Promise: `pool_of` returns exactly the pool of the definitions, or exactly why there is none.
-#![tactic(auto)]
-
 mod drawn;
 mod registered;
 
 ghost use Rattle.std.specs.Prelude.{◌≡◌, ◌<◌, length, Some, IfOk, option_map};
 ghost use Rattle.define_offices.specs.Pools.{open_pool as pool_while_open, pool_of as pool_of_round};
 ghost use Rattle.define_offices.specs.Tables.{named_round};
-ghost use Rattle.office_pools.specs.Told.{TellsPool};
+ghost use Rattle.office_steps.specs.Told.{TellsPool};
 
-use crate::drawn::later_pool;
-use crate::registered::first_pool;
+use crate::pools::drawn::later_pool;
+use crate::pools::registered::first_pool;
 use office_tables::{Charter, Part, Round, Rules, Tables};
 use pool_model::Pool;
 use std::alloc::{AllocError, Global};
@@ -41,7 +39,7 @@ pub enum PoolStop {
 
 impl From<AllocError> for PoolStop {
     ghost use Rattle.std.specs.Prelude.{◌≡◌};
-    ghost use Rattle.office_pools.specs.declared.PoolStop.TheVariants.{OutOfMemory};
+    ghost use Rattle.office_steps.specs.declared.pools.PoolStop.TheVariants.{OutOfMemory};
 
     ghost from_gives = { λ _ e. e ≡ OutOfMemory };
 

@@ -1,8 +1,8 @@
 use Rattle.std.proofs.Common.{◌≡◌, ℕ, ◌<◌, List, [], ◌∷◌, ◌++◌, cond, length, get_or, Vec, Global, ap, ◌∙◌, arith}
 use Rattle.define_pools.specs.Pool.{Volunteer}
-use Rattle.office_pools.proofs.Numbers.{numbers-more, with_it, without_it}
-use Rattle.office_pools.proofs.drawn.numbers_of.Goals as goal
-use Rattle.office_pools.proofs.drawn.numbers_of.Goals.{then-includes+in_ok-push, else-includes}
+use Rattle.office_steps.proofs.Numbers.{numbers-more, with_it, without_it}
+use Rattle.office_steps.proofs.pools.drawn.numbers_of.Goals as goal
+use Rattle.office_steps.proofs.pools.drawn.numbers_of.Goals.{then-includes+in_ok-push, else-includes}
 
 pub loop-number-preserved : goal.loop-number-preserved
 loop-number-preserved c =

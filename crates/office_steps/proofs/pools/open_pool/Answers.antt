@@ -2,8 +2,8 @@ use Rattle.std.proofs.Common.{◌≡◌, ◌-◌, List, get_or, Some, IfOk, sym,
 use Rattle.define_pools.specs.Pool.{IsPool, Pool}
 use Rattle.define_offices.specs.Pools.{first_pool, open_pool, pool_after}
 use Rattle.define_offices.specs.Tables.{Entry, Round}
-use Rattle.office_pools.proofs.Rounds.{first_is_pool, is_drawn_before, open_pool-later}
-use Rattle.office_pools.proofs.open_pool.Goals as goal
+use Rattle.office_steps.proofs.Rounds.{first_is_pool, is_drawn_before, open_pool-later}
+use Rattle.office_steps.proofs.pools.open_pool.Goals as goal
 
 pub first_pool-requires : goal.first_pool-requires
 first_pool-requires c =

@@ -1,7 +1,7 @@
 use Rattle.std.proofs.Common.{◌≡◌, ◌-◌, ltb, length, get_or, Bor, is_some, IfSome, arith}
 use Rattle.define_offices.specs.Tables.{Round}
-use Rattle.office_pools.proofs.Rounds.{named_round-get}
-use Rattle.office_pools.proofs.round_named.Goals as goal
+use Rattle.office_steps.proofs.Rounds.{named_round-get}
+use Rattle.office_steps.proofs.pools.round_named.Goals as goal
 
 pub returns-else-number-eq0 : goal.returns-else-number-eq0
 returns-else-number-eq0 c =
