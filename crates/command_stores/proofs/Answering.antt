@@ -30,7 +30,7 @@ use Rattle.office_core.specs.declared.keeper.KeeperStop.TheVariants.{Failed, Out
 use Rattle.command_meanings.specs.Steps.{StepMeans, TellsOutcome, TellsStop, TextMeans, change_of, refused_by, stored_text, text_or_refusal}
 use Rattle.command_stores.specs.NoTexts.{refusal_of}
 use Rattle.command_meanings.specs.declared.office.StoreText.{StoreText}
-use Rattle.round_reports.specs.Rounds.{TellsReport}
+use Rattle.office_reports.specs.Rounds.{TellsReport}
 use Rattle.office_steps.specs.Replies.{seen_refusal}
 use Rattle.office_steps.specs.declared.replies.Refusal as code
 use Rattle.command_stores.specs.StoreOutcomes.{Answered, FailsAttached, FailsEarly, FailsInOrder, HasFailed, IsAnswered, IsKept, HasStoredNothing, KeeperFault, Settles, SettlesAttached, SettlesLoaded, StoreMeaning, StoreOutcome, TellsSettled, ToAttach, ToLoad, ToStore, WantOfMemory, WriteFault, settled_by}

@@ -5,7 +5,7 @@ use Rattle.define_bundles.specs.BundleText.{Bundle}
 use Rattle.define_offices.specs.Facts.{IsTables, KeepsRound}
 use Rattle.define_offices.specs.Tables.{Round, Open, Solved, Sealed, Drawn, Tables, named_round}
 use Rattle.define_pools.specs.Lottery.{TotalAgrees}
-use Rattle.round_reports.specs.Rounds.{KeepsDraw}
+use Rattle.office_reports.specs.Rounds.{KeepsDraw}
 
 keeps_draw : (tables : Tables) (round : Round) → KeepsRound tables round → KeepsDraw round
 keeps_draw tables Open h = record { agrees = λ b e. absurd (cc); named = tt }

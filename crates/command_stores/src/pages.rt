@@ -7,7 +7,7 @@ ghost use Rattle.define_offices.specs.Tables.{bundle_of};
 ghost use Rattle.command_shell.specs.Answers.{saying};
 ghost use Rattle.command_meanings.specs.RoundPages.{draw_of_round, page_of, title_of};
 ghost use Rattle.command_meanings.specs.Steps.{text_or_refusal};
-ghost use Rattle.round_reports.specs.Rounds.{KeepsDraw};
+ghost use Rattle.office_reports.specs.Rounds.{KeepsDraw};
 
 use crate::refusals::refusal_answer;
 use bundle_page::{drawn_part, page_with, round_head};

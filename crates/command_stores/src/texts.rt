@@ -4,7 +4,7 @@ ghost use Rattle.std.specs.Prelude.{◌≡◌, ℕ, IfOk, IfSome, List, OnOk, Re
 ghost use Rattle.command_shell.specs.Told.{Bytes, IsUntouched, object, told};
 ghost use Rattle.command_shell.specs.Answers.{status_number, saying};
 ghost use Rattle.office_steps.specs.declared.pools.PoolStop.TheVariants.{OutOfMemory};
-ghost use Rattle.round_reports.specs.Rounds.{TellsReport};
+ghost use Rattle.office_reports.specs.Rounds.{TellsReport};
 ghost use Rattle.define_offices.specs.Commands.{Refusal as SeenRefusal};
 ghost use Rattle.define_offices.specs.Pools.{pool_of as pool_of_round};
 ghost use Rattle.command_stores.specs.StoreOutcomes.{Settles, SilentStoreOutcome};
@@ -20,7 +20,7 @@ use command_shell::{Answer, Printed, Status};
 use office_core::{Keeper, KeeperStop, PoolStop, Refusal, Tables, pool_of};
 use outside::Sink;
 use pool_text::write_pool;
-use round_reports::round_report;
+use office_reports::round_report;
 use std::alloc::{AllocError, Global};
 
 /// Makes one call that prints a text made of the tables of the store at `path`.

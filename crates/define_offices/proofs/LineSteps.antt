@@ -1,4 +1,4 @@
--- A text that grows by the lines of the next element of a list. `round_reports`, `bundle_page` and `command_questions` write texts so.
+-- A text that grows by the lines of the next element of a list. `office_reports`, `bundle_page` and `command_questions` write texts so.
 use Rattle.std.proofs.Common.{◌≡◌, ℕ, ◌+◌, ◌<◌, List, [], ◌∷◌, ◌++◌, length, get_or, take, map, sym, ap, ◌∙◌, arith}
 use Rattle.std.specs.List.{enumerate_from, flat_map}
 use Rattle.std.proofs.lemmas.List.{append-nil, length-take, map-append, take_more}

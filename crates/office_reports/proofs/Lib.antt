@@ -3,3 +3,4 @@ pub mod Making
 pub mod Chances
 pub mod SummaryTexts
 pub mod LegLines
+mod DrawnRounds

@@ -1,2 +1,4 @@
 pub mod Making
 pub mod Bounds
+pub mod Groups
+pub mod Rounds

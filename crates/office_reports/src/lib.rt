@@ -10,7 +10,13 @@
 mod generator;
 mod legs;
 mod made_pools;
+mod report_chances;
+mod report_heads;
+mod report_quotas;
+mod reports;
 mod summaries;
+
+pub use reports::round_report;
 
 pub use define_legs::Leg;
 pub use define_runs::RunSizes;

@@ -1,7 +1,7 @@
 use Rattle.std.proofs.Common.{ap, subst, sym}
 use Rattle.command_meanings.specs.Steps.{text_or_refusal}
 use Rattle.command_stores.proofs.Answering.{refused_so}
-use Rattle.round_reports.specs.Rounds.{TellsReport}
+use Rattle.office_reports.specs.Rounds.{TellsReport}
 use Rattle.command_stores.proofs.texts.made_answer.Goals as goal
 
 pub returns-in-Ok : goal.returns-in-Ok
