@@ -1,2 +1,4 @@
 pub mod Filling
 pub mod Sorting
+pub mod Numbers
+pub mod SummedCounts

@@ -1,7 +1,7 @@
 -- How a template is filled with values, and how names and numbers in per cent are written in HTML. Drawn and Page build on it.
 use Rattle.std.specs.Prelude.{ℕ, ◌==◌, nat_lt, if◌then◌else◌, ◌&&◌, List, [], ◌∷◌, ◌++◌, codes}
 use Rattle.std.specs.List.{flat_map}
-use Rattle.chance_numbers.specs.Decimals.{fixed_point, ten_thousandths}
+use Rattle.bundle_page.specs.Decimals.{fixed_point, ten_thousandths}
 
 -- the template with the values in place of its `~`, in their order; a `~` for which no value is left is dropped
 unfoldable pub filled : List ℕ → List (List ℕ) → List ℕ

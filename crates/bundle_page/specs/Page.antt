@@ -11,7 +11,7 @@ use Rattle.define_made_pools.specs.Summary.{greatest, least}
 use Rattle.define_pools.specs.Lists.{rising}
 use Rattle.define_pools.specs.Lottery.{counts}
 use Rattle.define_pools.specs.Pool.{Category, Pool, Volunteer}
-use Rattle.chance_numbers.specs.Decimals.{fixed_point}
+use Rattle.bundle_page.specs.Decimals.{fixed_point}
 use Rattle.bundle_page.specs.declared.shares.Share.{Share}
 use Rattle.bundle_page.specs.declared.sizes.Sizes.{Sizes}
 use Rattle.bundle_page.specs.declared.templates.TheConstants.{CATEGORY, CHANCE, CLOSING, CURVE, CURVE_WORDS, END_OF_CATEGORY, HEAD, LEAD, NUMBERS, PLAIN_HEADING, PLAIN_TITLE, POINT, QUOTAS, ROUND_HEADING, SHAPES, TABLE, WORDS}

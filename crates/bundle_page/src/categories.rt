@@ -8,7 +8,7 @@ use crate::markup::{escaped, fill};
 use crate::shares::{Share, share_of};
 use crate::sizes::{Sizes, sizes_of};
 use crate::templates::{CATEGORY, END_OF_CATEGORY, NUMBERS, SHAPES, WORDS};
-use chance_numbers::fixed_point;
+use crate::fixed_point;
 use itoa::Buffer;
 use pool_model::{Category, Name, Pool};
 use std::alloc::{AllocError, Global};

@@ -1,5 +1,5 @@
 //! The page about a bundle: one HTML file, without a script and without anything from elsewhere, that shows the volunteers and the seats of
-//! each value, all chances, the seal, and a draw if there was one. Stands on the numbers of `chance_numbers`, which `chances` prints too,
+//! each value, all chances, the seal, and a draw if there was one. Stands on the numbers of `bundle_page`, which `chances` prints too,
 //! on `bundle_text`, on the draws of `sealed_draw` and on the lines of `text_lines`. Used by `command_page`, and `command_stores`, whose
 //! page of a round has the title of its assembly; `command_browser` cites its definitions.
 //!
@@ -9,13 +9,20 @@
 #![tactic(auto)]
 
 mod categories;
+mod counts;
 mod curve;
+mod decimals;
 mod drawn;
 mod markup;
 mod shares;
 mod sizes;
+mod sums;
 mod templates;
 mod writing;
+
+pub use counts::{counts_of, greatest, least};
+pub use decimals::{fixed_point, fraction_text, power_of_ten, ten_thousandths};
+pub use sums::{Sum, rounded_sum, sum_text, sum_with};
 
 pub use drawn::drawn_part;
 pub use writing::{page_with, round_head, write_drawn_page, write_page};

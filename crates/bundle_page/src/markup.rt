@@ -4,7 +4,7 @@ ghost use Rattle.std.specs.Prelude.{◌≡◌, ◌≤◌, ◌^◌, ◌++◌, ◌
 ghost use Rattle.define_lines.specs.Lines.{text_of};
 ghost use Rattle.bundle_page.specs.Markup.{chance_words as words_of_chance, escaped as words_of_escaped, escaped_byte, filled as words_of_filled, percent as words_of_percent};
 
-use chance_numbers::{fixed_point, ten_thousandths};
+use crate::{fixed_point, ten_thousandths};
 use std::alloc::{AllocError, Global};
 use text_lines::end_line;
 

@@ -4,7 +4,7 @@ ghost use Rattle.std.specs.Prelude.{◌≡◌, ◌≤◌, ◌^◌, ◌==◌, not
 ghost use Rattle.bundle_page.specs.Numbers.{is_gone as is_gone_one, share_of as words_of_share, present_with as words_of_present};
 
 use crate::sizes::is_gone;
-use chance_numbers::{rounded_sum, sum_with};
+use crate::{rounded_sum, sum_with};
 use pool_model::{BoundedValue, Volunteer};
 
 /// The numbers of a value.

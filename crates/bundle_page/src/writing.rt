@@ -25,7 +25,7 @@ use crate::templates::{
     CLOSING, HEAD, LEAD, PLAIN_HEADING, PLAIN_TITLE, QUOTAS, ROUND_HEADING, TABLE,
 };
 use bundle_text::Bundle;
-use chance_numbers::counts_of;
+use crate::counts_of;
 use itoa::Buffer;
 use pool_model::Pool;
 use sealed_draw::Draw;

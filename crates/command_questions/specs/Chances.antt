@@ -1,5 +1,5 @@
 -- What `chances` prints: the chance of each volunteer, the chances added up for each value, and the least and greatest chance. `counts` is
--- each volunteer's count, which is the chance times the total. Builds on the numbers of `chance_numbers`.
+-- each volunteer's count, which is the chance times the total. Builds on the numbers of `bundle_page`.
 use Rattle.std.specs.Prelude.{ℕ, ◌==◌, List, [], ◌∷◌, ◌++◌, codes, count_by, map, slice_index}
 use Rattle.std.specs.Fmt.{decimal}
 use Rattle.std.specs.List.{enumerate_from, flat_map}
@@ -9,8 +9,8 @@ use Rattle.define_lines.specs.Lines.{line_of}
 use Rattle.define_made_pools.specs.Summary.{greatest, least, number_line}
 use Rattle.define_pools.specs.Lottery.{counts}
 use Rattle.define_pools.specs.Pool.{BoundedValue, Category, Pool, Volunteer, volunteer}
-use Rattle.chance_numbers.specs.Decimals.{fixed_point, ten_thousandths}
-use Rattle.chance_numbers.specs.Sums.{count_with}
+use Rattle.bundle_page.specs.Decimals.{fixed_point, ten_thousandths}
+use Rattle.bundle_page.specs.Sums.{count_with}
 
 -- ---- the chance of each volunteer
 

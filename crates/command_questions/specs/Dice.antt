@@ -1,4 +1,4 @@
--- What `dice` prints: what those who throw the dice must know of a bundle. Builds on the decimals of `chance_numbers`, and the dice of
+-- What `dice` prints: what those who throw the dice must know of a bundle. Builds on the decimals of `bundle_page`, and the dice of
 -- `define_draws`.
 use Rattle.std.specs.Prelude.{ℕ, ◌*◌, ◌-◌, ◌^◌, List, [], ◌∷◌, codes}
 use Rattle.frac128.specs.Fractions.{fraction_text, lowest_of}
@@ -6,7 +6,7 @@ use Rattle.define_bundles.specs.BundleText.{Bundle}
 use Rattle.define_draws.specs.Dice.{group_size, groups_per_ticket}
 use Rattle.define_lines.specs.Lines.{line_of}
 use Rattle.define_made_pools.specs.Summary.{number_line}
-use Rattle.chance_numbers.specs.Decimals.{fixed_point}
+use Rattle.bundle_page.specs.Decimals.{fixed_point}
 
 -- how many groups of digits aren't accepted
 abbrev pub refused_groups : ℕ → ℕ

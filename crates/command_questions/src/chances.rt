@@ -7,7 +7,7 @@ ghost use Rattle.command_questions.specs.Chances.{chance_line, chance_lines, end
 
 use crate::dice::push_number;
 use bundle_text::Bundle;
-use chance_numbers::{
+use bundle_page::{
     Sum, counts_of, fixed_point, fraction_text, greatest, least, sum_text, sum_with,
     ten_thousandths,
 };

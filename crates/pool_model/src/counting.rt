@@ -1,4 +1,4 @@
-//! The count of each volunteer: how much of a lottery's weight is on panels with the volunteer. `check_reasons`, `chance_numbers`,
+//! The count of each volunteer: how much of a lottery's weight is on panels with the volunteer. `check_reasons`, `bundle_page`,
 //! `office_reports`, `office_reports` and `office_desk` call it.
 
 ghost use Rattle.std.specs.Prelude.{◌≡◌, ◌<◌, ℕ, map, length, pos, ◌+ℤ◌, IfOk, IsTrue, FitsSigned, if◌then◌else◌, slice_index_or};

@@ -2,7 +2,7 @@ use Rattle.std.proofs.Common.{◌≡◌, ℕ, ◌+◌, ◌*◌, ◌<◌, List, [
 use Rattle.define_lines.specs.Lines.{text_of}
 use Rattle.define_pools.specs.Pool.{BoundedValue}
 use Rattle.define_offices.proofs.LineSteps.{line_of_each}
-use Rattle.chance_numbers.specs.Sums.{count_with}
+use Rattle.bundle_page.specs.Sums.{count_with}
 use Rattle.command_questions.specs.Chances.{sum_line}
 use Rattle.command_questions.proofs.chances.push_values.Goals as goal
 

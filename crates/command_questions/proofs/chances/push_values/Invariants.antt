@@ -1,7 +1,7 @@
 use Rattle.std.proofs.Common.{◌≡◌, ◌++◌, map, take}
 use Rattle.std.specs.List.{enumerate_from}
 use Rattle.define_lines.specs.Lines.{text_of}
-use Rattle.chance_numbers.specs.Sums.{count_with}
+use Rattle.bundle_page.specs.Sums.{count_with}
 use Rattle.command_questions.specs.Chances.{sum_line}
 use Rattle.command_questions.proofs.chances.push_values.Given as goal
 
