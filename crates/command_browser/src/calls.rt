@@ -4,7 +4,7 @@
 ghost use Rattle.std.specs.Prelude.{IsUtf8, None};
 ghost use Rattle.command_shell.specs.Formats.{bundle_format, proof_format};
 ghost use Rattle.command_meanings.specs.CheckCover.{CheckCoverMeans};
-ghost use Rattle.command_covers.specs.CoverFormat.{cover_format};
+ghost use Rattle.command_bundles.specs.CoverFormat.{cover_format};
 ghost use Rattle.command_meanings.specs.Draw.{DrawMeans};
 ghost use Rattle.command_meanings.specs.ItsBundle.{BundleMeans};
 ghost use Rattle.command_meanings.specs.Seal.{SealMeans};
@@ -19,7 +19,7 @@ ghost use Rattle.command_browser.specs.Told.{TextOf, Told, WithWords};
 use crate::room::tell;
 use crate::texts::{text_of, text_of_draw, text_of_drawn_page};
 use command_bundles::Seal;
-use command_covers::CheckCover;
+use command_bundles::CheckCover;
 use command_page::Page;
 use command_proofs::{ItsBundle, Verify};
 use command_questions::Question;

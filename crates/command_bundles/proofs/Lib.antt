@@ -3,3 +3,5 @@ pub mod Stopped
 pub mod CheckLines
 pub mod Checked
 pub mod ShortDrawn
+mod CheckedCovers
+mod MadeCovers

@@ -1,2 +1,4 @@
 pub mod Stopped
 pub mod Checked
+pub mod CoverFormat
+pub mod Covered

@@ -4,7 +4,7 @@ ghost use Rattle.std.specs.Prelude.{◌≡◌, ℕ, List, IfOk};
 ghost use Rattle.command_explain.specs.AnyTexts.{IsRightOrFaulty, looked_as, looked_at};
 
 use bundle_text::Bundle;
-use command_covers::GivenCover;
+use command_bundles::GivenCover;
 use command_shell::Subject;
 use define_bundles::{bundle_or_fault, pool_or_fault};
 use define_covers::texts::cover_or_fault;

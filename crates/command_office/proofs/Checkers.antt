@@ -25,7 +25,7 @@ use Rattle.command_shell.specs.Outcomes.{Answered, Ends, IsAboutSource, IsTold, 
 use Rattle.command_shell.specs.Subjects.{About, AboutFault, AboutValue, Format}
 use Rattle.command_shell.specs.Told.{Told}
 use Rattle.command_meanings.specs.CheckCover.{CheckCoverMeans}
-use Rattle.command_covers.specs.CoverFormat.{cover_format}
+use Rattle.command_bundles.specs.CoverFormat.{cover_format}
 use Rattle.command_meanings.specs.ItsCover.{CoverMeans}
 use Rattle.command_meanings.specs.Check.{CheckMeans}
 use Rattle.command_meanings.specs.Verify.{VerifyMeans}

@@ -39,7 +39,7 @@ use Rattle.command_shell.specs.Lines.{keeper_fault_line, want_of_memory_line}
 use Rattle.command_shell.specs.Outcomes.{IsAboutSource, IsCutOff, IsInput, IsReadFault, IsStopped, IsTold, IsTooLong}
 use Rattle.command_shell.specs.Subjects.{About}
 use Rattle.command_shell.specs.Told.{Gains, HasFaulted}
-use Rattle.command_covers.specs.declared.check_cover.CheckCover.{CheckCover}
+use Rattle.command_bundles.specs.declared.check_cover.CheckCover.{CheckCover}
 use Rattle.command_meanings.specs.Legs.{LegsMeans}
 use Rattle.command_meanings.specs.Lottery.{LotteryMeans}
 use Rattle.command_meanings.specs.Make.{MakeMeans, sizes_of}

@@ -3,7 +3,7 @@
 use Rattle.std.specs.Prelude.{ℕ, List}
 use Rattle.command_meanings.specs.ShortDraw.{ShortDrawMeans}
 use Rattle.command_meanings.specs.CheckCover.{CheckCoverMeans}
-use Rattle.command_covers.specs.CoverFormat.{cover_format}
+use Rattle.command_bundles.specs.CoverFormat.{cover_format}
 use Rattle.command_meanings.specs.ItsCover.{CoverMeans}
 use Rattle.command_explain.specs.AnyTexts.{any_format, fault_in}
 use Rattle.command_meanings.specs.Explain.{Explains}

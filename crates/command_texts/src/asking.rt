@@ -17,7 +17,7 @@ ghost use Rattle.command_texts.specs.TextAsked.{
 
 use crate::commands::TextCommand;
 use command_bundles::{Check, Seal};
-use command_covers::{CheckCover, ItsCover};
+use command_bundles::{CheckCover, ItsCover};
 use command_explain::Explain;
 use command_loosen::{Loosen, LoosenByProof};
 use command_page::Page;

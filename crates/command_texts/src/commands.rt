@@ -1,7 +1,7 @@
 //! The commands that read one text, with their arguments.
 
 use command_bundles::{Check, Seal};
-use command_covers::{CheckCover, ItsCover};
+use command_bundles::{CheckCover, ItsCover};
 use command_explain::Explain;
 use command_loosen::{Loosen, LoosenByProof};
 use command_page::Page;

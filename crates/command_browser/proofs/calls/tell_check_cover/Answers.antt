@@ -1,7 +1,7 @@
 use Rattle.std.proofs.Common.{ℕ, Vec, Global}
 use Rattle.std.proofs.lemmas.Result.{IfOk-weaker}
 use Rattle.command_meanings.specs.CheckCover.{CheckCoverMeans}
-use Rattle.command_covers.specs.CoverFormat.{cover_format}
+use Rattle.command_bundles.specs.CoverFormat.{cover_format}
 use Rattle.command_browser.proofs.HasBytes.{check_cover_some, text_some}
 use Rattle.command_browser.proofs.Telling.{told_so}
 use Rattle.command_browser.proofs.calls.tell_check_cover.Goals as goal

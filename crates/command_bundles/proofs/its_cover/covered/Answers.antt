@@ -1,7 +1,7 @@
 use Rattle.std.proofs.lemmas.Result.{IfOk-weaker}
 use Rattle.command_shell.specs.Answers.{saying}
-use Rattle.command_covers.proofs.MadeCovers.{cover_stop_is_told, covered_is_told}
-use Rattle.command_covers.proofs.its_cover.covered.Goals as goal
+use Rattle.command_bundles.proofs.MadeCovers.{cover_stop_is_told, covered_is_told}
+use Rattle.command_bundles.proofs.its_cover.covered.Goals as goal
 
 pub returns-in-Ok : goal.returns-in-Ok
 returns-in-Ok c =

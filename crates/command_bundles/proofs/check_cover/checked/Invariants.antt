@@ -1,4 +1,4 @@
-use Rattle.command_covers.proofs.check_cover.checked.Given as goal
+use Rattle.command_bundles.proofs.check_cover.checked.Given as goal
 
 -- the ledger is that of the blank
 abbrev pub ghosts-judged : goal.ghosts-judged

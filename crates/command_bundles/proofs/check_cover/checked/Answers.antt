@@ -1,7 +1,7 @@
 use Rattle.std.proofs.lemmas.Result.{IfOk-weaker}
 use Rattle.command_shell.specs.Answers.{saying}
-use Rattle.command_covers.proofs.CheckedCovers.{verdict_is_told}
-use Rattle.command_covers.proofs.check_cover.checked.Goals as goal
+use Rattle.command_bundles.proofs.CheckedCovers.{verdict_is_told}
+use Rattle.command_bundles.proofs.check_cover.checked.Goals as goal
 
 pub returns : goal.returns
 returns c =

@@ -33,7 +33,7 @@ impl GivenCover {
 }
 
 impl Subject for GivenCover {
-    ghost use Rattle.command_covers.specs.CoverFormat.{cover_format};
+    ghost use Rattle.command_bundles.specs.CoverFormat.{cover_format};
 
     ghost format = { cover_format };
 

@@ -4,7 +4,7 @@ ghost use Rattle.std.specs.Prelude.{ℕ, IfOk};
 ghost use Rattle.define_bundles.specs.BundleText.{Bundle as SeenBundle};
 ghost use Rattle.command_shell.specs.Answers.{HasOneAnswer, IsRight, saying};
 ghost use Rattle.command_meanings.specs.ItsCover.{CoverMeans};
-ghost use Rattle.command_covers.specs.Covered.{TellsCovered};
+ghost use Rattle.command_bundles.specs.Covered.{TellsCovered};
 
 use bundle_text::Bundle;
 use command_bundles::{check_stop_answer, verdict_answer};

@@ -26,7 +26,7 @@ use Rattle.command_meanings.proofs.OneAnswer.{check_once}
 use Rattle.command_shell.specs.declared.status.Printed.TheVariants.{Done, Refused as Rejected}
 use Rattle.command_shell.specs.declared.status.Cause.TheVariants.{Spent}
 use Rattle.command_shell.specs.Answers.{HasOneAnswer, IsRight, Prints, Saying, Stops}
-use Rattle.command_covers.specs.Covered.{TellsCovered}
+use Rattle.command_bundles.specs.Covered.{TellsCovered}
 use Rattle.command_meanings.specs.ItsCover.{CoverMeans}
 
 -- if a check returns a verdict, it is the verdict of the definition

@@ -1,2 +1,0 @@
-mod CheckedCovers
-mod MadeCovers

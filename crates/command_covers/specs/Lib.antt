@@ -1,2 +1,0 @@
-pub mod CoverFormat
-pub mod Covered
