@@ -70,7 +70,7 @@ def sentence(*parts: str) -> str:
     return ' '.join(it[0].upper() + it[1:] + '.' for it in parts if it)
 
 
-def command_page(command: Command, version: str, epoch: int) -> bytes:
+def command_questions(command: Command, version: str, epoch: int) -> bytes:
     page = Page(f'sortition-{command.name}', command.about, version, epoch)
     page.section('Synopsis')
     page.text(command.usage)
@@ -127,6 +127,6 @@ def tool_page(name: str, says: str, version: str, epoch: int) -> bytes:
 def pages_of(program: Program, tools: Dict[str, str], reference: str, version: str, epoch: int) -> Dict[str, bytes]:
     """All man pages, by the name of their command. `tools` has what the file of each tool says of it."""
     pages = {'sortition': program_page(program, reference, version, epoch, sorted(tools))}
-    pages.update((f'sortition-{it.name}', command_page(it, version, epoch)) for it in program.commands.values())
+    pages.update((f'sortition-{it.name}', command_questions(it, version, epoch)) for it in program.commands.values())
     pages.update((name, tool_page(name, says, version, epoch)) for name, says in tools.items())
     return pages

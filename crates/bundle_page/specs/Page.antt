@@ -1,5 +1,5 @@
 -- The text of the page about a bundle. Its parts are the fixed texts of `src/templates.rt`, filled with names and numbers. Builds on
--- Markup, Numbers and Drawn. The promises of this crate cite it, and so do `command_page`, `command_stores` and `command_browser`.
+-- Markup, Numbers and Drawn. The promises of this crate cite it, and so do `command_questions`, `command_stores` and `command_browser`.
 use Rattle.std.specs.Prelude.{ℕ, ◌+◌, ◌-◌, ◌*◌, ◌/◌, List, [], ◌∷◌, ◌++◌, length, map, slice_index}
 use Rattle.std.specs.Fmt.{decimal}
 use Rattle.std.specs.List.{enumerate_from, flat_map}

@@ -1,6 +1,6 @@
 //! The page about a bundle: one HTML file, without a script and without anything from elsewhere, that shows the volunteers and the seats of
 //! each value, all chances, the seal, and a draw if there was one. Stands on the numbers of `bundle_page`, which `chances` prints too,
-//! on `bundle_text`, on the draws of `sealed_draw` and on the lines of `text_lines`. Used by `command_page`, and `command_stores`, whose
+//! on `bundle_text`, on the draws of `sealed_draw` and on the lines of `text_lines`. Used by `command_questions`, and `command_stores`, whose
 //! page of a round has the title of its assembly; `command_browser` cites its definitions.
 //!
 //! Promises: `write_page`, `write_drawn_page`, `page_with`, `round_head` and `drawn_part` return exactly the texts of `specs/Page.antt`:

@@ -20,7 +20,7 @@ use crate::room::tell;
 use crate::texts::{text_of, text_of_draw, text_of_drawn_page};
 use command_bundles::Seal;
 use command_bundles::CheckCover;
-use command_page::Page;
+use command_questions::Page;
 use command_proofs::{ItsBundle, Verify};
 use command_questions::Question;
 use std::alloc::Global;

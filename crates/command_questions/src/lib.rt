@@ -10,10 +10,16 @@
 
 mod chances;
 mod dice;
+mod drawn_pages;
+mod inputs;
+mod pages;
 mod questions;
 mod ranges;
 mod short;
 mod worked;
+
+pub use drawn_pages::{DrawnPage, drawn_page_has_one_answer};
+pub use pages::{Page, page_has_one_answer};
 
 pub use questions::{Question, questions_have_one_answer};
 pub use short::InTickets;

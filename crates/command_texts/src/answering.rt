@@ -6,7 +6,7 @@ ghost use Rattle.command_texts.specs.TextMeans.{TextMeans};
 
 use crate::commands::TextCommand;
 use command_bundles::{Draw, ShortDraw};
-use command_page::DrawnPage;
+use command_questions::DrawnPage;
 use command_shell::{Answer, Answering, answer_about};
 use std::alloc::{AllocError, Global};
 

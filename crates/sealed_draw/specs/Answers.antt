@@ -1,5 +1,5 @@
 -- What `draw` may return, and of which row a drawn panel is. Builds on Draw and Tickets of `define_draws`. The promise of `draw` cites it,
--- and so do `short_tickets`, `command_page`, and proofs of `command_bundles`, `office_steps` and `office_tables`.
+-- and so do `short_tickets`, `command_questions`, and proofs of `command_bundles`, `office_steps` and `office_tables`.
 use Rattle.std.specs.Prelude.{◌≡◌, ◌≤ℤ◌, ℕ, pos, List, Result, Ok, Err, string_bytes, unsigned_abs, ⊤}
 use Rattle.define_pools.specs.Lottery.{Lottery}
 use Rattle.define_draws.specs.declared.DiceStop.TheVariants as dice

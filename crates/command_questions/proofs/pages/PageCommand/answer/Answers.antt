@@ -1,7 +1,7 @@
 use Rattle.std.proofs.lemmas.Result.{IfOk-weaker}
 use Rattle.command_shell.specs.Answers.{IsRight, IsTheAnswer, saying}
 use Rattle.command_meanings.specs.Page.{PageMeans}
-use Rattle.command_page.proofs.pages.PageCommand.answer.Goals as goal
+use Rattle.command_questions.proofs.pages.PageCommand.answer.Goals as goal
 
 pub returns : goal.returns
 returns c =

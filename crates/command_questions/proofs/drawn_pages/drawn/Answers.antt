@@ -3,8 +3,8 @@ use Rattle.bundle_page.specs.Drawn.{seen_draw}
 use Rattle.bundle_page.specs.Page.{drawn_page_text}
 use Rattle.define_draws.specs.Draw.{draw}
 use Rattle.command_meanings.specs.Page.{lottery_in}
-use Rattle.command_page.proofs.Refusing.{refused_so}
-use Rattle.command_page.proofs.drawn_pages.drawn.Goals as goal
+use Rattle.command_questions.proofs.Refusing.{refused_so}
+use Rattle.command_questions.proofs.drawn_pages.drawn.Goals as goal
 
 pub returns-in-Ok : goal.returns-in-Ok
 returns-in-Ok c =

@@ -1,7 +1,7 @@
 use Rattle.std.proofs.lemmas.Result.{IfOk-weaker}
 use Rattle.command_shell.specs.Answers.{IsRight, IsTheAnswer, saying}
 use Rattle.command_meanings.specs.Page.{DrawnPageMeans}
-use Rattle.command_page.proofs.drawn_pages.DrawnPageCommand.answer.Goals as goal
+use Rattle.command_questions.proofs.drawn_pages.DrawnPageCommand.answer.Goals as goal
 
 pub returns : goal.returns
 returns c =

@@ -1,5 +1,0 @@
-use Rattle.command_page.proofs.OneAnswer.{drawn_page_once}
-use Rattle.command_page.proofs.drawn_pages.drawn_page_has_one_answer.Goals as goal
-
-pub returns : goal.returns
-returns c = drawn_page_once
