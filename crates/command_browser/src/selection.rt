@@ -16,7 +16,7 @@ ghost use Rattle.command_meanings.specs.Why.{WhyMeans};
 ghost use Rattle.command_questions.specs.Questions.{question_text};
 ghost use Rattle.command_questions.specs.declared.questions.Question.TheVariants as question;
 ghost use Rattle.command_questions.specs.declared.short.InTickets.TheVariants.{Dice, Panels, Ranges};
-ghost use Rattle.command_why.specs.PoolsAndProofs.{pool_in, pool_or_proof_format};
+ghost use Rattle.command_quotas.specs.PoolsAndProofs.{pool_in, pool_or_proof_format};
 ghost use Rattle.command_browser.specs.NextPools.{IsNextPool};
 ghost use Rattle.command_browser.specs.Proving.{ProvesByEngine};
 ghost use Rattle.command_browser.specs.Told.{TextAbout, TextOf, Told, WithTickets, WithWords};
@@ -28,7 +28,7 @@ use crate::texts::{text_in_tickets, text_of, text_of_short_draw, text_of_short_d
 use command_explain::Explain;
 use command_loosen::LoosenByProof;
 use command_questions::{InTickets, Question};
-use command_why::Why;
+use command_quotas::Why;
 use std::alloc::Global;
 
 /// Puts into `room` the text that `prove` answers about a pool if its engine makes a proof within these limits, or the line that it makes

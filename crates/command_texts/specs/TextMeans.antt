@@ -22,7 +22,7 @@ use Rattle.command_questions.specs.Questions.{question_text}
 use Rattle.command_shell.specs.Answers.{IsRight, IsTheAnswer, RightAnswers, Saying}
 use Rattle.command_shell.specs.Formats.{bundle_format, pool_format, proof_format}
 use Rattle.command_shell.specs.Subjects.{About, Format}
-use Rattle.command_why.specs.PoolsAndProofs.{pool_in, pool_or_proof_format}
+use Rattle.command_quotas.specs.PoolsAndProofs.{pool_in, pool_or_proof_format}
 use Rattle.command_meanings.specs.Why.{WhyMeans}
 use Rattle.command_texts.specs.declared.commands.TextCommand.{TextCommand}
 use Rattle.command_texts.specs.declared.commands.TextCommand.TheVariants as text

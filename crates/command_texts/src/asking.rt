@@ -24,7 +24,7 @@ use command_questions::Page;
 use command_pools::FirstPanel;
 use command_proofs::{ItsBundle, Prove, Verify};
 use command_questions::{InTickets, Question};
-use command_why::Why;
+use command_quotas::Why;
 use command_words::{CommandName, Given, Word};
 use short_tickets::TicketCount;
 

@@ -8,7 +8,7 @@ use command_questions::Page;
 use command_pools::FirstPanel;
 use command_proofs::{ItsBundle, Verify};
 use command_questions::Question;
-use command_why::Why;
+use command_quotas::Why;
 use command_words::Word;
 use short_tickets::TicketCount;
 

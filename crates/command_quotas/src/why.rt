@@ -4,7 +4,7 @@ ghost use Rattle.std.specs.Prelude.{◌≡◌, ◌≢◌, IfOk};
 ghost use Rattle.define_pools.specs.Pool.{Pool as SeenPool};
 ghost use Rattle.command_meanings.specs.Panel.{PanelMeans, stated_visits};
 ghost use Rattle.command_shell.specs.Answers.{IsRight, Saying, saying, status_of};
-ghost use Rattle.command_why.specs.PoolsAndProofs.{pool_in, pool_of};
+ghost use Rattle.command_quotas.specs.PoolsAndProofs.{pool_in, pool_of};
 ghost use Rattle.command_meanings.specs.Why.{WhyMeans};
 ghost use Rattle.proof_text.specs.Parts.{seen};
 ghost use Rattle.quota_conflicts.specs.Answers.{IsExplanation};
@@ -42,7 +42,7 @@ impl Meaning for Why {
     type About = PoolOrProof;
 
     ghost use Rattle.command_shell.specs.Answers.{IsRight};
-    ghost use Rattle.command_why.specs.PoolsAndProofs.{pool_in};
+    ghost use Rattle.command_quotas.specs.PoolsAndProofs.{pool_in};
     ghost use Rattle.command_meanings.specs.Why.{WhyMeans};
 
     ghost means = { λ command about. IsRight (WhyMeans (pool_in about)) };

@@ -1,7 +1,7 @@
 use Rattle.std.proofs.Common.{subst}
 use Rattle.command_meanings.specs.Why.{OfConflict, OfPanel}
 use Rattle.quota_conflicts.specs.Answers.{IsExplanation}
-use Rattle.command_why.proofs.why.told.Goals as goal
+use Rattle.command_quotas.proofs.why.told.Goals as goal
 
 pub returns-in_ok-panel_text-in-Panel : goal.returns-in_ok-panel_text-in-Panel
 returns-in_ok-panel_text-in-Panel c =

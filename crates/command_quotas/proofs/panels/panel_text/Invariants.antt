@@ -1,7 +1,7 @@
 use Rattle.std.proofs.Common.{◌≡◌, [], ◌∷◌, ◌++◌, codes, take}
 use Rattle.std.specs.List.{flat_map}
 use Rattle.command_meanings.specs.Why.{id_line}
-use Rattle.command_why.proofs.panels.panel_text.Given as goal
+use Rattle.command_quotas.proofs.panels.panel_text.Given as goal
 
 -- `text` has the first line and the ids of the members read so far
 abbrev pub invariant-loop-number : goal.invariant-loop-number

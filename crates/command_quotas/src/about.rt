@@ -19,7 +19,7 @@ pub enum PoolOrProof {
 }
 
 impl Subject for PoolOrProof {
-    ghost use Rattle.command_why.specs.PoolsAndProofs.{pool_or_proof_format};
+    ghost use Rattle.command_quotas.specs.PoolsAndProofs.{pool_or_proof_format};
 
     ghost format = { pool_or_proof_format };
 

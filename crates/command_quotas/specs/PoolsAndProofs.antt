@@ -7,8 +7,8 @@ use Rattle.define_pools.specs.Pool.{Pool}
 use Rattle.define_proofs.specs.ProofReading.{read_proof}
 use Rattle.command_shell.specs.Formats.{IsPoolText, IsProofText}
 use Rattle.command_shell.specs.Subjects.{Format}
-use Rattle.command_why.specs.declared.about.PoolOrProof.{PoolOrProof}
-use Rattle.command_why.specs.declared.about.PoolOrProof.TheVariants as either
+use Rattle.command_quotas.specs.declared.about.PoolOrProof.{PoolOrProof}
+use Rattle.command_quotas.specs.declared.about.PoolOrProof.TheVariants as either
 
 -- the pool of a proof
 abbrev pub pool_of : Proof → Pool

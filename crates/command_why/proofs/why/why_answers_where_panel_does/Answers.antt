@@ -1,5 +1,0 @@
-use Rattle.command_why.proofs.WherePanel.{where_panel}
-use Rattle.command_why.proofs.why.why_answers_where_panel_does.Goals as goal
-
-pub returns : goal.returns
-returns c = where_panel
