@@ -26,7 +26,7 @@ use crate::proving::ProveByEngine;
 use crate::room::tell_if_any;
 use crate::texts::{text_in_tickets, text_of, text_of_short_draw, text_of_short_drawn_page};
 use command_explain::Explain;
-use command_loosen::LoosenByProof;
+use command_quotas::LoosenByProof;
 use command_questions::{InTickets, Question};
 use command_quotas::Why;
 use std::alloc::Global;

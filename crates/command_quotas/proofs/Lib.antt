@@ -1,1 +1,5 @@
 pub mod WherePanel
+pub mod Pairs
+pub mod Least
+pub mod OneAnswer
+pub mod BySearch

@@ -7,8 +7,17 @@
 #![tactic(auto)]
 
 mod about;
+mod lines;
+mod loosen;
+mod loosen_by_proof;
 mod panels;
 mod why;
+mod worked;
+
+pub use loosen::{Loosen, loosen_has_one_answer};
+pub use loosen_by_proof::{
+    LoosenByProof, loosen_by_proof_answers_where_loosen_does, loosen_totals_are_equal,
+};
 
 pub use about::PoolOrProof;
 pub use why::{Why, why_answers_where_panel_does};

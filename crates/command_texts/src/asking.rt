@@ -19,7 +19,7 @@ use crate::commands::TextCommand;
 use command_bundles::{Check, Seal};
 use command_bundles::{CheckCover, ItsCover};
 use command_explain::Explain;
-use command_loosen::{Loosen, LoosenByProof};
+use command_quotas::{Loosen, LoosenByProof};
 use command_questions::Page;
 use command_pools::FirstPanel;
 use command_proofs::{ItsBundle, Prove, Verify};

@@ -1,6 +1,6 @@
 -- Least loosenings of a pool: bounds moved so that there is a quota panel, and as little as possible. Builds on Teams and Costs, on Pool of
 -- `define_pools`, and on Best, Classes and Compositions of `define_searches`. `quota_loosen` and `loosening_by_proof` find least
--- loosenings, `define_quotas` has laws on them, and `command_loosen` prints them.
+-- loosenings, `define_quotas` has laws on them, and `command_quotas` prints them.
 use Rattle.std.specs.Prelude.{◌≡◌, ◌≢◌, ◌↔◌, ℕ, ◌≤◌, ◌<◌, Bool, IsTrue, List, [], Option, option_map}
 use Rattle.define_pools.specs.Pool.{Pool, is_quota_panel, panels}
 use Rattle.define_searches.specs.Best.{comes_before}

@@ -1,6 +1,6 @@
 -- Teams: panels that need not meet the quotas. What a team costs, and the pool whose bounds are moved so that the team is a quota panel.
 -- Builds on Pool of `define_pools`. `quota_loosen`, which searches for a team, `define_quotas`, `loosening_by_proof` and
--- `command_loosen` use it.
+-- `command_quotas` use it.
 use Rattle.std.specs.Prelude.{◌≡◌, ℕ, ◌+◌, ◌-◌, Bool, ◌&&◌, List, [], ◌∷◌, map, max, min, sum_by}
 use Rattle.std.specs.List.{enumerate_from}
 use Rattle.define_pools.specs.Pool.{BoundedValue, Category, Pool, Volunteer, is_of_size, keeps_households, keeps_standings, members_with}

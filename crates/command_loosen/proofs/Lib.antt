@@ -1,4 +1,0 @@
-pub mod Pairs
-pub mod Least
-pub mod OneAnswer
-pub mod BySearch
