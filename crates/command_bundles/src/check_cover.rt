@@ -10,7 +10,7 @@ ghost use Rattle.command_shell.specs.Answers.{HasOneAnswer, IsRight, saying};
 ghost use Rattle.command_meanings.specs.CheckCover.{CheckCoverMeans};
 
 use crate::given_cover::GivenCover;
-use command_bundles::verdict_answer;
+use crate::verdict_answer;
 use command_shell::{Answer, Command, Meaning};
 use cover_cert::{Cover, Steps, Verdict, check_cover};
 use std::alloc::{AllocError, Global};

@@ -6,7 +6,7 @@ ghost use Rattle.define_draws.specs.ShortBundle.{shortened_bundle};
 
 use bundle_text::Bundle;
 use pool_model::Answer;
-use short_tickets::shorten;
+use crate::shorten;
 use std::alloc::{AllocError, Global};
 
 /// Returns the bundle with its lottery shortened to `tickets` tickets, from 1 to 10^9. The weights of the bundle sum to its total. The
