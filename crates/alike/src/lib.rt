@@ -1,7 +1,5 @@
 //! Classes of volunteers who are alike, the first panel of a composition, and the lottery that spreads compositions over panels. Contracts
-//! see them as the records and lists of `define_searches` and `define_runs`. Stands on `pool_model`, `define_rows` for `Composition`,
-//! and `frac128`. Used by `panel_search`, `pricing_pool` and `quota_loosen`, which search over classes; `leximin_run`, which spreads; the
-//! command `panel`; the engine of `prove`.
+//! see them as the records and lists of `define_searches` and `define_runs`.
 //!
 //! Promises: `classes`, `class_numbers`, `first_panel` and `spread` return exactly what the definitions say. The contracts of `facts` and
 //! `class_at` say what holds of each `Classes`. The modules `arcs` and `dials` are helpers.

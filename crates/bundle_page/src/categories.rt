@@ -4,11 +4,11 @@ ghost use Rattle.std.specs.Prelude.{◌≡◌, ◌≤◌, ◌^◌, ◌++◌, ◌
 ghost use Rattle.define_lines.specs.Lines.{text_of};
 ghost use Rattle.bundle_page.specs.Page.{category_lines, category_parts, numbers_part, shapes_part, value_lines, value_parts, words_part};
 
+use crate::fixed_point;
 use crate::markup::{escaped, fill};
 use crate::shares::{Share, share_of};
 use crate::sizes::{Sizes, sizes_of};
 use crate::templates::{CATEGORY, END_OF_CATEGORY, NUMBERS, SHAPES, WORDS};
-use crate::fixed_point;
 use itoa::Buffer;
 use pool_model::{Category, Name, Pool};
 use std::alloc::{AllocError, Global};

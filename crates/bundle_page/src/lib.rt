@@ -1,11 +1,10 @@
 //! The page about a bundle: one HTML file, without a script and without anything from elsewhere, that shows the volunteers and the seats of
-//! each value, all chances, the seal, and a draw if there was one. Stands on the numbers of `bundle_page`, which `chances` prints too,
-//! on `bundle_text`, on the draws of `sealed_draw` and on the lines of `text_lines`. Used by `command_questions`, and `command_stores`, whose
-//! page of a round has the title of its assembly; `command_browser` cites its definitions.
+//! each value, all chances, the seal, and a draw if there was one. And the numbers that it shares with the command `chances`: each
+//! volunteer's chance, with its decimals.
 //!
 //! Promises: `write_page`, `write_drawn_page`, `page_with`, `round_head` and `drawn_part` return exactly the texts of `specs/Page.antt`:
 //! the fixed texts of `templates`, with the numbers and the names in their places. In names, the bytes that HTML uses as markup are
-//! escaped.
+//! escaped. The numbers are exactly those of the definitions.
 #![tactic(auto)]
 
 mod categories;
@@ -22,7 +21,6 @@ mod writing;
 
 pub use counts::{counts_of, greatest, least};
 pub use decimals::{fixed_point, fraction_text, power_of_ten, ten_thousandths};
-pub use sums::{Sum, rounded_sum, sum_text, sum_with};
-
 pub use drawn::drawn_part;
+pub use sums::{Sum, rounded_sum, sum_text, sum_with};
 pub use writing::{page_with, round_head, write_drawn_page, write_page};

@@ -17,6 +17,7 @@ ghost use Rattle.bundle_page.specs.Page.{
 };
 
 use crate::categories::push_categories;
+use crate::counts_of;
 use crate::curve::{push_chances, push_curve};
 use crate::drawn::drawn_part;
 use crate::markup::{escaped, fill, filled};
@@ -25,7 +26,6 @@ use crate::templates::{
     CLOSING, HEAD, LEAD, PLAIN_HEADING, PLAIN_TITLE, QUOTAS, ROUND_HEADING, TABLE,
 };
 use bundle_text::Bundle;
-use crate::counts_of;
 use itoa::Buffer;
 use pool_model::Pool;
 use sealed_draw::Draw;

@@ -1,7 +1,5 @@
 //! The text of a bundle, which is a pool with its answer: a lottery, and the stages that certify it. It is read into a bundle or answered
-//! with its first fault, and a bundle is written as its text. Stands on `pool_text`, which reads and writes the pool, `text_lines` and
-//! `define_bundles`. Used by `cert_check`, `sealed_draw`, `short_tickets`, `bundle_page` and the office, which take bundles; by proofs and
-//! their text, which have a bundle within; and by the commands.
+//! with its first fault, and a bundle is written as its text.
 //!
 //! Promises: `Bundle`, `read_bundle`, `write_bundle` and `is_in_ranges`. `Progress` and `after` are for the reader of proofs.
 #![tactic(auto)]

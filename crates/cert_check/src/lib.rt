@@ -1,7 +1,6 @@
-//! The check of a certificate: whether the stages of a bundle show that its lottery is leximin greatest, and if not, why. It uses none
-//! of the crates of the solver: `alike`, `exact_table`, `panel_search`, `pricing_pool` and `leximin_run`. Stands on `check_reasons` and
-//! `check_search`, `bundle_text` for bundles, and `define_checks`. `command_bundles` uses it for the command `check`, and `engine_tests`
-//! tests it. Promise: `check` returns exactly the verdict of the definition, or stops at the stage whose search exceeds its visits.
+//! The check of a certificate: whether the stages of a bundle show that its lottery is leximin greatest, and if not, why. It uses none of
+//! the crates of the solver: `alike`, `exact_table`, `panel_search`, `pricing_pool` and `leximin_run`. Promise: `check` returns exactly the
+//! verdict of the definition, or stops at the stage whose search exceeds its visits.
 #![tactic(auto)]
 
 mod checking;

@@ -1,5 +1,5 @@
 //! The constraints of a stage, with a coefficient for each volunteer. The pool's constraints are made once, and each stage that is passed
-//! adds its own. Stands on `pool_model`; `leaves` and `verifying` use this. It shares no code with the searches.
+//! adds its own. It shares no code with the searches.
 
 ghost use Rattle.std.specs.Prelude.{◌≡◌, ◌==◌, ◌++◌, ◌≤◌, ◌+◌, [], filter, IfOk, OnOk, if◌then◌else◌, insert, length, map, pos, slice_index, slice_index_or};
 ghost use Rattle.std.specs.List.{count_by, enumerate_from, find, flat_map, range_with_len};

@@ -1,6 +1,6 @@
 //! Tests whether a leaf shows a stage's cap: the charges of its multipliers and of the volunteers' rests are added up, and compared with
 //! the least that a panel above the cap weighs, times the scale. No sum is tested for its width, since a law says that none passes 128 bits
-//! if the problem is within reach and the leaf keeps its ranges. Stands on `constraints`; `trees` calls `leaf_shows`.
+//! if the problem is within reach and the leaf keeps its ranges.
 
 ghost use Rattle.std.specs.Prelude.{◌≡◌, ◌^◌, ◌<◌, ◌*ℤ◌, ◌+ℤ◌, IsTrue, length, pos, unsigned_abs};
 ghost use Rattle.define_proofs.specs.Constraints.{constraint_at, signed_sum};

@@ -1,5 +1,5 @@
 //! The walk through the lines of a tree, which finds the first fault: a line that can't come next, a leaf whose multipliers do not show the
-//! cap, or that the lines end before the tree is complete. Stands on `paths`, `leaves` and `check_reasons`; `verifying` calls `tree_fault`.
+//! cap, or that the lines end before the tree is complete.
 
 ghost use Rattle.std.specs.Prelude.{◌≡◌, IfOk, IsTrue, OnOk, length, true, Ok, Err};
 ghost use Rattle.std.specs.List.{list_all};

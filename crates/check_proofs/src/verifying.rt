@@ -1,6 +1,5 @@
 //! The check of a proof, reason by reason: the reasons of the lottery, and then for each stage the reasons before its cap, the reach of its
-//! numbers, the reasons of its tree, and those of the listed panels. Stands on all other modules. `verify` is the promise; the other
-//! functions are helpers.
+//! numbers, the reasons of its tree, and those of the listed panels. `verify` is the promise; the other functions are helpers.
 
 ghost use Rattle.std.specs.Prelude.{◌≡◌, ◌∷◌, [], IfOk, IsTrue, List, length, map, pos};
 ghost use Rattle.std.specs.List.{list_all};
@@ -21,8 +20,9 @@ ghost use Rattle.check_proofs.specs.Kept.{AreConstraintsOf};
 use crate::constraints::Constraints;
 use crate::leaves::Problem;
 use crate::trees::{Fault, tree_fault};
-use check_reasons::{Course, Verdict, lottery_verdict};
-use check_reasons::{bundle_line_count, lines_after, pool_line_count};
+use check_reasons::{
+    Course, Verdict, bundle_line_count, lines_after, lottery_verdict, pool_line_count,
+};
 use pool_model::{Answer, Pool, Stage, Volunteer};
 use proof_text::{Parts, Proof, TreeLine, TreeLines};
 use std::alloc::{AllocError, Global};

@@ -1,10 +1,9 @@
 //! The reasons for which a certificate is refused, in their order: first those of the lottery; then, for each stage, those that are tried
 //! before its cap, and that a listed panel doesn't weigh the cap; last, that somebody is left unsettled. Reason 8, that a quota panel is
-//! above a cap, isn't here, since a search or a proof decides it. Stands on `define_checks`, which defines the reasons, and `pool_model`.
-//! Used by `cert_check`, which searches for such a panel, and by `check_proofs` and `cover_cert`, which check proofs and covers that there
-//! is none.
+//! above a cap, isn't here, since a search or a proof decides it. And the numbers of the lines that verdicts name (`line_counts`).
 //!
-//! Promises: `lottery_verdict`, the calls of `Course`, and `Verdict` with its `Refusal`. The module `quotas` is a helper.
+//! Promises: `lottery_verdict`, the calls of `Course`, `Verdict` with its `Refusal`, and the counts of lines. The module `quotas` is a
+//! helper.
 #![tactic(auto)]
 
 mod counting;
@@ -14,7 +13,6 @@ mod quotas;
 mod verdicts;
 
 pub use counting::{bundle_line_count, lines_after, pool_line_count};
-
 pub use courses::Course;
 pub use lotteries::lottery_verdict;
 pub use verdicts::{Refusal, Verdict};

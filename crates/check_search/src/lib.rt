@@ -1,8 +1,6 @@
-//! A check's search for a quota panel above the cap of a stage, under a budget of visits. It makes classes of its own, which also
-//! depend on the weights of the stages, and goes through their compositions. It uses none of the crates of the
-//! solver: `alike`, `exact_table`, `panel_search`, `pricing_pool` and `leximin_run`. Stands on `define_checks`, which says what the search
-//! finds and what a visit is, `define_searches`, and `pool_model`. Used by `cert_check`, and by `cover_cert`, which judges single fronts by the
-//! classes, rows and tallies of this crate.
+//! A check's search for a quota panel above the cap of a stage, under a budget of visits. It makes classes of its own, which also depend on
+//! the weights of the stages, and goes through their compositions. It uses none of the crates of the solver: `alike`, `exact_table`,
+//! `panel_search`, `pricing_pool` and `leximin_run`.
 //!
 //! Promise: `panel_above_cap`. All else is a helper.
 #![tactic(auto)]

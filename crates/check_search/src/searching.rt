@@ -1,5 +1,5 @@
-//! The search for the first composition that attains the earlier caps and weighs more than the cap, front by front: classes in their
-//! order, the greatest count first.
+//! The search for the first composition that attains the earlier caps and weighs more than the cap, front by front: classes in their order,
+//! the greatest count first.
 
 ghost use Rattle.std.specs.Prelude.{◌≡◌, ◌≤◌, ◌<◌, ◌+◌, [], ◌∷◌, ◌++◌, true, false, ◌&&◌, length, take, drop, int_le, int_lt, IfOk, OnOk, OnErr};
 ghost use Rattle.std.specs.List.{list_all};

@@ -18,11 +18,9 @@ ghost use Rattle.command_browser.specs.Told.{TextOf, Told, WithWords};
 
 use crate::room::tell;
 use crate::texts::{text_of, text_of_draw, text_of_drawn_page};
-use command_bundles::Seal;
-use command_bundles::CheckCover;
-use command_questions::Page;
+use command_bundles::{CheckCover, Seal};
 use command_proofs::{ItsBundle, Verify};
-use command_questions::Question;
+use command_questions::{Page, Question};
 use std::alloc::Global;
 
 /// Puts into `room` the text that `verify` answers about a proof.

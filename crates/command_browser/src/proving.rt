@@ -11,9 +11,8 @@ ghost use Rattle.command_browser.specs.Proving.{ProvesByEngine, no_proof_line};
 use command_proofs::{Made, proof_within};
 use command_shell::{Answer, Cause, Command, Meaning, Printed};
 use pool_model::Pool;
+use proof_text::{Parts, Proof, write_proof};
 use prove_limits::Budget;
-use proof_text::{Parts, Proof};
-use proof_text::write_proof;
 use std::alloc::{AllocError, Global};
 
 const NO_PROOF_LINE: &[u8] = b"spent\tengine\n";

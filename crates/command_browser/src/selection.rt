@@ -1,6 +1,6 @@
-//! The exported calls for a page that makes a selection: the lottery of a pool, what to do if there is no panel, the draw in a round number of
-//! tickets, and the pool of the next round. They are as the calls of `calls`, but of an empty text nothing is put, and the result is 0. No
-//! command answers with an empty text; that isn't proved.
+//! The exported calls for a page that makes a selection: the lottery of a pool, what to do if there is no panel, the draw in a round number
+//! of tickets, and the pool of the next round. They are as the calls of `calls`, but of an empty text nothing is put, and the result is 0.
+//! No command answers with an empty text; that isn't proved.
 
 ghost use Rattle.std.specs.Prelude.{IsUtf8, Some};
 ghost use Rattle.command_shell.specs.Answers.{IsRight};
@@ -26,9 +26,8 @@ use crate::proving::ProveByEngine;
 use crate::room::tell_if_any;
 use crate::texts::{text_in_tickets, text_of, text_of_short_draw, text_of_short_drawn_page};
 use command_explain::Explain;
-use command_quotas::LoosenByProof;
 use command_questions::{InTickets, Question};
-use command_quotas::Why;
+use command_quotas::{LoosenByProof, Why};
 use std::alloc::Global;
 
 /// Puts into `room` the text that `prove` answers about a pool if its engine makes a proof within these limits, or the line that it makes

@@ -16,8 +16,7 @@ ghost use Rattle.command_meanings.specs.Page.{DrawnPageMeans};
 ghost use Rattle.command_browser.specs.Told.{TextAbout, TextOf, WithTickets, WithWords};
 
 use command_bundles::{Draw, ShortDraw};
-use command_questions::DrawnPage;
-use command_questions::{InTickets, Question};
+use command_questions::{DrawnPage, InTickets, Question};
 use command_shell::{Answer, Cause, Command, Subject, input_line};
 use short_tickets::TicketCount;
 use std::alloc::{AllocError, Global};

@@ -6,8 +6,8 @@ ghost use Rattle.command_shell.specs.Answers.{HasOneAnswer, IsRight, saying};
 ghost use Rattle.command_meanings.specs.ItsCover.{CoverMeans};
 ghost use Rattle.command_bundles.specs.Covered.{TellsCovered};
 
-use bundle_text::Bundle;
 use crate::{check_stop_answer, verdict_answer};
+use bundle_text::Bundle;
 use command_shell::{Answer, Command, Meaning, Printed};
 use cover_cert::{Covered, Verdict, cover};
 use cover_text::write_cover;

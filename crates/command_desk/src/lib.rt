@@ -1,7 +1,5 @@
 //! The command `serve`, which opens the desk of an office: it attends the links that a door gives, one after the other, over the tables of
-//! a store, and then tells how many it served. To attend a link is to read a request from it and to write the reply. Stands on
-//! `office_http`, which attends one link, on what `office_requests` says of its reads, on the shell of commands, and on what
-//! `command_stores` says of stores.
+//! a store, and then tells how many it served. To attend a link is to read a request from it and to write the reply.
 //!
 //! Promises: `call_serve`, and the law that the two numbers of its line sum to the number of links that were attended.
 #![tactic(auto)]

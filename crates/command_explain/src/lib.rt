@@ -1,8 +1,7 @@
-//! The command `explain`, which reads anything: it says in words what a right text holds, or what is wrong with any other file. Stands on
-//! `text_words`, which makes the words, on the readers of texts, and on the shell.
+//! The command `explain`, which reads anything: it says in words what a right text holds, or what is wrong with any other file.
 //!
-//! Promises: `Explain` answers as Explain of `command_meanings` says. The status and the line `input` are exact: they are those of the commands
-//! that read texts of this form. No contract says what the words are.
+//! Promises: `Explain` answers as Explain of `command_meanings` says. The status and the line `input` are exact: they are those of the
+//! commands that read texts of this form. No contract says what the words are.
 #![tactic(auto)]
 
 mod any_text;

@@ -1,7 +1,7 @@
-//! What the commands answer: which text or line is right at which status. Each command has a file in `specs/`, which says it status by status;
-//! so has `lottery` with its flag `--share` (Sharing), and so have all questions about a bundle (Question), all commands of the office and
-//! texts about a round (Steps), all imports (Imports), and `prove` over a store (ProvedRounds). `serve` prints no answer of its own: what a
-//! call of it does is said in `command_desk`. Stands on `command_shell` and on definitions.
+//! What the commands answer: which text or line is right at which status. Each command has a file in `specs/`, which says it status by
+//! status; so has `lottery` with its flag `--share` (Sharing), and so have all questions about a bundle (Question), all commands of the
+//! office and texts about a round (Steps), all imports (Imports), and `prove` over a store (ProvedRounds). `serve` prints no answer of its
+//! own: what a call of it does is said in `command_desk`.
 //!
 //! Promises: the laws in `laws.rt`, and `evidence_of_taken_nodes`, without which `prove` can't answer that no trees are found.
 #![tactic(auto)]

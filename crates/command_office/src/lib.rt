@@ -1,8 +1,8 @@
 //! The top call of the program. `office` reads the words and makes one call of the command that they ask for, over a source, two sinks, a
-//! keeper and a door. `asked` has the list of all commands with their arguments. Stands on the shell and on the crates of commands.
+//! keeper and a door. `asked` has the list of all commands with their arguments.
 //!
-//! Promises: the contract of `office` says for each list of words what each status means (`specs/Office.antt`), and what follows from it, on
-//! one page (`specs/Headline.antt`). `promises` has the laws by which it follows, and those that speak of several calls.
+//! Promises: the contract of `office` says for each list of words what each status means (`specs/Office.antt`), and what follows from it,
+//! on one page (`specs/Headline.antt`). `promises` has the laws by which it follows, and those that speak of several calls.
 #![tactic(auto)]
 
 mod asked;

@@ -1,10 +1,9 @@
 //! The commands about a pool: `panel`, `lottery`, also with its flag `--share`, `legs` and `make`. Each is a struct of its arguments that
-//! answers about a pool; what its answers mean is defined in `command_meanings`. Stands on the searches, the run, and the texts of pools and
-//! bundles.
+//! answers about a pool; what its answers mean is defined in `command_meanings`.
 //!
 //! Promises: the commands, `call_lottery`, `call_shared_lottery`, `call_legs`, `call_make`, `Volunteers::new`; `run_lottery` and
-//! `lottery_limits`, which `prove` uses; `stop_answer`, which commands over a store use too; and `first_panel_within` and `visits_spent`, which
-//! `why` uses too.
+//! `lottery_limits`, which `prove` uses; `stop_answer`, which commands over a store use too; and `first_panel_within` and `visits_spent`,
+//! which `why` uses too.
 #![tactic(auto)]
 
 mod legs;

@@ -7,11 +7,11 @@ ghost use Rattle.prove_run.specs.Made.{IsOfPool};
 ghost use Rattle.command_proofs.specs.Proved.{MakesOf};
 
 use bundle_text::Bundle;
-use pool_model::Pool;
-use prove_limits::Budget;
-use proof_text::Proof;
-use prove_run::{RunMade, make_proof};
 use check_proofs::verify;
+use pool_model::Pool;
+use proof_text::Proof;
+use prove_limits::Budget;
+use prove_run::{RunMade, make_proof};
 use std::alloc::{AllocError, Global};
 
 /// What a run made of a pool.

@@ -14,13 +14,12 @@ ghost use Rattle.proof_text.specs.Parts.{seen};
 use crate::beyond::first_beyond;
 use crate::proving_lines::spent;
 use bundle_text::Bundle;
+use check_proofs::{Verdict, verify};
 use command_bundles::{check_bundle, verdict_answer};
 use command_shell::{Answer, Printed};
+use proof_text::{Parts, Proof, write_proof};
 use prove_limits::Budget;
-use proof_text::{Parts, Proof};
 use prove_run::{TreesBy, prove_bundle};
-use proof_text::write_proof;
-use check_proofs::{Verdict, verify};
 use std::alloc::{AllocError, Global};
 
 /// The visits of each search of a check.

@@ -7,11 +7,11 @@ ghost use Rattle.command_proofs.specs.Verified.{TellsVerdict};
 ghost use Rattle.proof_text.specs.Parts.{seen};
 
 use crate::lines::valid_none_line;
+use check_proofs::{Verdict, verify};
 use command_bundles::{refused_line, valid_line};
 use command_meanings::verify_has_one_answer;
 use command_shell::{Answer, Command, Meaning, Printed};
 use proof_text::{Parts, Proof};
-use check_proofs::{Verdict, verify};
 use std::alloc::{AllocError, Global};
 
 /// `verify`: the verdict on a proof.

@@ -6,11 +6,11 @@ ghost use Rattle.define_pools.specs.Lottery.{TotalAgrees};
 ghost use Rattle.command_questions.specs.Chances.{chance_line, chance_lines, end_lines, lines_of_chances, lines_of_counts, number_line_of, number_with as words_of_number, sum_line, sum_lines, value_lines};
 
 use crate::dice::push_number;
-use bundle_text::Bundle;
 use bundle_page::{
     Sum, counts_of, fixed_point, fraction_text, greatest, least, sum_text, sum_with,
     ten_thousandths,
 };
+use bundle_text::Bundle;
 use itoa::Buffer;
 use pool_model::{BoundedValue, Category, Name, Pool, Volunteer};
 use std::alloc::{AllocError, Global};

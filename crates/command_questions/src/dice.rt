@@ -6,8 +6,8 @@ ghost use Rattle.define_lines.specs.Lines.{text_of};
 ghost use Rattle.define_made_pools.specs.Summary.{number_line};
 ghost use Rattle.command_questions.specs.Dice.{dice_lines, lines_for_tickets, refused_line};
 
-use bundle_text::Bundle;
 use bundle_page::{fixed_point, fraction_text, power_of_ten};
+use bundle_text::Bundle;
 use itoa::Buffer;
 use std::alloc::{AllocError, Global};
 use text_lines::push_line;

@@ -15,8 +15,8 @@ use command_pools::{first_panel_within, visits_spent};
 use command_shell::{Answer, Command, Meaning, Printed};
 use panel_search::SearchStop;
 use pool_model::Pool;
-use prove_limits::{Budget, ProveStop};
 use proof_text::{Parts, TreeLine};
+use prove_limits::{Budget, ProveStop};
 use quota_conflicts::{Explanation, all_together, conflict_text, why};
 use std::alloc::{AllocError, Global};
 

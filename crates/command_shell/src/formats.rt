@@ -5,8 +5,7 @@ use crate::subject::Subject;
 use bundle_text::{Bundle, ReadBundle, read_bundle};
 use pool_model::Pool;
 use pool_text::{ReadPool, read_pool};
-use proof_text::Proof;
-use proof_text::read_proof;
+use proof_text::{Proof, read_proof};
 use std::alloc::Global;
 use text_lines::{TextFault, TextStop};
 

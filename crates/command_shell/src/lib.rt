@@ -1,7 +1,7 @@
 //! The shell that all commands of the program share. A command is a function from its arguments and the value of its input to an answer; it
 //! never sees `out` or `errs`. `answer_about` reads that value from bytes and asks the command. `call` reads the source, asks for the
 //! answer about its bytes and writes it; its contract is proved for every meaning of a command. `call_answered_by` does the same with a
-//! closure that answers, because methods of traits can't start threads. Stands on `outside` and on the readers of texts.
+//! closure that answers, because methods of traits can't start threads.
 //!
 //! Promises: `call`, `call_answered_by`, `call_silent`, `refuse_words`, `want_memory`. The rest serves the commands.
 #![tactic(auto)]

@@ -1,5 +1,5 @@
-//! How a call reads its source, and what it tells if the source gives no input. `calling` uses both functions, and so does
-//! `command_stores` for imports.
+//! How a call reads its source, and what it tells if the source gives no input. `calling` uses both functions, and so does `command_stores`
+//! for imports.
 
 ghost use Rattle.std.specs.Prelude.{IfErr, IfOk};
 ghost use Rattle.command_shell.specs.Answers.{status_number};

@@ -18,8 +18,7 @@ use command_shell::{Answer, Cause, Resources, Status, input_line, read_input, re
 use office_core::{Command, Keeper, KeeperStop, Part, Refusal, Tables};
 use office_import::{ImportFault, ImportStop, read_charter, read_register, read_rules};
 use outside::{Sink, Source, Watch};
-use proof_text::Proof;
-use proof_text::read_proof;
+use proof_text::{Proof, read_proof};
 use std::alloc::{AllocError, Global};
 use std::thread::Threads;
 use text_lines::TextStop;

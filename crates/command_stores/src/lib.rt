@@ -1,8 +1,6 @@
 //! The shell of commands over a store. `call_step` makes one call of any command of the office: it attaches the keeper, loads the tables,
 //! lets `act_over` decide and store, and tells the answer. `call_import` does so for a command that is read from a file, `call_prove_round`
-//! for a proof that it makes of a round's pool, and `call_text` prints a text that is made of the tables. Stands on `office_core`,
-//! `office_import`, `office_reports`, `bundle_page` and `command_proofs`, on the shell of commands, and on the crates of commands that have
-//! the same lines.
+//! for a proof that it makes of a round's pool, and `call_text` prints a text that is made of the tables.
 //!
 //! Promises: `call_step`, `call_import`, `call_prove_round`, `call_text`, and the laws that a command and an import have at most one
 //! answer.

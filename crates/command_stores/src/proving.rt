@@ -1,5 +1,5 @@
-//! One call of `prove` over a store: a proof is made of the pool of an open round, and given to the office. Where none is made, the round is
-//! solved.
+//! One call of `prove` over a store: a proof is made of the pool of an open round, and given to the office. Where none is made, the round
+//! is solved.
 
 ghost use Rattle.std.specs.Prelude.{◌≡◌, IfOk, IfSome, Result};
 ghost use Rattle.command_shell.specs.Told.{Bytes, IsUntouched, object, told};

@@ -15,13 +15,13 @@ ghost use Rattle.office_core.specs.Deciding.{IsEnding};
 
 use crate::calling::{answer_or_want, load_at, tell_settled};
 use crate::refusals::refusal_answer;
+use check_proofs::Verdict;
 use command_bundles::refused_line;
 use command_pools::stop_answer;
 use command_shell::{Answer, Printed, Resources, Status, no_panel};
 use leximin_run::Stop;
 use office_core::{ActStop, Command, Keeper, KeeperStop, Reply, Tables, act_over};
 use outside::{Sink, Watch};
-use check_proofs::Verdict;
 use std::alloc::{AllocError, Global};
 use std::thread::Threads;
 

@@ -18,9 +18,9 @@ use crate::refusals::refusal_answer;
 use command_meanings::{RoundText, StoreText};
 use command_shell::{Answer, Printed, Status};
 use office_core::{Keeper, KeeperStop, PoolStop, Refusal, Tables, pool_of};
+use office_reports::round_report;
 use outside::Sink;
 use pool_text::write_pool;
-use office_reports::round_report;
 use std::alloc::{AllocError, Global};
 
 /// Makes one call that prints a text made of the tables of the store at `path`.

@@ -16,15 +16,12 @@ ghost use Rattle.command_texts.specs.TextAsked.{
 };
 
 use crate::commands::TextCommand;
-use command_bundles::{Check, Seal};
-use command_bundles::{CheckCover, ItsCover};
+use command_bundles::{Check, CheckCover, ItsCover, Seal};
 use command_explain::Explain;
-use command_quotas::{Loosen, LoosenByProof};
-use command_questions::Page;
 use command_pools::FirstPanel;
 use command_proofs::{ItsBundle, Prove, Verify};
-use command_questions::{InTickets, Question};
-use command_quotas::Why;
+use command_questions::{InTickets, Page, Question};
+use command_quotas::{Loosen, LoosenByProof, Why};
 use command_words::{CommandName, Given, Word};
 use short_tickets::TicketCount;
 

@@ -1,14 +1,11 @@
 //! The commands that read one text, with their arguments.
 
-use command_bundles::{Check, Seal};
-use command_bundles::{CheckCover, ItsCover};
+use command_bundles::{Check, CheckCover, ItsCover, Seal};
 use command_explain::Explain;
-use command_quotas::{Loosen, LoosenByProof};
-use command_questions::Page;
 use command_pools::FirstPanel;
 use command_proofs::{ItsBundle, Verify};
-use command_questions::Question;
-use command_quotas::Why;
+use command_questions::{Page, Question};
+use command_quotas::{Loosen, LoosenByProof, Why};
 use command_words::Word;
 use short_tickets::TicketCount;
 

@@ -1,5 +1,5 @@
 //! The commands that read one text and start no threads, as one list, and one function that answers any of them from the bytes of its
-//! input. Stands on the crates of these commands, on the words of `command_words`, whose texts a command borrows, and on the shell.
+//! input.
 //!
 //! Promises: `answer_text` answers as `specs/TextMeans.antt` says, which names for each command its format and its meaning; `call` of the
 //! shell tells that answer for a `TextCommand`.

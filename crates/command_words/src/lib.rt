@@ -4,7 +4,6 @@
 //! reading the values of a command's options (`values.rt`) and the rule that says what words give (`specs/Words.antt`) are proved once for
 //! every table.
 //!
-//! Stands on `clap`, and on `thiserror` for its error.
 //! Promises: `read_words` and the calls of `Given` and `Word`.
 #![tactic(auto)]
 

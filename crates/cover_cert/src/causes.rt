@@ -1,4 +1,4 @@
-//! The first cause that applies to a front. Stands on `judging`; `making` gives each line its cause by `first_cause`.
+//! The first cause that applies to a front.
 
 ghost use Rattle.std.specs.Prelude.{◌≡◌, ◌≤◌, [], drop, length, option_map};
 ghost use Rattle.std.specs.List.{find, range_with_len};

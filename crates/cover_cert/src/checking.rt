@@ -1,5 +1,5 @@
-//! The check of a cover, reason by reason: those of the lottery, then for each stage those before its cap, that of its tree, and that of the
-//! listed panels. Stands on all other modules. `check_cover` is the promise.
+//! The check of a cover, reason by reason: those of the lottery, then for each stage those before its cap, that of its tree, and that of
+//! the listed panels. `check_cover` is the promise.
 
 ghost use Rattle.std.specs.Prelude.{◌≡◌, ◌≤◌, ◌+◌, ◌∷◌, [], IfOk, IsTrue, length, sum_by};
 ghost use Rattle.std.specs.List.{list_all};
@@ -12,10 +12,9 @@ ghost use Rattle.define_covers.specs.CoverSteps.{stage_verdict as stage_verdict_
 
 use crate::steps::Steps;
 use crate::trees::{Fault, tree_fault};
-use check_reasons::{Course, Verdict, lottery_verdict};
+use check_reasons::{Course, Verdict, bundle_line_count, lines_after, lottery_verdict};
 use check_search::terms_of;
 use cover_text::{Cover, FrontLine, Fronts};
-use check_reasons::{bundle_line_count, lines_after};
 use pool_model::Stage;
 use std::alloc::{AllocError, Global};
 use std::sync::ledger::Ledger;

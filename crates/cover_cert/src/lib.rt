@@ -1,10 +1,6 @@
 //! Covers made and checked. A cover shows without a search that the caps of a certificate hold, so that the lottery is leximin greatest.
-//! `cover` checks a certificate, and if it is valid, returns the fronts that the check's searches tried and didn't enter. `check_cover` says
-//! whether a cover shows what it should; if not, why it is refused. It searches nothing: it judges each front of the cover once.
-//!
-//! Stands on `cert_check`, which searches, on `check_reasons`, for the reasons that do not concern trees, on the classes, rows and tallies of
-//! `check_search`, on the values of `cover_text`, on `check_reasons`, for the lines that verdicts name, and on `define_covers` and
-//! `define_covers`.
+//! `cover` checks a certificate, and if it is valid, returns the fronts that the check's searches tried and didn't enter. `check_cover`
+//! says whether a cover shows what it should; if not, why it is refused. It searches nothing: it judges each front of the cover once.
 //!
 //! Promises: `check_cover` returns exactly the verdict of the definitions, with a step for each front that it judges. `cover` answers as
 //! `check` of `cert_check` does, with a cover exactly if the certificate is valid, and `check_cover` finds that cover valid. All other

@@ -1,5 +1,5 @@
-//! The making of a cover: a check, and then for each stage the lines of its tree. The fronts are gone through one by one: after a live front
-//! comes its first child, after any other the next one in the order of the tree. Stands on `causes` and `order`. `cover` is the promise.
+//! The making of a cover: a check, and then for each stage the lines of its tree. The fronts are gone through one by one: after a live
+//! front comes its first child, after any other the next one in the order of the tree. `cover` is the promise.
 
 ghost use Rattle.std.specs.Prelude.{◌≡◌, [], IfOk, IsTrue, length, reverse};
 ghost use Rattle.std.specs.List.{list_all};

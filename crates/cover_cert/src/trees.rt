@@ -1,5 +1,5 @@
 //! The walk through the lines of a tree, which finds the first fault: a line that can't come next, a cause that doesn't apply, or that the
-//! lines end before the tree is complete. Stands on `order` and `judging`; `checking` calls `tree_fault`.
+//! lines end before the tree is complete.
 
 ghost use Rattle.std.specs.Prelude.{◌≡◌, ◌≤◌, ◌+◌, [], ◌∷◌, ℕ, IfOk, Ok, Err, OnOk, Some, None, length};
 ghost use Rattle.check_search.specs.Front.{Tracks};
@@ -11,9 +11,9 @@ ghost use Rattle.define_covers.specs.CoverVerdict.{fault_from};
 use crate::judging::judge;
 use crate::order::{continues, turned};
 use crate::steps::Steps;
+use check_reasons::lines_after;
 use check_search::{Tally, Terms};
 use cover_text::FrontLine;
-use check_reasons::lines_after;
 use std::alloc::{AllocError, Global};
 use std::marker::Model;
 use std::sync::ledger::Ledger;

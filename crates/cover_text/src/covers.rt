@@ -1,5 +1,4 @@
-//! Covers: a bundle with a tree for each stage of its certificate. Stands on `ranges`. Readers, writers and the check take and return
-//! `Cover`.
+//! Covers: a bundle with a tree for each stage of its certificate. Readers, writers and the check take and return `Cover`.
 
 ghost use Rattle.std.specs.Prelude.{◌≡◌, ◌↔◌, IfSome, IsSome, IsTrue};
 ghost use Rattle.define_covers.specs.CoverText.{IsCover};

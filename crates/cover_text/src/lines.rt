@@ -1,5 +1,4 @@
-//! The lines of a tree: what each is read as. Stands on `text_lines` and the ranges of `cover_text`; `progress` reads lines by these
-//! calls.
+//! The lines of a tree: what each is read as.
 
 ghost use Rattle.std.specs.Prelude.{◌≡◌, ◌<◌, ◌^◌, ◌==◌, nat_lt, ◌&&◌, if◌then◌else◌, map, IfOk, option_map};
 ghost use Rattle.define_bundles.specs.BundleReading.{numbers_up_to};

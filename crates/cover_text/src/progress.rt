@@ -1,5 +1,4 @@
-//! How far the text of a cover has been read: the progress after the lines so far, and after one more line. Stands on `lines`, and on the
-//! call `after` of `bundle_text`; `reading` calls `after` for each line.
+//! How far the text of a cover has been read: the progress after the lines so far, and after one more line.
 
 ghost use Rattle.std.specs.Prelude.{◌≡◌, IfOk};
 ghost use Rattle.bundle_text.specs.Progress.{seen as bundle_seen};
@@ -7,10 +6,10 @@ ghost use Rattle.pool_text.specs.Answers.{Tells};
 ghost use Rattle.define_covers.specs.CoverReading.{line_kind, after_line, Begun, InBundle, InTrees};
 ghost use Rattle.cover_text.specs.Progress.{seen};
 
+use crate::Fronts;
 use crate::lines::{LineInTree, line_in_tree};
 use crate::shared::begins_tree;
 use bundle_text::Progress as BundleProgress;
-use crate::Fronts;
 use pool_model::{Answer, BuildStop, Pool};
 use std::alloc::Global;
 

@@ -1,4 +1,4 @@
-//! The ranges of the numbers in a front's line. Stands on `fronts`; `covers` and `cover_text` test lines by these calls.
+//! The ranges of the numbers in a front's line.
 
 ghost use Rattle.std.specs.Prelude.{◌≡◌, nat_le};
 ghost use Rattle.std.specs.List.{list_all};

@@ -1,4 +1,4 @@
-//! Reading the text of a cover, line by line. Stands on `progress`. `read_cover` is the promise; the other functions are helpers.
+//! Reading the text of a cover, line by line. `read_cover` is the promise; the other functions are helpers.
 
 ghost use Rattle.std.specs.Prelude.{◌≡◌, Ok, IfOk};
 ghost use Rattle.define_covers.specs.Covers.{Cover as Words};
@@ -9,8 +9,8 @@ ghost use Rattle.cover_text.specs.Progress.{seen, IsClosedRight};
 
 use crate::progress::{ENDING, Progress, after};
 use crate::shared::{missing_in_bundle, stop_at};
-use bundle_text::{Bundle, Progress as BundleProgress};
 use crate::{Cover, Fronts};
+use bundle_text::{Bundle, Progress as BundleProgress};
 use pool_model::{Answer, Pool};
 use std::alloc::Global;
 use text_lines::{TextFault, TextStop, next_line};

@@ -1,5 +1,4 @@
-//! Writing the text of a cover, line by line into one growing buffer. Stands on `text_lines`, and on the writers of bundles and of the
-//! lines that begin trees. `write_cover` is the promise; the other functions are helpers.
+//! Writing the text of a cover, line by line into one growing buffer. `write_cover` is the promise; the other functions are helpers.
 
 ghost use Rattle.std.specs.Prelude.{◌≡◌, ◌++◌, ◌∷◌, [], map, codes, Ok, IfOk, OnOk};
 ghost use Rattle.std.specs.Fmt.{decimal};

@@ -68,11 +68,11 @@ own_or_lacks pool passed right =
           let parts = and_parts (must_house passed.version) (eqb passed.households 0) e in
           inr (inl (pool, right.is_pool, right.housed ∙ ap (ltb 0) (eqb-true passed.households 0 parts.1), ap (λ version. lines_in version pool) (second passed.version parts.0)))
       | false ↦ λ e. (elim (awaits_volunteers pool passed) as (λ b. awaits_volunteers pool passed ≡ b → (lines_in passed.version pool ≡ lines_before_end pool) ⊎ LacksLines (lines_in passed.version pool)) [
-          | true ↦ λ f.
-              let parts = and_parts (must_pass passed.version) (is_usual pool) f in
-              inr (inr (pool, right.is_pool, parts.1, ap (λ version. lines_in version pool) (third passed.version parts.0)))
-          | false ↦ λ f. inl (ap (λ version. lines_in version pool) (sym (own_version pool passed right (or_from (awaits_household passed) (awaits_volunteers pool passed) e f))))
-        ]) refl
+        | true ↦ λ f.
+            let parts = and_parts (must_pass passed.version) (is_usual pool) f in
+            inr (inr (pool, right.is_pool, parts.1, ap (λ version. lines_in version pool) (third passed.version parts.0)))
+        | false ↦ λ f. inl (ap (λ version. lines_in version pool) (sym (own_version pool passed right (or_from (awaits_household passed) (awaits_volunteers pool passed) e f))))
+      ]) refl
     ]) refl
   where
     second : (version : Version) → must_house version ≡ true → version ≡ Second

@@ -1,7 +1,5 @@
 //! The texts of pools and of bundles, each with its one spelling and the first fault of bytes that spell none. A bundle is a pool with its
-//! answer; the ranges of the answer's numbers are here too. The definitions are in `specs/`. Stands on `define_pools` and `define_lines`.
-//! Used by `pool_text` and `bundle_text`, which read and write these texts; by the definitions of checks, proofs, short draws, made pools,
-//! reports and offices; and by the crates of runs, checks, draws, proofs, commands and the office.
+//! answer; the ranges of the answer's numbers are here too. The definitions are in `specs/`.
 //!
 //! The functions have no body. They are the promises: laws over the definitions, and worked examples.
 #![tactic(auto)]

@@ -1,7 +1,5 @@
 //! A check of a certificate: the reasons for which it is refused, in their order, the verdict, and the visits of the check's searches. The
-//! definitions are in `specs/`. Stands on `define_pools`, `define_searches`, `define_rows` and the ranges of `define_bundles`. Used by
-//! `check_reasons`, `check_search` and `cert_check`, which check; by `define_proofs` and `check_proofs`, whose proofs need no search; by
-//! the commands `check`, `verify` and `prove`, and by the office.
+//! definitions are in `specs/`.
 //!
 //! The functions have no body: their contracts are laws over the definitions, which are promises, and worked examples. The law that matters
 //! most is `valid_where_certified`.

@@ -1,6 +1,4 @@
-//! Laws of covers: a valid cover shows that the caps of its certificate hold, so that its lottery is leximin greatest. Stands on
-//! `define_covers` and the definitions below it, and on the laws of fronts (`define_searches`). Used by `cover_cert`, which checks covers
-//! and makes them.
+//! Laws of covers: a valid cover shows that the caps of its certificate hold, so that its lottery is leximin greatest.
 //!
 //! The functions have no body. Their contracts are the laws, and the promises of this crate.
 ghost use Rattle.define_covers.specs.CoversHold.{CapsAreLeft, LiveWhereNoCause, TreesCoverCaps, ValidIsCertified, ValidWhereCovered};

@@ -1,13 +1,12 @@
 //! Covers: for each stage of a certificate a list of fronts, each with a cause for which no search need go on there; and the verdict on
-//! them. The definitions are in `specs/`. Stands on `define_checks`, whose searches the fronts cover, `define_proofs`, `define_searches`,
-//! `define_bundles` and `define_pools`. Used by `define_covers` and `cover_text`, which define, read and write the text of a cover, and
-//! by the crates that check and make covers.
+//! them. The definitions are in `specs/`. The text of a cover and its first fault are in `texts`, what a valid cover shows in `laws`, and
+//! what a refusal shows in `refused`.
 //!
 //! The functions have no body: their contracts are laws over the definitions, and worked examples.
 #![tactic(auto)]
 
-pub mod refused;
 pub mod laws;
+pub mod refused;
 pub mod texts;
 
 ghost use Rattle.std.specs.Prelude.{drop, ◌≡◌, ◌++◌, [], ◌∷◌};

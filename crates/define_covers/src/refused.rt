@@ -1,5 +1,5 @@
-//! What a refusal of a cover says: a reason below 11 that the certificate doesn't hold, 11 and 12 in which line of the cover's text the first
-//! fault of a tree is. Stands on `define_covers`, `define_covers` and the definitions below them.
+//! What a refusal of a cover says: a reason below 11 that the certificate doesn't hold, 11 and 12 in which line of the cover's text the
+//! first fault of a tree is.
 //!
 //! The functions have no body. Their contracts are the laws, and the promises of this crate.
 ghost use Rattle.std.specs.Prelude.{◌≡◌, ◌++◌, ◌+◌, ◌≤◌, drop, length, map, ℕ};

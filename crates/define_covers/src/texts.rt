@@ -1,6 +1,4 @@
-//! The text of a cover, and the first fault of bytes that are no cover's text. The definitions are in `specs/`. Stands on `define_covers`,
-//! `define_bundles`, `define_proofs`, whose trees have the same first and last lines, and `define_lines`. Used by `cover_text`, which
-//! holds, reads and writes covers, and by the crates above it.
+//! The text of a cover, and the first fault of bytes that are no cover's text. The definitions are in `specs/`.
 //!
 //! The functions have no body. Their contracts are the promises: laws over the definitions, and worked examples.
 ghost use Rattle.std.specs.Prelude.{◌≡◌, ◌≢◌, ◌++◌, [], ◌∷◌, codes, drop, length, map, take, ℕ, List, IsTrue, Ok, Err, Some, MatchResult};

@@ -1,8 +1,5 @@
 //! The desk of an office over HTTP, in definitions: what the bytes of a connection ask for, what the desk shows of the tables, and what it
-//! replies, byte for byte, with the tables afterwards. The definitions are in `specs/`. Stands on `define_offices`, on the grammar of heads
-//! of `httparse`, on the phrases of `http` and on the texts of `json`. Used by `office_requests`, which reads requests, `office_desk`,
-//! which answers them, `office_http`, which reads a request from a link and writes the reply, and `command_office`, which states what
-//! the program promises.
+//! replies, byte for byte, with the tables afterwards. The definitions are in `specs/`.
 //!
 //! The functions have no body: their contracts are worked examples, no promises.
 #![tactic(auto)]

@@ -1,12 +1,8 @@
-//! A public draw: the tickets of a lottery's rows, which ticket the digits of dice name, seals, and what is drawn. The definitions are in
-//! `specs/`. Stands on `define_pools` and the toolchain's definition of SHA-256. Used by `tickets`, which reads dice and finds rows;
-//! `sealed_draw`, which draws; `define_draws`, which shortens lotteries; `define_made_pools`, whose summary has a seal;
-//! `define_offices`, whose rounds are sealed and drawn in this way; `define_desk`, which finds a volunteer by the digest of a key;
-//! `define_offices`, whose reports show draws; the crates that compute by these definitions; the commands about seals, draws and dice; and
-//! the proofs of `define_offices` and `command_office`.
+//! A public draw: the tickets of a lottery's rows, which ticket the digits of dice name, seals, and what is drawn; and a lottery in a round
+//! number of tickets, so that fewer dice are needed (`short`). The definitions are in `specs/`.
 //!
-//! The functions have no body: their contracts are laws over the definitions, and worked examples. The promise that matters most is
-//! `dice_are_fair`.
+//! The functions have no body: their contracts are laws over the definitions, and worked examples. The promises that matter most are
+//! `dice_are_fair` and, of a shortened lottery, `no_list_is_nearer`.
 #![tactic(auto)]
 
 pub mod short;

@@ -1,7 +1,5 @@
 //! A lottery in a round number of tickets, so that fewer dice are needed for a draw: how many tickets each panel gets, and how far its
-//! chance moves. The definitions are in `specs/`. Stands on `define_draws` and `define_bundles`. Used by `short_tickets`, which shortens
-//! lotteries, `short_tickets`, which draws from them, and the meanings of commands in `command_bundles`, `command_questions` and
-//! `command_questions`.
+//! chance moves. The definitions are in `specs/`.
 //!
 //! The functions have no body: their contracts are laws over the definitions, and worked examples. That a shortened lottery is leximin
 //! greatest is not promised: `no_list_is_nearer` says how near it is, and `chances_move_little` how far a volunteer's chance may move.

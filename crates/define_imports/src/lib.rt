@@ -1,7 +1,5 @@
 //! The files that an office imports, in definitions: a charter in TOML, rules and a register in CSV; the value of a file, or its first
-//! fault. The definitions are in `specs/`. Stands on the definitions of pools and offices and on the toolchain's readings of CSV and TOML.
-//! `office_import` implements it; `command_stores` and `command_office` cite it. The functions have no body: their contracts are laws and
-//! worked examples.
+//! fault. The definitions are in `specs/`. The functions have no body: their contracts are laws and worked examples.
 #![tactic(auto)]
 
 ghost use Rattle.std.specs.Prelude.{◌≡◌, [], ◌∷◌, ◌++◌, codes, List, ℕ, pos, Some, None, Ok, Result};

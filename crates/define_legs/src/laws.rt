@@ -1,6 +1,5 @@
 //! Laws of the legs of a run: each has fewer pivots than there are sets of variables that could be basic in it. So a run whose budget of
-//! pivots is at least the sum of these numbers never spends it: Bland's rule ends by itself. Stands on `define_legs`, which defines the
-//! legs, on `define_runs`, and on `define_legs`. Used by `leximin_run`, and by the meaning of the command `legs`.
+//! pivots is at least the sum of these numbers never spends it: Bland's rule ends by itself.
 //!
 //! The functions have no body. Their contracts are the laws, and the promises of this crate.
 ghost use Rattle.define_legs.specs.Laws.{EachEndingHasLegs, LegsAreApart, LegsEndTheRun, LegsHaveFewPivots, LegsHavePivots, OneListOfLegs, SpendsBelowLimit, TracesTheRun};

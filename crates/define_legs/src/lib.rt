@@ -1,9 +1,8 @@
 //! The legs of a run, and the text that tells them. A leg is the time from the entering of a stage, or the adding of a column, to the next
-//! such step or to the closing of the stage. The definitions are in `specs/`. Stands on `define_runs`, which defines the run, and on
-//! `define_rows` and `define_lines`. Used by `define_legs`, which bounds the pivots of a leg; by `leximin_run`, which counts them; by
-//! `office_reports`, which writes the text; and by the command `legs`.
+//! such step or to the closing of the stage. The definitions are in `specs/`. The module `pivots` has the laws of Bland's rule, which ends;
+//! and `laws` those of the legs, each of which has fewer pivots than there are sets of variables that could be basic in it.
 //!
-//! The functions without a body are the promises: worked examples.
+//! The functions without a body are the promises: laws over the definitions, and worked examples.
 #![tactic(auto)]
 
 pub mod laws;

@@ -1,7 +1,6 @@
-//! Bland's rule ends: laws of the pivots that it chooses. A chain is a list of tables, each made from the one before by the chosen pivot, as
-//! a run makes them between two of its other steps. In a chain no set of basic variables comes twice. So it has fewer pivots than there are
-//! such sets. Stands on `define_rows`, which defines the tables and shows that they stay in order, and on
-//! `define_rows`. Used by `define_legs`.
+//! Bland's rule ends: laws of the pivots that it chooses. A chain is a list of tables, each made from the one before by the chosen pivot,
+//! as a run makes them between two of its other steps. In a chain no set of basic variables comes twice. So it has fewer pivots than there
+//! are such sets.
 //!
 //! The functions have no body, or call others for their laws. Their contracts are the laws, and the promises of this crate.
 ghost use Rattle.std.specs.Prelude.{◌≡◌, [], ◌∷◌};

@@ -1,7 +1,5 @@
-//! What a text of lines is: lines, fields, numbers in their one spelling, and how a text is read line by line up to its first faulty
-//! line. The definitions are in `specs/`. Stands on nothing but std. Used by `define_bundles`, `define_proofs`,
-//! `define_made_pools` and `define_offices`, which define texts; by `text_lines`, which reads and writes lines, and by the readers and
-//! writers of texts; by the commands and the office, for the lines that they print.
+//! What a text of lines is: lines, fields, numbers in their one spelling, and how a text is read line by line up to its first faulty line.
+//! The definitions are in `specs/`.
 //!
 //! The functions have no body. Their contracts are the promises: laws over the definitions, and worked examples.
 #![tactic(auto)]

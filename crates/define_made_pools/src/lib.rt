@@ -1,8 +1,6 @@
 //! Pools that are made from a number, and the summary of a run: the generator of numbers, the made pool, and the lines of the summary. The
-//! definitions are in `specs/`. Stands on `define_pools`, `define_bundles`, `define_draws` for the seal, `define_lines` and `frac128`. Used
-//! by `office_reports`, which makes the pools and the summaries, and by the crates of the command `make`. `bundle_page`,
-//! `command_questions`, `define_offices` and `office_reports` use the lines of the summary, or the least and the greatest number of a list.
-//! The functions have no body: their contracts are laws over the definitions, which are promises, and worked examples.
+//! definitions are in `specs/`. The functions have no body: their contracts are laws over the definitions, which are promises, and worked
+//! examples.
 #![tactic(auto)]
 
 ghost use Rattle.std.specs.Prelude.{◌≡◌, ◌≤◌, ◌<◌, ◌-◌, ◌^◌, [], ◌∷◌, ℕ, List, All, Contains, IsTrue, codes, length, map, take};

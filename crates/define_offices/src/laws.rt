@@ -1,7 +1,5 @@
 //! Laws over the office of `define_offices`: what every step keeps, what is true of all tables that a list of commands leaves, and what a
-//! command does when it is given again. Stands on `define_offices` and `laws_of_runs`. Used by `office_core`, `office_desk`,
-//! `office_steps`, `office_steps`, `command_stores` and `command_office`. The functions have no body: their contracts are the laws, and
-//! each is a promise.
+//! command does when it is given again. The functions have no body: their contracts are the laws, and each is a promise.
 ghost use Rattle.define_offices.specs.Laws.{ChangesChange, CommandsHaveOutcomes, FoldsAreGreatest, FoldsAreTables, FoldsGrow, PoolsArePools, StepsAreFunctions, StepsKeepCertified, StepsKeepTables};
 ghost use Rattle.define_offices.specs.Repeats.{CharterAgain, RepeatsChangeNothing, RulesAgain};
 

@@ -1,12 +1,13 @@
 //! The office as a small machine, in definitions: its tables and the facts that hold of them, its commands, what each command answers and
-//! changes, and the tables that a list of commands leaves. The definitions are in `specs/`. Stands on the definitions of pools, bundles,
-//! checks, draws, runs and proofs, and of their texts. `define_offices` proves laws over it; `define_desk`, `define_imports` and
-//! `define_offices` build on it; `rounds` and the `office_*` crates implement it; the commands about a store cite it. The functions have no
-//! body: their contracts are worked examples, no promises.
+//! changes, and the tables that a list of commands leaves. The definitions are in `specs/`. The module `laws` has the laws: what every step
+//! keeps, what is true of all tables that a list of commands leaves, and what a command does when it is given again. The module `reports`
+//! has the report of a round.
+//!
+//! The functions have no body: their contracts are the laws, which are promises, and worked examples.
 #![tactic(auto)]
 
-pub mod reports;
 pub mod laws;
+pub mod reports;
 
 ghost use Rattle.std.specs.Prelude.{◌≡◌, ◌++◌, [], ◌∷◌, codes, Ok, Err, Some, None};
 ghost use Rattle.define_lines.specs.Lines.{line_of, text_of};

@@ -1,7 +1,5 @@
 //! The report of a round of an office: the assembly's title, the round's phase, its quotas, its lottery with each volunteer's chance, the
-//! seal and the draw. The definitions are in `specs/`. Stands on `define_offices`, and on `define_made_pools` for lines of one field. Used
-//! by `office_reports`, which writes the report, by `command_stores`, which cites it, and by `bundle_page` and `command_questions`, whose
-//! proofs use its laws on growing texts.
+//! seal and the draw. The definitions are in `specs/`.
 //!
 //! The functions have no body: their contracts are laws over the definitions, and worked examples.
 ghost use Rattle.std.specs.Prelude.{◌≡◌, ◌∷◌, [], ℕ, Err, IsOk, Ok, codes};

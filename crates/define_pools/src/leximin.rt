@@ -1,5 +1,5 @@
-//! What 'leximin greatest' says of a lottery, part by part, for readers of the headline. Stands on `define_pools`, which has the same in
-//! fewer words. Used by `command_office`. The law `leximin_part_by_part` is the only promise.
+//! What 'leximin greatest' says of a lottery, part by part, for readers of the headline. The law `leximin_part_by_part` is the only
+//! promise.
 ghost use Rattle.define_pools.specs.Leximin.{PartByPart};
 
 /// A lottery is leximin greatest exactly if each of the parts of `IsLeximin` holds of it.

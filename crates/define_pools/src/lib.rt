@@ -1,12 +1,11 @@
 //! The definitions that the program is measured against: pools and quota panels, lotteries and their order, certificates, and how a pool is
-//! built. They are in `specs/`. Stands on nothing but std. Used by every crate about pools: `pool_model` has the values in code,
-//! `define_bundles` their text, and `define_searches` the classes.
+//! built. They are in `specs/`.
 //!
 //! The base of all proofs is here too: laws on lists, sums, whole numbers and tests that std lacks and several crates need, each proved
 //! once, in `proofs/`: Each, Found, Integers, Lists, Sums and Tests. Look there before you state a lemma.
 //!
 //! The functions have no body: their contracts are laws over the definitions, and each is a promise. The one that matters most is
-//! `certified_is_greatest`. Worked examples are in `laws_worked`.
+//! `certified_is_greatest`; `leximin` says the order part by part. Worked examples are in `laws_worked`.
 #![tactic(auto)]
 
 pub mod leximin;

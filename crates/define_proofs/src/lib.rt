@@ -1,8 +1,5 @@
 //! Proofs by additions: the constraints of a stage's problem, leaves and trees that show its cap, the lines of a tree, the verdict on a
-//! proof, its text, and the first fault of bytes that are no proof's text. The definitions are in `specs/`. Stands on `define_checks`,
-//! `define_searches`, `define_bundles`, `define_lines` and `define_pools`. Used by `check_proofs`, which checks proofs and whose refusals
-//! name lines; `proof_text` and `proof_text`, which hold, read and write them; the engine of `prove`, which makes them; the definitions
-//! and searches of conflicts and loosenings; the commands; and the definitions of the office.
+//! proof, its text, and the first fault of bytes that are no proof's text. The definitions are in `specs/`.
 //!
 //! The functions have no body: their contracts are laws over the definitions, and worked examples. The promises that matter most are
 //! `valid_is_greatest` and `valid_no_panel`.

@@ -1,7 +1,5 @@
 //! Lower bounds on what teams cost, by weights of quotas and by splits on volunteers. By these bounds, a team that any search found can be
-//! shown to be a cheapest one, and the loosening for this team to be least. The definitions are in `specs/`. Stands on `define_quotas`
-//! (teams and loosenings) and `define_quotas` (quotas, what they ask for and what can be given). Used by `loosening_by_proof`, which
-//! searches, and the meaning of `loosen-by-proof`.
+//! shown to be a cheapest one, and the loosening for this team to be least. The definitions are in `specs/`.
 //!
 //! The functions have no body: their contracts are laws over the definitions. The promise that matters most is `cheapest_by_bound`.
 ghost use Rattle.std.specs.Prelude.{◌≡◌, ◌+◌, ◌*◌, ◌<◌, ◌++◌, ℕ, nat_le, IsTrue, List, Option, Some, None, slice_set};

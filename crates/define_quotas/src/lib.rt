@@ -1,9 +1,8 @@
-//! Conflicts: quotas of a pool that can't be met together. The definitions are in `specs/`. Stands on `define_pools`, on
-//! `define_proofs` for standings, and on `define_searches` for a law on households. Used by `quota_conflicts`, which finds and checks
-//! conflicts; by `define_quotas` and `loosening_by_proof`, which weigh quotas; and by the meaning of `why`.
+//! Quotas that can't be met together: conflicts, which show it; least loosenings, which are the bounds moved by as little as possible
+//! (`loosenings`); and lower bounds on what they cost (`costs`). The definitions are in `specs/`.
 //!
-//! The functions have no body: their contracts are laws over the definitions, and worked examples. The promise that matters most is
-//! `conflict_leaves_no_panel`.
+//! The functions have no body: their contracts are laws over the definitions, and worked examples. The promises that matter most are
+//! `conflict_leaves_no_panel` and `cheapest_by_bound`.
 #![tactic(auto)]
 
 pub mod costs;

@@ -1,7 +1,5 @@
-//! Least loosenings of quotas: teams, which are panels that need not meet the quotas; what a team costs; the pool with its bounds moved
-//! so that a team is a quota panel; and the search for the cheapest team with the visits that it counts. The definitions are in `specs/`.
-//! Stands on `define_pools` and the classes of `define_searches`. Used by `quota_loosen`, which searches, by `define_quotas` and
-//! `loosening_by_proof`, and by the commands `loosen` and `loosen-by-proof`.
+//! Least loosenings of quotas: teams, which are panels that need not meet the quotas; what a team costs; the pool with its bounds moved so
+//! that a team is a quota panel; and the search for the cheapest team with the visits that it counts. The definitions are in `specs/`.
 //!
 //! The functions have no body: their contracts are laws over the definitions, and worked examples. Each law is a promise. The laws hold for
 //! every test of who is alike that makes classes.

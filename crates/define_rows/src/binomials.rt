@@ -1,6 +1,4 @@
 //! Binomial coefficients: the number of ways to choose some of several things. The definitions are in `specs/`, and the laws in `proofs/`.
-//! Stands on nothing but std. Used by `define_legs` and `define_legs`, which bound a run's pivots by the number of bases a table could
-//! have, and by `exact_table`, which computes it.
 //!
 //! The functions without a body are the promises: laws of the definitions, and worked examples.
 ghost use Rattle.std.specs.Prelude.{◌≡◌, ◌≤◌, ◌<◌, ◌+◌, ◌*◌, ◌^◌, ℕ};

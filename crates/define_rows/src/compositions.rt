@@ -1,5 +1,5 @@
-//! Compositions as values: how many members of each class are taken. `panel_search` finds them, `exact_table` keeps them as its
-//! columns, `alike` spreads them.
+//! Compositions as values: how many members of each class are taken. `panel_search` finds them, `exact_table` keeps them as its columns,
+//! `alike` spreads them.
 
 ghost use Rattle.std.specs.Prelude.{◌≡◌, IfOk};
 

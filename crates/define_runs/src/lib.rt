@@ -1,9 +1,9 @@
-//! The run that finds the lottery: the opening search, then stage by stage pivots, pricing and closing, and how the run ends. The
-//! definitions are in `specs/`. Stands on the table of `define_rows`, the searches of `define_searches` and `define_searches`, and the
-//! spreading of `define_runs`. Used by `laws_of_runs`, which proves what each ending says about the pool; by `leximin_run`, which
-//! executes the run; by the commands and the office, for `Limits` and `Workers`; and by the summary, which prints `RunSizes`.
+//! The run that finds the lottery: the opening search, then stage by stage pivots, pricing and closing, and how the run ends. At the end
+//! compositions with fractions are spread over panels (`spreads`). Runs whose workers share a bound are in `sharing`. The definitions are
+//! in `specs/`.
 //!
-//! The functions without a body are the promises: laws over the definitions, and worked examples.
+//! The functions without a body are the promises: laws over the definitions, and worked examples. Those that matter most of spreading are
+//! `spread_is_lottery` and `spread_has_even_chances`.
 #![tactic(auto)]
 
 pub mod sharing;

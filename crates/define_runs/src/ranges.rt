@@ -1,5 +1,5 @@
-//! The limits of a run and the number of its workers, each in its range, and the ranges as constants. The run takes them, and the
-//! program's words have the same ranges.
+//! The limits of a run and the number of its workers, each in its range, and the ranges as constants. The run takes them, and the program's
+//! words have the same ranges.
 
 ghost use Rattle.std.specs.Prelude.{◌≡◌, ◌≤◌, ◌&&◌, nat_le, if◌then◌else◌, Some, None};
 ghost use Rattle.define_runs.specs.Keeps.{AreLimits};

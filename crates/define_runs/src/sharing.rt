@@ -1,5 +1,4 @@
-//! Runs whose workers share a bound: how they may end. The definitions are in `specs/`. Stands on `define_runs`, which defines the run, and
-//! on the definitions below it. Used by `leximin_run`, which makes such runs, and by the meaning of `lottery --share`.
+//! Runs whose workers share a bound: how they may end. The definitions are in `specs/`.
 //!
 //! The functions have no body. Their contracts are the laws, and the promises of this crate.
 ghost use Rattle.define_runs.specs.Laws.{ApartIsAllowed, EachUnboundedEnds, EndingsStay, OneEndingBesidesSpent, OneUnboundedEnding, SharingKeepsEnding};

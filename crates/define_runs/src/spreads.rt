@@ -1,7 +1,5 @@
 //! Spreading: compositions with fractions become panels with weights, so that all members of a class have the same chance. The definitions
-//! are in `specs/`. Stands on `define_searches` and the least common multiples of `frac128`. Used by `alike`, which spreads; by
-//! `define_runs`, whose run ends with spreading; by the laws on runs and `leximin_run`; and by the commands and `office_core`, which tell
-//! why a run has no total.
+//! are in `specs/`.
 //!
 //! The functions have no body: their contracts are laws over the definitions, and worked examples. The promises that matter most are
 //! `spread_is_lottery` and `spread_has_even_chances`.

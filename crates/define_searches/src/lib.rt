@@ -1,7 +1,6 @@
-//! Classes of alike volunteers, compositions, fronts and when a front is live, and the searches with the visits that they count. The
-//! definitions are in `specs/`. Stands on `define_pools` and the rows of `define_rows`. Used by `alike`, which makes classes,
-//! `panel_search`, which searches, `define_checks`, whose check makes classes of its own, `define_searches`, `define_searches`,
-//! `define_runs`, `define_runs`, `define_quotas`, and the crates above these.
+//! Classes of alike volunteers, compositions, fronts and when a front is live, and the searches with the visits that they count; and the
+//! search in pieces, which run in waves (`waves`). The definitions are in `specs/`, and in `proofs/` also the laws of what a search counts
+//! at a front: members of each value and household, and weights in rows.
 //!
 //! The functions have no body: their contracts are laws over the definitions, and worked examples. Each law is a promise. The laws hold for
 //! every test of who is alike that makes classes, so also for a finer test, such as a check's, which compares weights too.

@@ -1,6 +1,4 @@
-//! The search for the best composition in pieces, which run in waves. The definitions are in `specs/`. Stands on `define_searches` and the
-//! rows of `define_rows`. Used by `panel_search`, which cuts a search into pieces and searches one; `pricing_pool`, which runs waves on
-//! threads; `define_runs`, whose pricing counts the visits of this search; and `leximin_run`, which prices by it.
+//! The search for the best composition in pieces, which run in waves. The definitions are in `specs/`.
 //!
 //! The functions have no body. They are the promises: laws over the definitions, and worked examples.
 ghost use Rattle.std.specs.Prelude.{◌≡◌, ◌↔◌, ℕ, List, [], ◌∷◌, ◌++◌, filter, map, length, None, Some, IsTrue, IsFalse, pos, ℤ, int_lt};

@@ -5,8 +5,8 @@ use crate::samples::{COUPLE_PROOF, FOUR_BUNDLE, FOUR_PROOF};
 use crate::shown::changed;
 use bundle_text::read_bundle;
 use cert_check::check;
-use proof_text::read_proof;
 use check_proofs::{Verdict, verify};
+use proof_text::read_proof;
 use std::alloc::{AllocError, Global};
 use std::test::Fail;
 

@@ -1,8 +1,8 @@
 //! The exact simplex table of the leximin program, in whole numbers under a width: rows `(b; a_1 .. a_m)` whose greatest common divisor is
-//! 1, Bland's rule, and a pivot that is made whole or stops at the first operation that passes the width. Stands on `frac128`, and on
-//! `define_rows`, in whose terms the contracts see a `Table`. Used by `leximin_run`.
+//! 1, Bland's rule, and a pivot that is made whole or stops at the first operation that passes the width.
 //!
-//! Promises: the calls of `Table`, each exactly the definition's step, and `basis_bound`. All other modules are helpers over numbers and slices.
+//! Promises: the calls of `Table`, each exactly the definition's step, and `basis_bound`. All other modules are helpers over numbers and
+//! slices.
 #![tactic(auto)]
 
 mod bases;

@@ -1,5 +1,5 @@
-//! Compares each bundle in `data/` with what `lottery` prints for the pool that the bundle contains. The gate runs this program. Stands on
-//! `command_shell`, the shell, and on `command_pools`, which has the command. No crate uses this one, and it has no promises.
+//! Compares each bundle in `data/` with what `lottery` prints for the pool that the bundle contains. The gate runs this program. No crate
+//! uses this one, and it has no promises.
 #![tactic(auto)]
 
 use command_pools::{Lottery, call_lottery};

@@ -1,7 +1,4 @@
 //! Exact fractions in 128 bits: greatest common divisors, least common multiples, lowest terms and comparison. No call allocates memory.
-//! Stands on nothing except std. Used by the run that finds the lottery (`exact_table`, `alike`, `leximin_run`), the run that makes proofs,
-//! and the texts that show chances (`bundle_page`, `office_desk`, `office_reports`, `office_reports`). The definitions in `specs/` are
-//! used by `define_rows`, `define_runs` and others.
 //!
 //! Promises: `gcd`, `lcm`, `compare`, `lowest` and `Frac`, each by its meaning over whole numbers of any size. The functions without `pub`
 //! are helpers.

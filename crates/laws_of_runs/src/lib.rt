@@ -1,6 +1,4 @@
-//! Laws of the run: what its endings show about the pool. Stands on `define_runs` and the definitions below it, and on the ranges of a bundle
-//! (`define_bundles`). Used by `leximin_run`, whose promises rest on these laws, by the commands `lottery` and `make`,
-//! by the laws of the office, and by the proofs of `command_office`.
+//! Laws of the run: what its endings show about the pool.
 //!
 //! The functions have no body. Their contracts are the laws, and the promises of this crate.
 #![tactic(auto)]

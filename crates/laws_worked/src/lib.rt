@@ -1,6 +1,5 @@
 //! Worked examples that are computed from the definitions: small pools, lotteries, certificates, texts and spread lotteries, right ones and
-//! wrong ones. Stands on the definitions of pools, texts, bundles, classes and spreading, and on `frac128`. No crate uses this one, so a
-//! new example makes no other proof run again.
+//! wrong ones. No crate uses this one, so a new example makes no other proof run again.
 //!
 //! The functions have no body: their contracts are the examples.
 #![tactic(auto)]

@@ -7,8 +7,8 @@ ghost use Rattle.define_quotas.specs.LeastMisses.{asked as asked_of, given as gi
 ghost use Rattle.define_quotas.specs.CostBounds.{CostsAt, is_met_by_teams as is_always_met};
 
 use crate::quotas::weighted_values;
-use define_quotas::{Counted, WeightedQuota};
 use define_quotas::costs::asking_more_costs;
+use define_quotas::{Counted, WeightedQuota};
 use pool_model::{Pool, Standing};
 use quota_conflicts::{asked, given, greatest_weight, times_below};
 use std::alloc::{AllocError, Global};

@@ -1,6 +1,5 @@
-//! Searches for a team that misses the bounds of values by few people in all, or for leaves and trees that show that there is none. Stands
-//! on the engine of `prove`. Promises: nothing of the budget is given back, and a search for a team that doesn't stop spends at least one
-//! node.
+//! Searches for a team that misses the bounds of values by few people in all, or for leaves and trees that show that there is none.
+//! Promises: nothing of the budget is given back, and a search for a team that doesn't stop spends at least one node.
 
 ghost use Rattle.std.specs.Prelude.{◌≡◌, ◌<◌, length, IfOk, IfSome, OnOk, pos, ◌≤ℤ◌};
 ghost use Rattle.prove_limits.specs.Budgets.{SpendsOn};

@@ -1,8 +1,5 @@
 //! The office as a small machine: commands over its tables. `decide` returns the outcome of a command over tables. `act` loads the tables
-//! from a keeper, decides, and stores the change; `act_over` does so over tables that were loaded before. Stands on `office_steps`, which
-//! decides each command that needs neither the run nor a proof; on `leximin_run` and `check_proofs`, for the other commands; and on the
-//! definitions of `define_offices` and their laws. Used by `office_keeper`, by `office_desk` and `office_http`, by the commands of the
-//! office, and by `command_office`, which states what the program promises.
+//! from a keeper, decides, and stores the change; `act_over` does so over tables that were loaded before.
 //!
 //! Promises: `decide` returns an outcome of the command by the definitions; `act` and `act_over` change a keeper's tables by that outcome;
 //! and the contracts of the trait `Keeper`.

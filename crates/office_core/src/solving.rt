@@ -12,6 +12,7 @@ ghost use Rattle.office_steps.specs.Replies.{seen_reply};
 
 use crate::stops::DecideStop;
 use bundle_text::Bundle;
+use check_proofs::verify;
 use define_runs::Limits;
 use itoa::Buffer;
 use leximin_run::{Solved, Stop, solve};
@@ -22,7 +23,6 @@ use outside::Watch;
 use pool_model::{Answer, Pool};
 use pool_text::write_pool;
 use proof_text::{Parts, Proof};
-use check_proofs::verify;
 use std::alloc::{AllocError, Global};
 use std::thread::Threads;
 

@@ -1,9 +1,9 @@
 //! Why a call of the office has no reply.
 
 use crate::keeper::KeeperStop;
+use check_proofs::Verdict;
 use leximin_run::Stop;
 use office_steps::{OfficeStop, Refusal};
-use check_proofs::Verdict;
 use std::alloc::AllocError;
 
 /// Why a command has no reply.

@@ -1,7 +1,5 @@
 //! The desk of an office: what it sends for a request over the tables that a keeper keeps, byte for byte. A request for a page is answered
-//! from the tables, and a withdrawal is stored. Stands on `define_desk`, which says what the desk replies, on `office_requests` for
-//! requests, and on `office_core` for the tables, the keeper and the withdrawal. Used by `office_http`, and by `command_office` for
-//! `desk_is_isolated`.
+//! from the tables, and a withdrawal is stored.
 //!
 //! Promises: `answer`, `unwell`, and the laws `desk_is_isolated` and `public_pages_are_public`.
 #![tactic(auto)]

@@ -1,6 +1,5 @@
 //! Reads the files that an office imports: a charter in TOML, rules and a register in CSV. A file with a fault is refused with its first
-//! faulty record and the lowest kind of fault there. Stands on `define_imports`, on `office_tables`, whose values it returns, and on the
-//! toolchain's `csv` and `toml`. Used by `command_stores`, which has the commands that import, and by `office_store_tests`.
+//! faulty record and the lowest kind of fault there.
 //!
 //! Promises: `read_charter`, `read_rules` and `read_register` return exactly the value or the first fault of the definitions, or that
 //! memory ran out.

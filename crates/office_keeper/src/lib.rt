@@ -1,6 +1,5 @@
 //! Keepers of an office's tables. `MapKeeper` keeps them in memory, for tests: each of its calls can be made to fail. `SqliteKeeper` keeps
-//! them in a file, and `SqliteOver` in the database of a connection that it is given. Stands on `office_core`, whose trait `Keeper` each
-//! implements, and on `sqlite`. `sortition` stands on it, and so do tests.
+//! them in a file, and `SqliteOver` in the database of a connection that it is given.
 //!
 //! Promises: those of the trait; each keeper counts exactly its calls that failed; `MapKeeper` tells its tables, and it and `SqliteKeeper`
 //! tell their places. Before `SqliteKeeper` or `SqliteOver` is attached, its other calls fail. No contract promises that a file still holds

@@ -1,6 +1,4 @@
-//! Requests to the desk, as they are read from a link: what the bytes of a connection ask for. At most 8,192 bytes are kept. Stands on
-//! `define_desk`, which says what bytes ask for, on `outside` for the link, and on `httparse`, which takes heads apart. Used by
-//! `office_desk`, which answers what was asked, and `office_http`.
+//! Requests to the desk, as they are read from a link: what the bytes of a connection ask for. At most 8,192 bytes are kept.
 //!
 //! Promises: `read_asking`.
 #![tactic(auto)]

@@ -11,11 +11,11 @@ ghost use Rattle.office_steps.specs.Steps.{Says};
 
 use crate::lines::line;
 use crate::named::no_round;
+use crate::pools::round_named;
 use crate::replies::{Refusal, Reply};
 use crate::stops::OfficeStop;
 use bundle_text::{Bundle, write_bundle};
 use itoa::Buffer;
-use crate::pools::round_named;
 use office_tables::{Change, Part, Phase, Round, Tables};
 use std::alloc::{AllocError, Global};
 

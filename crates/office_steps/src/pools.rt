@@ -1,5 +1,4 @@
-//! The pool of each round of an office: from the charter, the rules and the register, or from the round before. Stands on `office_tables`
-//! and `rounds`. Used by `office_core`, `office_steps`, `office_reports`, `office_desk` and `command_stores`.
+//! The pool of each round of an office: from the charter, the rules and the register, or from the round before.
 //!
 //! Promise: `pool_of` returns exactly the pool of the definitions, or exactly why there is none.
 mod drawn;

@@ -9,9 +9,9 @@ ghost use Rattle.office_steps.specs.Steps.{Says};
 ghost use Rattle.office_steps.specs.Withdrawals.{IsPlaceOf};
 
 use crate::named::last_phase;
+use crate::pools::{PoolStop, pool_of};
 use crate::replies::{Refusal, Reply};
 use crate::stops::OfficeStop;
-use crate::pools::{PoolStop, pool_of};
 use office_tables::{Change, Entry, Phase, Round, Tables};
 use pool_model::{Standing, Volunteer};
 use sealed_draw::seal;

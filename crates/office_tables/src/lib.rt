@@ -1,6 +1,5 @@
 //! The tables of an office as values: charter, rules, rows of the register and rounds, and how a change changes them. Contracts see them as
-//! the tables of `define_offices`, of which `IsTables` holds at every moment. Stands on `pool_model`, `bundle_text` and `sealed_draw`.
-//! The crates that read or change tables stand on it, among them `office_core`, `office_steps`, `office_steps` and `office_keeper`.
+//! the tables of `define_offices`, of which `IsTables` holds at every moment.
 //!
 //! Promises: `tables_of` returns tables exactly if `IsTables` holds of its parts, and `apply` returns exactly the changed tables.
 #![tactic(auto)]

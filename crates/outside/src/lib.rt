@@ -1,9 +1,6 @@
 //! The traits through which the program meets the world. A source of bytes, a sink of bytes, a link, which is both, and a door, which gives
 //! links, each count their faults. They are in memory for tests; over std's readers and writers; and over a port of this machine. A watch
-//! is told when pieces of work start. Stands on nothing of the repository. Used by the shell of the commands, which reads and writes
-//! through it; `pricing_pool`, `leximin_run`, `office_core`, `office_desk` and the commands on pools and stores, for the watch;
-//! `office_requests` and `office_http` for links; `command_desk` for doors; `office_keeper`, whose keeper in memory has a `CallPlan`; and
-//! `command_office` and `sortition`, which pass all these objects on. The proofs of `command_office` use its definitions too.
+//! is told when pieces of work start. The proofs of `command_office` use its definitions too.
 //!
 //! Promises: the contracts of `Source`, `Sink`, `Link` and `Door`, which each implementation keeps, and `read_all`. The definitions in
 //! `specs/` say what a call does to the bytes, to the links of a door and to the count of faults.

@@ -1,12 +1,8 @@
-//! The searches for the first composition of a pool's classes, and for the best one in a row, under a budget of visits. Stands on `alike`,
-//! which makes the classes, on `define_searches` and `define_searches`, which say what a visit is and what a search finds, on `define_rows`
-//! for rows, and on `define_searches`. Used by `pricing_pool`, which searches the pieces on threads, by `leximin_run`, and by the command
-//! `panel`; `engine_tests` tests it.
+//! The searches for the first composition of a pool's classes, and for the best one in a row, under a budget of visits.
 //!
 //! Promises: `first`, `best`, `pieces` and `best_from`, and the calls of `Pricer` and `PricedRow`, which keep the tables that each search
-//! needs of the closed rows and of the priced row. `PricedRow::shared_from` searches below a front and shares a word with other searches, whose
-//! rule is `Beaten`. `is_live` tests one front and takes no memory. The modules `tally`, `weighing` and `greatest`, `counting` and `units`, and
-//! what they use are helpers.
+//! needs of the closed rows and of the priced row. `PricedRow::shared_from` searches below a front and shares a word with other searches,
+//! whose rule is `Beaten`. `is_live` tests one front and takes no memory. All other modules are helpers.
 #![tactic(auto)]
 
 mod counting;

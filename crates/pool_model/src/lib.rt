@@ -1,6 +1,5 @@
 //! Pools of volunteers with their quotas, panels, lotteries and certificates, as values. Contracts see them as the records of
-//! `define_pools`, on which this crate stands. Used by every crate that holds a pool or a lottery, among them `pool_text`, `bundle_text`,
-//! `alike`, `check_search`, `check_reasons`, `tickets`, the office and the commands.
+//! `define_pools`.
 //!
 //! Promises: a `Pool` is always within its limits. Each step of building it adds its part, or is refused with a kind and changes nothing.
 //! `fits` is true exactly for the quota panels, and `chances` returns exactly each volunteer's count. The module `names` and the functions

@@ -72,8 +72,7 @@ impl Pool {
     pub fn is_usual(&self) -> bool
         ensures { result ≡ is_usual self.now }
     {
-        self.size <= Limits::Usual.members()
-            && self.volunteers.len() <= Limits::Usual.volunteers()
+        self.size <= Limits::Usual.members() && self.volunteers.len() <= Limits::Usual.volunteers()
     }
 
     /// Does nothing. Its contract says that the pool is within its limits.
@@ -242,13 +241,7 @@ impl Pool {
 
     // Returns the kind that `volunteer_kind` returns. `known` says whether each name is that of a value of its category, and `count` is the
     // number of names.
-    fn volunteer_fault(
-        &self,
-        limits: Limits,
-        id: &[u8],
-        known: bool,
-        count: usize,
-    ) -> Option<u8>
+    fn volunteer_fault(&self, limits: Limits, id: &[u8], known: bool, count: usize) -> Option<u8>
         ensures { result ≡ lowest_kind (
             (6, not known) ∷
             (7, not (count == length self.now.categories)) ∷

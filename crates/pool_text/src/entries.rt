@@ -158,17 +158,11 @@ fn entry_kind(pool: &Pool, passed: Passed, entry: &Entry<'_>) -> Option<u8>
         Entry::Household(_, _)
             if !may_house(passed.version)
                 || 0 < passed.standings
-                || awaits_volunteers(pool, passed) =>
-        {
-            Some(FORM)
-        }
+                || awaits_volunteers(pool, passed) => { Some(FORM) }
         Entry::Household(id, _) if !is_ahead(pool, passed.households, id) => Some(NOT_AHEAD),
         Entry::Household(_, name) => household_kind(name),
         Entry::Standing(_, _) | Entry::End
-            if awaits_household(passed) || awaits_volunteers(pool, passed) =>
-        {
-            Some(FORM)
-        }
+            if awaits_household(passed) || awaits_volunteers(pool, passed) => { Some(FORM) }
         Entry::Standing(_, id) if !is_ahead(pool, passed.standings, id) => Some(NOT_AHEAD),
         Entry::Standing(_, _) | Entry::End => None,
         Entry::Unknown => Some(FORM),

@@ -1,8 +1,7 @@
-//! Reads and writes the text of a pool, as a city writes it. Bytes that are no pool's text are refused with their first fault. Stands on
-//! `pool_model`, whose builder and kinds of fault it uses, `text_lines` and `define_bundles`. Used by `bundle_text` and `proof_text`,
-//! which read a pool within their texts; `command_shell`, for the commands on pools; and the office.
+//! Reads and writes the text of a pool, as a city writes it. Bytes that are no pool's text are refused with their first fault.
 //!
-//! Promises: `read_pool` and `write_pool`. `Progress`, `after` and the functions of versions serve the readers and writers of texts that contain a pool.
+//! Promises: `read_pool` and `write_pool`. `Progress`, `after` and the functions of versions serve the readers and writers of texts that
+//! contain a pool.
 #![tactic(auto)]
 
 mod entries;

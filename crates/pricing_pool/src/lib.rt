@@ -1,8 +1,6 @@
 //! Pricing in pieces, which workers run on threads: the search for the best composition, cut into the searches below fronts, which run in
-//! waves. The composition and the visits are the same for every number of workers. Where the pieces share a bound, the composition still is,
-//! and the visits are at most those without it. Stands on `panel_search`, which cuts the search and
-//! searches below one front, `define_searches`, and `outside` for the watch, which is told when a piece starts. Used by `leximin_run`;
-//! `engine_tests` tests it.
+//! waves. The composition and the visits are the same for every number of workers. Where the pieces share a bound, the composition still
+//! is, and the visits are at most those without it.
 //!
 //! Promises: `best_by` and `price_by`, and `best_sharing` and `price_sharing`, whose pieces share a bound. The modules `wave`, `waves`,
 //! `shared_wave`, `shared_waves` and `workers` are helpers.

@@ -1,4 +1,4 @@
-//! A whole pricing by workers that share a bound. Stands on the wave and the workers of `best_by`.
+//! A whole pricing by workers that share a bound.
 
 ghost use Rattle.std.specs.Prelude.{◌≡◌, ◌≤◌, ◌<◌, ◌*◌, [], ◌∷◌, length, take, drop, fold, pos, ◌≤ℤ◌};
 ghost use Rattle.std.specs.List.{AllByRecursion};

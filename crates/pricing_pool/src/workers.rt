@@ -1,6 +1,6 @@
 //! The workers of a wave. Worker j of w searches the pieces whose place in the wave is j modulo w, one after the other. If the pieces share
-//! a word, the worker keeps the greatest word that it has loaded, from piece to piece. Rattle drops a
-//! thread closure's `ensures` if the closure captures a type with a lifetime, so this module is generic over `Pieces`.
+//! a word, the worker keeps the greatest word that it has loaded, from piece to piece. Rattle drops a thread closure's `ensures` if the
+//! closure captures a type with a lifetime, so this module is generic over `Pieces`.
 
 ghost use Rattle.std.specs.Prelude.{ℕ, ◌≡◌, ◌≤◌, ◌<◌, ◌+◌, IfOk};
 ghost use Rattle.std.specs.Thread.{IsSync};

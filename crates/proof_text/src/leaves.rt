@@ -1,5 +1,5 @@
-//! Leaves: a scale, and multipliers of constraints. Contracts see the records of `define_proofs`. `trees`, `ranges` and the crates
-//! above use them.
+//! Leaves: a scale, and multipliers of constraints. Contracts see the records of `define_proofs`. `trees`, `ranges` and the crates above
+//! use them.
 
 ghost use Rattle.std.specs.Prelude.{◌≡◌};
 

@@ -1,5 +1,4 @@
-//! The lines of a tree: what each is read as. Stands on `text_lines` and the ranges of `proof_text`; `progress` reads lines by these
-//! calls.
+//! The lines of a tree: what each is read as.
 
 ghost use Rattle.std.specs.Prelude.{◌≡◌, ◌<◌, ◌^◌, ◌==◌, nat_lt, ◌&&◌, if◌then◌else◌, map, IfOk, bytes_eq, option_map};
 ghost use Rattle.define_lines.specs.Numbers.{number_up_to as number_in, signed_up_to};
@@ -9,8 +8,8 @@ ghost use Rattle.define_proofs.specs.ProofText.{most_trees as most, tree_line};
 ghost use Rattle.define_proofs.specs.ProofReading.{NextTree, TheClose, Unknown, leaf_said, line_in_tree as line_said, multiplier_of as multiplier_in, multipliers_of as multipliers_in, node_in_range, node_said, split_said};
 ghost use Rattle.proof_text.specs.Progress.{said};
 
-use itoa::Buffer;
 use crate::{GREATEST_CONSTRAINT, Leaf, Multiplier, TreeLine, is_tree_line, most_trees};
+use itoa::Buffer;
 use std::alloc::{AllocError, Global};
 use text_lines::{fields, number_up_to, signed_number};
 

@@ -1,5 +1,4 @@
-//! How far the text of a proof has been read: the progress after the lines so far, and after one more line. Stands on `lines`, and on the
-//! calls `after` of `bundle_text` and `pool_text`; `reading` calls `after` for each line.
+//! How far the text of a proof has been read: the progress after the lines so far, and after one more line.
 
 ghost use Rattle.std.specs.Prelude.{◌≡◌, IfOk};
 ghost use Rattle.bundle_text.specs.Progress.{seen as bundle_seen};
@@ -8,11 +7,11 @@ ghost use Rattle.pool_text.specs.Progress.{seen as pool_seen};
 ghost use Rattle.define_proofs.specs.ProofReading.{line_kind, after_line, Begun, Opened, InBundle, InPool, WithoutPanel, InTrees, InNoPanel};
 ghost use Rattle.proof_text.specs.Progress.{seen};
 
+use crate::TreeLines;
 use crate::lines::{LineInTree, begins_tree, line_in_tree};
 use bundle_text::Progress as BundleProgress;
 use pool_model::{Answer, BuildStop, Pool};
 use pool_text::Progress as PoolProgress;
-use crate::TreeLines;
 use std::alloc::Global;
 
 const FIRST: &[u8] = b"proof\t1";

@@ -1,5 +1,4 @@
 //! Proofs: a bundle with a tree for each stage, or a pool with a tree which shows that there is no quota panel, if the proof is valid.
-//! Stands on `ranges` and `trees`; readers, writers, the verifier and the run take and return `Proof`.
 
 ghost use Rattle.std.specs.Prelude.{◌≡◌, ◌↔◌, IfSome, IsSome, IsTrue};
 ghost use Rattle.define_proofs.specs.ProofVerdict.{OfLottery, OfNoPanel};
@@ -94,7 +93,9 @@ fn is_lottery_proof(bundle: &Bundle, trees: &[TreeLines]) -> bool
     bundle.facts();
     let stages = bundle.answer().certificate().stages();
     let volunteers = bundle.pool().volunteers().len();
-    trees.len() == stages.len() && trees.len() <= most_trees(volunteers) && are_trees(volunteers, trees)
+    trees.len() == stages.len()
+        && trees.len() <= most_trees(volunteers)
+        && are_trees(volunteers, trees)
 }
 
 /// Returns the greatest number of trees of a proof over a pool of `volunteers` volunteers.

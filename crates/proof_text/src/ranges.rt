@@ -1,4 +1,4 @@
-//! The ranges of the numbers in a tree's lines. Stands on `leaves` and `trees`; `proofs` and `proof_text` test lines by these calls.
+//! The ranges of the numbers in a tree's lines.
 
 ghost use Rattle.std.specs.Prelude.{◌≡◌, ◌<◌, length, map, slice_index};
 ghost use Rattle.std.specs.List.{list_all};

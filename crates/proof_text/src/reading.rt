@@ -1,4 +1,4 @@
-//! Reading the text of a proof, line by line. Stands on `progress`. `read_proof` is the promise; the other functions are helpers.
+//! Reading the text of a proof, line by line. `read_proof` is the promise; the other functions are helpers.
 
 ghost use Rattle.std.specs.Prelude.{◌≡◌, Ok, IfOk};
 ghost use Rattle.define_proofs.specs.ProofVerdict.{Proof as Words, OfLottery, OfNoPanel};
@@ -8,10 +8,10 @@ ghost use Rattle.proof_text.specs.Answers.{Reads, stopped};
 ghost use Rattle.proof_text.specs.Progress.{seen, IsClosedRight};
 
 use crate::progress::{ENDING, Progress, after};
+use crate::{Proof, TreeLines};
 use bundle_text::{Bundle, Progress as BundleProgress};
 use pool_model::{Answer, BuildStop, Pool};
 use pool_text::Progress as PoolProgress;
-use crate::{Proof, TreeLines};
 use std::alloc::Global;
 use text_lines::{TextFault, TextStop, next_line};
 

@@ -1,4 +1,4 @@
-//! Trees as lists of lines, one for each node. Stands on `leaves`; readers, writers and the verifier read the lines in order.
+//! Trees as lists of lines, one for each node.
 
 ghost use Rattle.std.specs.Prelude.{◌≡◌, ◌++◌, ◌∷◌, [], OnOk, OnErr};
 ghost use Rattle.define_proofs.specs.TreeLines.{OfLeaf, OfSplit};

@@ -1,5 +1,4 @@
-//! Writing the text of a proof, line by line into one growing buffer. Stands on `text_lines`, and on the writers of pools and bundles.
-//! `write_proof` is the promise; the other functions are helpers.
+//! Writing the text of a proof, line by line into one growing buffer. `write_proof` is the promise; the other functions are helpers.
 
 ghost use Rattle.std.specs.Prelude.{◌≡◌, ◌++◌, ◌∷◌, [], map, Ok, IfOk, OnOk};
 ghost use Rattle.std.specs.Fmt.{decimal};
@@ -11,11 +10,11 @@ ghost use Rattle.define_proofs.specs.ProofText.{bundle_lines, leaf_line, lines_b
 ghost use Rattle.define_proofs.specs.ProofReading.{read_proof};
 ghost use Rattle.proof_text.specs.Parts.{seen};
 
+use crate::{Leaf, Multiplier, Node, Parts, Proof, TreeLine, TreeLines};
 use bundle_text::{Bundle, write_bundle};
 use itoa::Buffer;
 use pool_model::Pool;
 use pool_text::write_pool;
-use crate::{Leaf, Multiplier, Node, Parts, Proof, TreeLine, TreeLines};
 use std::alloc::{AllocError, Global};
 use text_lines::{end_line, push_line, push_number, push_signed};
 

@@ -1,5 +1,4 @@
-//! The search as a list of steps that show that there is no whole point. Stands on `nodes`, `path` and `refutations`; `prove_run` and
-//! `quota_conflicts` turn the steps into trees.
+//! The search as a list of steps that show that there is no whole point.
 
 ghost use Rattle.std.specs.Prelude.{◌≡◌, ◌<◌, IfErr, IfSome, OnOk, length};
 ghost use Rattle.prove_table.specs.Sizes.{SameSizes};

@@ -1,5 +1,5 @@
-//! The multipliers by which a table refutes a node, in lowest terms. `proving` uses this, and `prove_stages` uses `in_lowest_terms`.
-//! The contracts promise which stops the calls may return.
+//! The multipliers by which a table refutes a node, in lowest terms. `proving` uses this, and `prove_stages` uses `in_lowest_terms`. The
+//! contracts promise which stops the calls may return.
 
 ghost use Rattle.std.specs.Prelude.{◌≤ℤ◌, pos, IfErr, IfOk};
 ghost use Rattle.prove_branching.specs.Nodes.{IsLostOrMemory};

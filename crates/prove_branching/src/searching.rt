@@ -1,5 +1,4 @@
-//! The search for a point of whole numbers, at a limited number of nodes. Stands on `nodes` and `path`; `weighing`, `prove_stages`,
-//! `prove_peeling`, `quota_conflicts` and `loosening_by_proof` call it.
+//! The search for a point of whole numbers, at a limited number of nodes.
 
 ghost use Rattle.std.specs.Prelude.{◌≡◌, ◌<◌, IfOk, IfErr, OnOk, length};
 ghost use Rattle.prove_table.specs.Sizes.{SameSizes};

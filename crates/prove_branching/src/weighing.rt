@@ -1,5 +1,4 @@
-//! The search for a point whose weight lies in a span, by a row of weights that is added to the table during the search. Stands on
-//! `searching`; `prove_stages`, `prove_peeling` and `prove_run` call it, and `prove_run` uses `add_weights` and `reach_of`. The contracts
+//! The search for a point whose weight lies in a span, by a row of weights that is added to the table during the search. The contracts
 //! promise what is spent of the budget, the sizes of the table, which stops the calls may return, and that `ceiling` rounds up exactly.
 
 ghost use Rattle.std.specs.Prelude.{◌≡◌, ◌+◌, ◌<◌, ◌≤ℤ◌, pos, IfErr, IfOk, OnOk, length};

@@ -1,5 +1,5 @@
-//! What a run may spend: pivots and nodes of search trees. Stands on `stops`. Every loop of the engine that may run long takes a pivot or
-//! a node in each round, so the clauses of `take_pivot` and `take_node` show that it ends.
+//! What a run may spend: pivots and nodes of search trees. Every loop of the engine that may run long takes a pivot or a node in each
+//! round, so the clauses of `take_pivot` and `take_node` show that it ends.
 
 ghost use Rattle.std.specs.Prelude.{◌≡◌, ◌-◌, nat_lt, if◌then◌else◌, Ok, Err};
 ghost use Rattle.prove_limits.specs.Budgets.{unspent};

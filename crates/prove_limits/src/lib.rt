@@ -1,8 +1,6 @@
-//! The numbers and limits of the run that makes proofs: whole numbers of at most 2^62 by absolute value with exact operations, spans,
-//! the budget of a run, and why a run stops. Stands on no crate of the project. Each crate of the engine of `prove` stands on it, from
-//! `prove_table` to `prove_run`, and so do `quota_conflicts` and `loosening_by_proof`. The commands that run the engine (`command_proofs`,
-//! `command_quotas`, `command_quotas`, `command_stores`) use its budgets and stops. `command_meanings` says what is printed of them, and
-//! `command_office` what the program promises of them. Every public call is a promise: its contract says its result exactly.
+//! The numbers and limits of the run that makes proofs: whole numbers of at most 2^62 by absolute value with exact operations, spans, the
+//! budget of a run, and why a run stops. `command_meanings` says what is printed of budgets and stops, and `command_office` what the
+//! program promises of them. Every public call is a promise: its contract says its result exactly.
 #![tactic(auto)]
 
 mod budgets;

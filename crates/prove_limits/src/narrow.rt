@@ -1,5 +1,5 @@
 //! Narrow numbers: whole numbers of at most 2^62 by absolute value. The product of two narrow numbers fits 128 bits, and so does the
-//! difference of two of these products, so neither needs a test. Everything above stands on `Narrow`.
+//! difference of two of these products, so neither needs a test.
 
 ghost use Rattle.std.specs.Prelude.{◌≡◌, ◌≤◌, ◌↔◌, IsTrue, pos, neg_ℤ, unsigned_abs, SomeIff};
 ghost use Rattle.prove_limits.specs.Operations.{IsNarrow};

@@ -1,5 +1,4 @@
-//! Exact operations on whole numbers that stop if the result is too wide. Stands on `narrow`, `passes` and `stops`; the crates of the
-//! engine calculate with these calls.
+//! Exact operations on whole numbers that stop if the result is too wide.
 
 ghost use Rattle.std.specs.Prelude.{◌≡◌, ◌≤◌, ◌^◌, pos, ◌*ℤ◌, ◌≢◌, unsigned_abs, IfOk, IfErr, SomeIff, FitsSigned};
 ghost use Rattle.std.specs.Int.{w128};

@@ -1,5 +1,4 @@
-//! An operation that passes 2^62, as a stop names it: the operation and its two numbers. Stands on nothing; `stops` and `operations` use
-//! it, and `command_proofs` prints it.
+//! An operation that passes 2^62, as a stop names it: the operation and its two numbers.
 
 ghost use Rattle.std.specs.Prelude.{◌≡◌};
 ghost use Rattle.prove_limits.specs.Operations.{Passes};

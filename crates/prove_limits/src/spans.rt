@@ -1,4 +1,4 @@
-//! Spans of whole numbers, which are never empty. Stands on `narrow`; the columns and rows of every program above have a span.
+//! Spans of whole numbers, which are never empty.
 
 ghost use Rattle.std.specs.Prelude.{◌≡◌, ◌↔◌, IsTrue, ◌≤ℤ◌, ◌<ℤ◌, SomeIff};
 ghost use Rattle.std.specs.Int.{int_max};

@@ -1,5 +1,5 @@
-//! Why a run that makes proofs stops before its answer. Stands on `passes`. A call of the engine that can stop returns a `ProveStop`, or an
-//! `AllocError` if only memory can run out; `command_proofs` prints the stop of a run.
+//! Why a run that makes proofs stops before its answer. A call of the engine that can stop returns a `ProveStop`, or an `AllocError` if
+//! only memory can run out; `command_proofs` prints the stop of a run.
 
 use crate::passes::Pass;
 use std::alloc::{AllocError, AllocFailed};

@@ -1,6 +1,5 @@
 //! The compositions of a mix, as columns of its program. The program has a row for each free class of alike volunteers, which are those
-//! that the caller gave a row, and a last row for the total. Stands on no other module; `bases`, `exact`, `masters`, `wholes`,
-//! `prove_stages` and `prove_peeling` use this.
+//! that the caller gave a row, and a last row for the total.
 
 use std::alloc::{AllocError, Global};
 

@@ -1,6 +1,5 @@
 //! Fixed-point numbers: whole numbers of units of 2^-46, below 2^17 by absolute value. They are advice only: what is printed is computed
-//! exactly and verified. Products and quotients are rounded, and one that doesn't fit 64 bits becomes 2^63 - 1 units, or minus that. Stands
-//! on no other module; `exact`, `inverses`, `masters`, `wholes`, `prove_stages` and `prove_peeling` use this.
+//! exactly and verified. Products and quotients are rounded, and one that doesn't fit 64 bits becomes 2^63 - 1 units, or minus that.
 
 /// How many binary digits are after the point.
 pub(crate) const DIGITS: u32 = 46;

@@ -1,4 +1,4 @@
-//! The inverse of a square matrix in fixed point. Stands on `fixed`; `masters` uses this.
+//! The inverse of a square matrix in fixed point.
 
 use crate::fixed::{UNIT, product, quotient};
 use std::alloc::{AllocError, Global};

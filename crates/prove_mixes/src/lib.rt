@@ -1,6 +1,5 @@
 //! Mixes: a point as a sum of columns, which are compositions, times weights of at least 0. A program in fixed point finds weights
-//! (`masters`) and its duals as whole numbers (`exact`); whole weights are solved over a basis with a small determinant (`wholes`). Stands
-//! on `prove_limits`, on `prove_table` for pseudo-random numbers, and on `frac128`. `prove_stages` and `prove_peeling` use it.
+//! (`masters`) and its duals as whole numbers (`exact`); whole weights are solved over a basis with a small determinant (`wholes`).
 //! Promises: each call is safe and ends, and gives nothing of the budget back. What is found is advice, since `check_proofs` tests each
 //! proof.
 #![tactic(auto)]

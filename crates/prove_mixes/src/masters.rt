@@ -1,6 +1,6 @@
 //! The program of a mix in fixed point: weights of columns, none below 0, that make up a point. A simplex method keeps the inverse of its
-//! basis. What it finds is advice. Stands on `fixed`, `inverses` and `columns`, and takes pseudo-random numbers from `prove_table`. `exact`
-//! reads its basis; `prove_stages` and `prove_peeling` call it. All values, weights and duals are fixed-point numbers.
+//! basis. What it finds is advice. `exact` reads its basis; `prove_stages` and `prove_peeling` call it. All values, weights and duals are
+//! fixed-point numbers.
 
 ghost use Rattle.prove_limits.specs.Budgets.{SpendsOn};
 

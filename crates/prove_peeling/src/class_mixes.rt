@@ -1,7 +1,5 @@
 //! A point as a mix of compositions: a program in fixed point finds which compositions, searches find further ones or show that the point
-//! is no mix, and whole weights are solved over a basis with a small determinant. Then the compositions are spread over panels. Stands on
-//! `free_classes`, `pricing`, `rows` and `spreads`, on `prove_mixes` for the program and the whole weights, and on the searches of
-//! `prove_stages`; `lotteries` calls `class_mix`.
+//! is no mix, and whole weights are solved over a basis with a small determinant. Then the compositions are spread over panels.
 
 ghost use Rattle.std.specs.Prelude.{OnOk};
 ghost use Rattle.prove_limits.specs.Budgets.{SpendsOn};

@@ -1,7 +1,6 @@
 //! Peeling over classes, for large pools. Each composition takes of a class the whole number below its average count over the point, or one
 //! more. So what is above these whole numbers is a point of parts from 0 to 1, and sets of classes are peeled off it as panels are of
 //! volunteers. Then the compositions are spread over panels. A point may be a mix of other compositions alone: then nothing is found here.
-//! Stands on `free_classes`, `remainders`, `rows` and `spreads`, and on `lotteries` for the turns; `lotteries` calls `panels_by_classes`.
 
 ghost use Rattle.prove_limits.specs.Budgets.{SpendsOn};
 

@@ -1,5 +1,4 @@
-//! The face of a remainder: what holds of every panel that can be peeled off it. Stands on `remainders` and `rows`; `peels` and `tails` use
-//! this.
+//! The face of a remainder: what holds of every panel that can be peeled off it.
 
 ghost use Rattle.std.specs.Prelude.{◌≡◌, length, IfOk};
 

@@ -1,6 +1,5 @@
 //! The classes of a point with their chances, and which of them are free: those with a chance between 0 and 1. A composition is a count for
-//! each class; only the counts of free classes differ between the compositions of a mix. Stands on `rows` and `spreads`; `class_mixes`,
-//! `class_peels` and `pricing` use this, and `lotteries` calls `counts_of`.
+//! each class; only the counts of free classes differ between the compositions of a mix.
 
 use crate::lotteries::WeightedPanel;
 use crate::rows::{PanelRow, value_at};

@@ -1,9 +1,7 @@
-//! Makes a lottery over panels that gives each volunteer the chance of a point. Panels are peeled off the point one after the other, or in a
-//! large pool sets of classes. If a remainder is left, an exact table looks for weights of the panels seen that make it up. Or the point is
-//! mixed from compositions. Compositions are spread over panels. Stands on `prove_stages`, `prove_mixes`, `prove_program`,
-//! `prove_branching`, `prove_table` and `prove_limits`. Used by `prove_run`; `engine_tests` tests it.
-//! Promises: each call is safe and ends, and gives nothing of the budget back. That the lottery has the point's chances is no promise:
-//! `check_proofs` tests each proof.
+//! Makes a lottery over panels that gives each volunteer the chance of a point. Panels are peeled off the point one after the other, or in
+//! a large pool sets of classes. If a remainder is left, an exact table looks for weights of the panels seen that make it up. Or the point
+//! is mixed from compositions. Compositions are spread over panels. Promises: each call is safe and ends, and gives nothing of the budget
+//! back. That the lottery has the point's chances is no promise: `check_proofs` tests each proof.
 #![tactic(auto)]
 
 mod class_mixes;

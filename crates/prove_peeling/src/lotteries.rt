@@ -1,6 +1,5 @@
-//! The lottery of a point: turns of peeling, and if these get stuck, tails and a mix of compositions. Stands on `peels`, `tails`,
-//! `class_mixes`, `class_peels`, `free_classes`, `remainders`, `rows` and `seen`. `prove_run` calls `lottery_of_point` and `mix_of`. Promise:
-//! nothing of the budget is given back.
+//! The lottery of a point: turns of peeling, and if these get stuck, tails and a mix of compositions. `prove_run` calls `lottery_of_point`
+//! and `mix_of`. Promise: nothing of the budget is given back.
 
 ghost use Rattle.std.specs.Prelude.{◌≡◌, length, IfOk, IfNone, OnOk};
 ghost use Rattle.prove_peeling.specs.Shapes.{HasTable, IsPeelingRun};

@@ -1,6 +1,5 @@
 //! Peeling: panels are taken off a remainder, one after the other, until nothing is left or no further panel is found. Each is taken off
-//! with the greatest weight after which the remainder still satisfies the rows on average. Stands on `faces`, `remainders`, `rows`, `seen`
-//! and `odds`; `lotteries` calls `peel`.
+//! with the greatest weight after which the remainder still satisfies the rows on average.
 
 ghost use Rattle.std.specs.Prelude.{◌≡◌, length};
 ghost use Rattle.prove_table.specs.Sizes.{SameSizes};

@@ -1,5 +1,4 @@
-//! The face of a point over classes: the rows that hold of each composition which a mix of the point can have. Stands on `free_classes` and
-//! `rows`; `class_mixes` uses this.
+//! The face of a point over classes: the rows that hold of each composition which a mix of the point can have.
 
 use crate::free_classes::FreeClasses;
 use crate::rows::{PanelRow, value_at};

@@ -1,4 +1,4 @@
-//! What remains of a point after panels were taken off it. Stands on `seen`; `faces`, `peels`, `tails` and `lotteries` use this.
+//! What remains of a point after panels were taken off it.
 
 ghost use Rattle.std.specs.Prelude.{◌≡◌, length, IfOk};
 

@@ -1,7 +1,5 @@
-//! The rows that each panel of a lottery satisfies: those of the quotas, and one for each stage. Stands on `prove_program` and
-//! `prove_stages`; `faces`, `peels`, `tails`, `free_classes`, `pricing`, `class_mixes`,
-//! `class_peels` and `lotteries` use them. `prove_run` makes
-//! `PanelRows`, and uses `weights_of`. The contracts promise how many rows and weights there are.
+//! The rows that each panel of a lottery satisfies: those of the quotas, and one for each stage. `prove_run` makes `PanelRows`, and uses
+//! `weights_of`. The contracts promise how many rows and weights there are.
 
 ghost use Rattle.std.specs.Prelude.{◌≡◌, ◌+◌, length, IfOk};
 

@@ -1,5 +1,4 @@
-//! The panels that searches found so far. Stands on no other module; `peels` and `tails` add to them, `remainders` names panels by their
-//! numbers here, and `lotteries` reads them.
+//! The panels that searches found so far.
 
 use prove_limits::{Narrow, ProveStop};
 use std::alloc::{AllocError, Global};

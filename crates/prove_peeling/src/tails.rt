@@ -1,5 +1,5 @@
 //! The exact tail: a table looks for weights of the panels seen that make up a remainder. If there are none, the multipliers that refute
-//! the table say which further panel to search for. Stands on `faces`, `remainders`, `rows` and `seen`; `lotteries` calls `tail_of`.
+//! the table say which further panel to search for.
 
 ghost use Rattle.std.specs.Prelude.{◌≡◌, length, IfOk, OnOk};
 ghost use Rattle.prove_table.specs.Sizes.{SameSizes, Spends};

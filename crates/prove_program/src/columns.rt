@@ -1,4 +1,4 @@
-//! The columns of a program. Stands on `alike`, which finds the classes; `programs` and `rows` use this.
+//! The columns of a program.
 
 ghost use Rattle.std.specs.Prelude.{◌≡◌, IfOk, map};
 ghost use Rattle.define_pools.specs.Pool.{everybody as everybody_of};

@@ -1,9 +1,7 @@
 //! The quotas of a pool as a program of whole numbers: a column for each class of alike volunteers, or for each volunteer, with the span of
-//! how many of its members a panel may have; and a row for each constraint that a point of these spans can break. Stands on `alike`,
-//! `pool_model` and `prove_limits`; the constraints are those of `define_proofs`. `prove_stages`, `prove_peeling`, `prove_run`,
-//! `quota_conflicts` and `loosening_by_proof` stand on it.
-//! Promises: `by_class` and `by_volunteer` return exactly the program that `specs/Programs.antt` defines, and `number_after` the number of
-//! the same constraint in a proof. The calls that return parts of a program say which part.
+//! how many of its members a panel may have; and a row for each constraint that a point of these spans can break. Promises: `by_class` and
+//! `by_volunteer` return exactly the program that `specs/Programs.antt` defines, and `number_after` the number of the same constraint in a
+//! proof. The calls that return parts of a program say which part.
 #![tactic(auto)]
 
 mod columns;

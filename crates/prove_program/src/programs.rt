@@ -1,4 +1,4 @@
-//! Programs: columns, their spans and rows, made of a pool. Stands on `columns`, `demands` and `rows`.
+//! Programs: columns, their spans and rows, made of a pool.
 
 ghost use Rattle.std.specs.Prelude.{◌≡◌, List, [], ◌<◌, ◌^◌, IfOk, map, length, slice_index, slice_index_or, pos, ◌≤ℤ◌};
 ghost use Rattle.std.specs.List.{All};

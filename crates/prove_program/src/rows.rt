@@ -1,5 +1,5 @@
-//! The rows of a program: a demand becomes a row if some point of the columns' spans breaks it. Stands on `columns` and `demands`;
-//! `programs` uses this. `QuotaRow` is public; its calls say which part of a row they return.
+//! The rows of a program: a demand becomes a row if some point of the columns' spans breaks it. `QuotaRow` is public; its calls say which
+//! part of a row they return.
 
 ghost use Rattle.std.specs.Prelude.{◌≡◌, ℕ, ◌≤◌, if◌then◌else◌, IfOk, map, length, pos, sum_by};
 ghost use Rattle.std.specs.List.{All};

@@ -1,9 +1,7 @@
 //! A run that makes a proof of a pool: its stages, a lottery of their point, and a tree for each stage; or a tree that shows that there is
-//! no quota panel. And searches for the trees of a bundle, or of a pool without a quota panel, which their count of nodes ends. Stands on
-//! `prove_stages`, `prove_peeling`, `prove_branching`, `prove_program`, `prove_table` and `prove_limits`, the crates of the engine, and on
-//! the proofs of `proof_text`. Used by `command_proofs`, which calls the three functions of `runs`, and verifies what they return.
-//! Promises: a proof or a lottery is over the given pool, or of the given bundle; and nothing of a budget is given back. That a proof is
-//! valid is no promise.
+//! no quota panel. And searches for the trees of a bundle, or of a pool without a quota panel, which their count of nodes ends. Promises: a
+//! proof or a lottery is over the given pool, or of the given bundle; and nothing of a budget is given back. That a proof is valid is no
+//! promise.
 #![tactic(auto)]
 
 mod answers;

@@ -1,5 +1,5 @@
-//! The whole run: stages, a lottery of their point, and trees. Stands on all other modules. The three public calls are the crate's promises;
-//! the other functions are helpers.
+//! The whole run: stages, a lottery of their point, and trees. The three public calls are the crate's promises; the other functions are
+//! helpers.
 
 ghost use Rattle.std.specs.Prelude.{IfOk};
 ghost use Rattle.prove_limits.specs.Budgets.{SpendsOn};
@@ -11,8 +11,8 @@ use crate::programs::Programs;
 use crate::trees::{TreesBy, searched_trees, stage_trees, tree_of_steps};
 use bundle_text::Bundle;
 use pool_model::Pool;
-use prove_limits::{Budget, ProveStop};
 use proof_text::{Proof, TreeLines};
+use prove_limits::{Budget, ProveStop};
 use prove_peeling::{PanelRows, Peeled, WeightedPanel, lottery_of_point, mix_of};
 use prove_program::Program;
 use prove_stages::{Chances, ClassStage, Columned, Relaxed, column_stages_from, relaxed_stages};

@@ -1,6 +1,6 @@
-//! The search for a tree that its count of nodes alone ends. A node that one row refutes is a leaf. Else a table looks for a point there. Where
-//! the table fails, or where its multipliers pass the limits of a line, the node is split again: once every column is settled, one row decides.
-//! Stands on `prove_table`; `caps` uses this.
+//! The search for a tree that its count of nodes alone ends. A node that one row refutes is a leaf. Else a table looks for a point there.
+//! Where the table fails, or where its multipliers pass the limits of a line, the node is split again: once every column is settled, one
+//! row decides.
 
 ghost use Rattle.prove_limits.specs.Budgets.{SpendsOn};
 

@@ -1,5 +1,4 @@
-//! The trees of a proof, whose lines are made of the steps of a search or of a refutation. Stands on `caps` and `programs`; `runs` uses
-//! this.
+//! The trees of a proof, whose lines are made of the steps of a search or of a refutation.
 
 ghost use Rattle.std.specs.Prelude.{OnOk};
 ghost use Rattle.prove_limits.specs.Budgets.{SpendsOn};
@@ -8,9 +7,9 @@ ghost use Rattle.prove_run.specs.Shapes.{IsCapSearch};
 use crate::caps::CapSearch;
 use crate::programs::Programs;
 use pool_model::Stage;
+use proof_text::{Leaf, Multiplier, TreeLine, TreeLines};
 use prove_branching::{Refutation, Step};
 use prove_limits::{Budget, Narrow, ProveStop, narrow_add};
-use proof_text::{Leaf, Multiplier, TreeLine, TreeLines};
 use prove_peeling::weights_of;
 use prove_stages::ClassStage;
 use std::alloc::{AllocError, Global};

@@ -1,5 +1,4 @@
-//! The chances of columns, which stages settle one after the other. Stands on `fractions`; `relaxed`, `quick` and `columned` keep their
-//! state here, `prove_run` passes it on, and `prove_peeling` reads it. The contracts promise exactly which columns have which chances.
+//! The chances of columns, which stages settle one after the other. The contracts promise exactly which columns have which chances.
 
 ghost use Rattle.std.specs.Prelude.{◌≡◌, ◌↔◌, IsTrue, ◌<◌, ◌≤ℤ◌, pos, length, replicate, slice_index_or, slice_set, None, Some, IsSome, IfOk, OnErr, OnOk};
 ghost use Rattle.std.specs.List.{All};

@@ -1,5 +1,4 @@
-//! Stages over columns, and what the ways to find stages share. Stands on `chances` and `fractions`; `relaxed`, `quick` and `columned` make
-//! these stages, and `prove_peeling` and `prove_run` read them.
+//! Stages over columns, and what the ways to find stages share.
 
 ghost use Rattle.std.specs.Prelude.{◌≡◌, length, IfOk};
 

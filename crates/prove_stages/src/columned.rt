@@ -1,7 +1,6 @@
 //! Stages over compositions, by column generation: if the known compositions don't give a level, the multipliers of their table are the
-//! weights for the search for a further composition. Stands on `finders`, `mixes`, `levels`, `chances`, `fractions` and `class_stages`, and
-//! on `quick`, which it tries first. `prove_run` calls `column_stages_from` if it finds no lottery with the relaxation's chances. Promise:
-//! nothing of the budget is given back.
+//! weights for the search for a further composition. `prove_run` calls `column_stages_from` if it finds no lottery with the relaxation's
+//! chances. Promise: nothing of the budget is given back.
 
 ghost use Rattle.std.specs.Prelude.{◌≡◌, ◌<◌, IfOk, OnOk, length};
 ghost use Rattle.prove_stages.specs.Shapes.{IsFinder, IsCompositionMix};

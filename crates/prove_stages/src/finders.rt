@@ -1,4 +1,4 @@
-//! The search for compositions that weigh enough. Stands on `tables`, `searches` and on the searches of `prove_branching`; `columned` uses this.
+//! The search for compositions that weigh enough.
 
 ghost use Rattle.std.specs.Prelude.{◌≡◌, ◌<◌, IfOk, IfSome, OnOk, length};
 ghost use Rattle.prove_stages.specs.Shapes.{IsFinder};

@@ -1,5 +1,4 @@
-//! Chances as fractions of narrow numbers. Stands on `prove_limits`; `chances`, `levels`, `class_stages`, `relaxed`, `quick` and `columned`
-//! stand on it, and `prove_peeling` reads chances. Promises: each call is exact.
+//! Chances as fractions of narrow numbers. Promises: each call is exact.
 
 ghost use Rattle.std.specs.Prelude.{◌≡◌, ◌↔◌, IsTrue, ◌≤ℤ◌, ◌<ℤ◌, ◌*ℤ◌, int_div, pos, IfErr, SomeIff};
 ghost use Rattle.prove_limits.specs.Stops.{IsWideOrMemory};

@@ -1,5 +1,5 @@
 //! Levels: a level is a chance that all unsettled columns have at least. Finds the greatest level that the weights and the cap of a stage
-//! allow. Stands on `chances` and `fractions`; `relaxed`, `quick` and `columned` use this.
+//! allow.
 
 ghost use Rattle.std.specs.Prelude.{◌≡◌, ◌≤ℤ◌, ◌<ℤ◌, pos, length};
 

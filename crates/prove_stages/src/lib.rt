@@ -1,8 +1,7 @@
 //! The stages of a pool, found in two ways. The relaxation (`relaxed`) uses points instead of panels: a stage comes from a refuted program,
 //! whose multipliers are a leaf that shows the cap. If the relaxation's point is no mix of panels, column generation finds stages over
 //! compositions, first in fixed point (`quick`), and in doubt exactly (`columned`); trees show their caps. `CompositionSearch` (`searches`)
-//! finds single compositions. Stands on `prove_program`, `prove_branching`, `prove_mixes`, `prove_table`, `prove_limits` and `frac128`;
-//! `prove_peeling`, `prove_run`, `quota_conflicts` and `loosening_by_proof` stand on it, and `engine_tests` tests it.
+//! finds single compositions.
 //!
 //! Promises: each call is safe and ends, gives nothing of the budget back, and `Chances` has exactly the chances that were settled. The
 //! stages themselves are no promise: `check_proofs` tests each proof.

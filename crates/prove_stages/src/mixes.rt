@@ -1,5 +1,4 @@
-//! The compositions that were found, and the exact table that looks for weights of them that give wanted chances. Stands on `prove_table`;
-//! `columned` uses this.
+//! The compositions that were found, and the exact table that looks for weights of them that give wanted chances.
 
 ghost use Rattle.std.specs.Prelude.{IfOk, OnOk, length};
 ghost use Rattle.prove_table.specs.Sizes.{Spends};

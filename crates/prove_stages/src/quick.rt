@@ -1,7 +1,6 @@
 //! Stages over compositions with the level as a variable: a program in fixed point makes the level as great as the known compositions
 //! allow, and searches find further ones. The program's multipliers, made whole, are the weights of a stage; an exact search shows the cap.
-//! Stands on `searches`, `wholes`, `levels`, `chances`, `fractions`, `class_stages` and `prove_mixes`, and returns the `Columned` of
-//! `columned`, which tries this first. Promise: nothing of the budget is given back.
+//! Promise: nothing of the budget is given back.
 
 ghost use Rattle.prove_limits.specs.Budgets.{SpendsOn};
 

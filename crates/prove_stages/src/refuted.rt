@@ -1,4 +1,4 @@
-//! Turns multipliers that refute a program into weights, and a cap that no point passes. Stands on `chances`; `relaxed` uses this.
+//! Turns multipliers that refute a program into weights, and a cap that no point passes.
 
 ghost use Rattle.std.specs.Prelude.{◌≡◌, ◌+◌, ◌≤◌, length, IfOk};
 

@@ -1,6 +1,5 @@
-//! Stages by the relaxation of the quotas: points take the place of panels, so that quotas are met on average. Stands on `refuted`,
-//! `levels`, `chances`, `fractions`, `class_stages` and `tables`; `prove_run` calls `relaxed_stages` first. Promise: nothing of the budget
-//! is given back.
+//! Stages by the relaxation of the quotas: points take the place of panels, so that quotas are met on average. Promise: nothing of the
+//! budget is given back.
 
 ghost use Rattle.std.specs.Prelude.{◌≡◌, ◌<◌, ◌^◌, length, IfOk, IfSome};
 ghost use Rattle.prove_table.specs.Sizes.{SameSizes, Spends};

@@ -1,5 +1,4 @@
-//! The search for compositions within spans of columns and rows, by an exact table. Stands on `prove_table` and on the searches of
-//! `prove_branching`; `quick` and `prove_peeling` use it. Promise: nothing of the budget is given back.
+//! The search for compositions within spans of columns and rows, by an exact table. Promise: nothing of the budget is given back.
 
 ghost use Rattle.prove_limits.specs.Budgets.{SpendsOn};
 

@@ -1,5 +1,4 @@
-//! The table of a program, and the spans of its rows. Stands on `prove_table`; `relaxed`, `finders`, `prove_run` and `loosening_by_proof`
-//! use both calls, and `quota_conflicts` uses `table_of`. The contracts promise how many rows and columns the table has, and how many spans
+//! The table of a program, and the spans of its rows. The contracts promise how many rows and columns the table has, and how many spans
 //! there are.
 
 ghost use Rattle.std.specs.Prelude.{◌≡◌, length, IfOk};

@@ -1,4 +1,4 @@
-//! Whole weights near fixed-point multipliers. Stands on `prove_mixes` and `frac128`; `quick` uses this.
+//! Whole weights near fixed-point multipliers.
 
 use frac128::gcd;
 use prove_limits::{Narrow, ProveStop, narrow_add};

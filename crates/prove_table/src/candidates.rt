@@ -1,5 +1,4 @@
 //! The candidates of a row whose variable is out of its span: the slots whose variables can move it back. One of them enters the basis.
-//! Stands on `rows`, `slots`, `spans`, `variables` and `worst`; `table` uses this.
 
 ghost use Rattle.std.specs.Prelude.{◌≢◌, pos, IfErr};
 ghost use Rattle.prove_limits.specs.Stops.{IsWideOrMemory};

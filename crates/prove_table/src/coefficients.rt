@@ -1,5 +1,4 @@
-//! The coefficients of the rows, by column: each column lists those that are not 0. Stands on `prove_limits` alone; `table` and `combining`
-//! use this.
+//! The coefficients of the rows, by column: each column lists those that are not 0.
 
 ghost use Rattle.std.specs.Prelude.{IfErr};
 ghost use Rattle.prove_limits.specs.Stops.{IsWideOrMemory};

@@ -1,5 +1,5 @@
 //! Common divisors of numbers. That they are the greatest is no promise, since each proof is verified before it is printed. Promises: a
-//! divisor is at least 1, and a list keeps its length. Stands on `frac128`; `table`, `prove_branching` and `prove_stages` use this.
+//! divisor is at least 1, and a list keeps its length.
 
 ghost use Rattle.std.specs.Prelude.{◌≡◌, ◌≤ℤ◌, pos, length};
 

@@ -1,9 +1,8 @@
-//! An exact table: columns within spans, and rows, which are sums of columns times coefficients and have spans of their own. A run finds
-//! a point that keeps all spans, or multipliers of the rows that show that there is none. All its numbers are whole: each row's basic
+//! An exact table: columns within spans, and rows, which are sums of columns times coefficients and have spans of their own. A run finds a
+//! point that keeps all spans, or multipliers of the rows that show that there is none. All its numbers are whole: each row's basic
 //! variable times the denominator is the sum of the row's entries times the variables that are not basic. A row keeps only its entries at
-//! places, the slots whose variables are sums of rows; those at the slots of columns follow from these and the coefficients. Stands on
-//! `prove_limits` and `frac128`; `prove_branching`, `prove_mixes`, `prove_stages`, `prove_peeling`, `prove_run`, `quota_conflicts` and
-//! `loosening_by_proof` stand on it, and `engine_tests` tests it.
+//! places, the slots whose variables are sums of rows; those at the slots of columns follow from these and the coefficients.
+//!
 //! Promises: each call is safe and ends; it changes the sizes, spends and stops only as its clauses say. That a point or a refutation is
 //! right is no promise: the callers test points, and `check_proofs` tests proofs.
 #![tactic(auto)]

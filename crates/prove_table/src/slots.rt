@@ -1,5 +1,4 @@
-//! Slots: one for each variable that is not basic. Each such variable is at one end of its span. Stands on `spans`, `variables` and
-//! `pseudo_random`; `table`, `candidates` and `combining` use this.
+//! Slots: one for each variable that is not basic. Each such variable is at one end of its span.
 
 ghost use Rattle.std.specs.Prelude.{◌≤◌, length};
 

@@ -1,5 +1,4 @@
-//! The spans of one run, by variable. Stands on `variables`. `table` makes a `Spans` for each run; `slots`, `candidates` and `worst` look
-//! spans up in it.
+//! The spans of one run, by variable. `table` makes a `Spans` for each run; `slots`, `candidates` and `worst` look spans up in it.
 
 use crate::variables::Variable;
 use prove_limits::{Narrow, Span};

@@ -1,5 +1,4 @@
-//! The values of basic variables, and the row whose variable leaves the basis because it is out of its span. Stands on `combining`, `rows`,
-//! `spans` and `variables`; `table` and `candidates` use this.
+//! The values of basic variables, and the row whose variable leaves the basis because it is out of its span.
 
 ghost use Rattle.std.specs.Prelude.{◌<◌, length, IfOk, IfErr, IfSome};
 ghost use Rattle.prove_limits.specs.Stops.{IsWideOrMemory};

@@ -13,8 +13,8 @@ use crate::searches::{Search, Tried};
 use crate::shrinking::shrunk;
 use define_quotas::{Counted, Side};
 use pool_model::{Panel, Pool, fits};
-use prove_limits::{Budget, Limit, ProveStop};
 use proof_text::TreeLine;
+use prove_limits::{Budget, Limit, ProveStop};
 use std::alloc::{AllocError, Global};
 
 /// A quota panel of a pool, or quotas that explain why there is none.

@@ -1,5 +1,4 @@
 //! A conflict, checked: its quotas are the pool's, a tree shows that each selection misses them, and witnesses show that each is needed.
-//! Stands on `covers`, `misses`, `needs` and `quotas`; `answers` and `texts` use this.
 
 ghost use Rattle.std.specs.Prelude.{◌≡◌, ◌≢◌, IfOk, IfSome};
 ghost use Rattle.std.specs.Bool.{OnTrue};

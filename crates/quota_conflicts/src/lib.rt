@@ -1,6 +1,4 @@
-//! Why a pool has no quota panel: quotas that can't be met together, as few as can be found; or a quota panel. Stands on the engine of
-//! `prove` (`prove_branching`, `prove_program`, `prove_stages`, `prove_table`, `prove_limits`), which searches, on `pool_model` and
-//! `proof_text`, and on the definitions of `define_quotas`. `command_quotas` stands on it, and `loosening_by_proof` on its sums.
+//! Why a pool has no quota panel: quotas that can't be met together, as few as can be found; or a quota panel.
 //!
 //! Promises: what `why` returns is checked by this crate itself, by adding and comparing whole numbers (`misses`, `covers`). So whatever
 //! the search did, the quotas of a conflict can't be met together, and a panel is a quota panel. `conflict_text` writes exactly the text of

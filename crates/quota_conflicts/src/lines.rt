@@ -4,8 +4,8 @@
 use crate::covers::Node;
 use crate::kept::{Kept, is_kept, is_least};
 use define_quotas::Side;
-use prove_branching::Step;
 use proof_text::{Node as TreeNode, TreeLine};
+use prove_branching::Step;
 use std::alloc::{AllocError, Global};
 
 /// A line of a tree.

@@ -1,5 +1,5 @@
 //! Searches over classes of alike volunteers for a selection that meets the kept bounds; and if there is none, over single volunteers for a
-//! tree that shows this. Stands on the engine of `prove`. Promise: nothing of the budget is given back.
+//! tree that shows this. Promise: nothing of the budget is given back.
 
 ghost use Rattle.std.specs.Prelude.{◌≡◌, IfOk, length};
 ghost use Rattle.prove_limits.specs.Budgets.{SpendsOn};

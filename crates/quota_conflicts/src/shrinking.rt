@@ -1,5 +1,5 @@
 //! Fewer quotas: tries to drop each bound in turn from a list of bounds that no selection meets. A bound is dropped if a search shows that
-//! no selection meets the rest either. Stands on `searches`, `lines` and `kept`; `answers` uses this.
+//! no selection meets the rest either.
 
 ghost use Rattle.prove_limits.specs.Budgets.{SpendsOn};
 ghost use Rattle.quota_conflicts.specs.Searches.{IsSearch};

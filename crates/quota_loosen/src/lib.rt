@@ -1,6 +1,5 @@
 //! The least loosening of a pool's quotas: the bounds are moved by as little as possible in all so that there is a quota panel. A search
-//! under a budget of visits finds it. Stands on `alike`, which makes the classes, `define_quotas`, which says what is found and what a
-//! visit is, and `pool_model`. Used by the command `loosen`, and `loosening_by_proof`.
+//! under a budget of visits finds it.
 //!
 //! Promises: `loosen`, `Loosened::for_team`, and `number_with`. All else is a helper.
 #![tactic(auto)]

@@ -1,5 +1,4 @@
-//! The pool of the next round, after a panel was drawn and some of its members dropped out, and pools after withdrawals. Stands on
-//! `pool_model`, and on the definitions of `define_offices`. `office_steps` stands on it.
+//! The pool of the next round, after a panel was drawn and some of its members dropped out, and pools after withdrawals.
 //!
 //! Promises: `next_pool` returns exactly the next pool of the definitions, or the first dropout who isn't in the panel; `pool_after`
 //! returns the same pool, whoever the dropouts are; `withdraw` changes exactly the standings of the open volunteers who have withdrawn.

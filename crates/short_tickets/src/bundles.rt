@@ -4,9 +4,9 @@ ghost use Rattle.std.specs.Prelude.{◌≡◌, ◌^◌, ◌≤ℤ◌, pos, unsig
 ghost use Rattle.define_pools.specs.Lottery.{TotalAgrees};
 ghost use Rattle.define_draws.specs.ShortBundle.{shortened_bundle};
 
+use crate::shorten;
 use bundle_text::Bundle;
 use pool_model::Answer;
-use crate::shorten;
 use std::alloc::{AllocError, Global};
 
 /// Returns the bundle with its lottery shortened to `tickets` tickets, from 1 to 10^9. The weights of the bundle sum to its total. The

@@ -1,7 +1,7 @@
-//! Shortens a lottery to a round number of tickets, so that a hall can draw with fewer dice. Stands on `define_draws`, which says how
-//! many tickets each panel gets, and on the lotteries of `pool_model`. Used by `short_tickets`.
+//! Shortens a lottery to a round number of tickets, so that a hall can draw with fewer dice; and draws from a bundle in so many tickets.
 //!
-//! Promises: `shorten` returns exactly what the definition says. The laws of `define_draws` say how near that is to the lottery.
+//! Promises: `shorten` returns exactly what the definition says, and so do the draws and counts over a bundle. The laws of `define_draws`
+//! say how near a shortened lottery is to the lottery.
 #![tactic(auto)]
 
 mod bundles;
@@ -15,5 +15,4 @@ mod shortening;
 pub use bundles::short_bundle;
 pub use counts::TicketCount;
 pub use drawing::draw_short;
-
 pub use shortening::shorten;

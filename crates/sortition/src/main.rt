@@ -1,6 +1,5 @@
 //! The program: a citizens' assembly sortition office. `main` calls `office` over standard input and output, a keeper of files and a door
-//! over a port, and has no contract of its own. Stands on `command_office`, whose `office` has the promises, and on `desk_log`, whose door
-//! tells standard error of each visit if the words of `serve` have `--log`.
+//! over a port, and has no contract of its own.
 #![tactic(auto)]
 
 mod given;

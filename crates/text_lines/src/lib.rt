@@ -1,7 +1,5 @@
 //! Lines of a text in memory: takes a text apart into lines and a line into fields, reads a field as a number in its one spelling, and
-//! appends lines to a growing text, field by field. Stands on `define_lines` and the kit's `itoa`. Used by `pool_text`, `bundle_text` and
-//! `proof_text`, by the commands and their shell, whose lines it writes, and by `bundle_page`, `text_words`, `office_steps` and
-//! `office_reports`.
+//! appends lines to a growing text, field by field.
 //!
 //! Promises: each public call follows the definitions of lines, fields and numbers exactly. `TextFault` and `TextStop` are for readers that
 //! have no types of their own for a fault.

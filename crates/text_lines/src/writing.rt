@@ -1,5 +1,5 @@
-//! Appends to a growing text, field by field. The writers of texts call it. Numbers take no memory of their own. After an error the
-//! text still begins with the bytes that were in it before; anything may follow them.
+//! Appends to a growing text, field by field. The writers of texts call it. Numbers take no memory of their own. After an error the text
+//! still begins with the bytes that were in it before; anything may follow them.
 
 ghost use Rattle.std.specs.Prelude.{◌≡◌, ◌++◌, ◌∷◌, [], map, OnErr, OnOk};
 ghost use Rattle.std.specs.Io.{StartsWith};

@@ -1,5 +1,5 @@
 //! The tickets of a lottery: a table that finds the row of a ticket by binary search, and a call that reads which ticket the digits of dice
-//! name. Stands on `define_draws`, and on the lotteries of `pool_model`. Used by `sealed_draw`.
+//! name.
 //!
 //! Promises: `table`, `pick` and `name_ticket` return exactly what the definitions say.
 #![tactic(auto)]
