@@ -40,7 +40,7 @@ fn text_of_counts(
     total: u128,
 ) -> Result<Vec<u8>, AllocError>
     requires each { length counts.now ≡ length pool.now.volunteers }
-    requires few { length pool.now.volunteers ≤ 400 }
+    requires few { length pool.now.volunteers ≤ 4000 }
     requires within { EachIndex counts.now (λ i. slice_index counts.now i ≤ total) }
     requires some { 1 ≤ total }
     requires most { total ≤ 10 ^ 38 }
@@ -104,7 +104,7 @@ fn push_sums(
     total: u128,
 ) -> Result<(), AllocError>
     requires each { length counts.now ≡ length pool.now.volunteers }
-    requires few { length pool.now.volunteers ≤ 400 }
+    requires few { length pool.now.volunteers ≤ 4000 }
     requires within { EachIndex counts.now (λ i. slice_index counts.now i ≤ total) }
     requires some { 1 ≤ total }
     requires most { total ≤ 10 ^ 38 }
@@ -135,7 +135,7 @@ fn push_values(
     category: &Category,
 ) -> Result<(), AllocError>
     requires each { length counts.now ≡ length volunteers.now }
-    requires few { length volunteers.now ≤ 400 }
+    requires few { length volunteers.now ≤ 4000 }
     requires within { EachIndex counts.now (λ i. slice_index counts.now i ≤ total) }
     requires some { 1 ≤ total }
     requires most { total ≤ 10 ^ 38 }
@@ -158,7 +158,7 @@ fn push_sum(
     total: u128,
 ) -> Result<(), AllocError>
     requires rest { sum.rest < total }
-    requires few { sum.whole ≤ 400 }
+    requires few { sum.whole ≤ 4000 }
     requires most { total ≤ 10 ^ 38 }
     ensures { OnOk result (text.new.items ≡ text.old.items
         ++ text_of (sum_line category.now value.now (sum.whole * total + sum.rest) total ∷ [])) }

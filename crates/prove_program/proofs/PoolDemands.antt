@@ -84,7 +84,7 @@ module _ (pool : Pool) (is : IsPool pool) where
   value_counts : (category_place : ℕ) (value : ℕ × BoundedValue) → is_value value.1 ≡ true → Counts (value_constraint pool category_place value)
   value_counts category_place value h =
       let bounds = value_parts value.1 h in
-      counting_is pool (λ i. eqb (slice_index (volunteer pool.volunteers i).values category_place) value.0) value.1.lower value.1.upper bounds.0 bounds.1
+      counting_is pool (λ i. eqb (slice_index (volunteer pool.volunteers i).values category_place) value.0) value.1.lower value.1.upper bounds.0 (let few = bounds.1 in omega (arith, few))
 
   category_counts : (category : ℕ × Category) → is_category category.1 ≡ true → AllByRecursion Counts (category_constraints pool category)
   category_counts category h =

@@ -31,12 +31,12 @@ impl Model for QuotaRow {
 
     ghost view = { λ r. record { number = r.number; coefficients = r.coefficients.items; span = r.span } };
 
-    ghost invariant = { λ r. r.number ≤ 1400 };
+    ghost invariant = { λ r. r.number ≤ 5000 };
 }
 
 impl QuotaRow {
     fn new(number: usize, coefficients: Vec<Narrow>, span: Span) -> QuotaRow
-        requires { number ≤ 1400 }
+        requires { number ≤ 5000 }
         ensures { result ≡ record { number = number; coefficients = coefficients.items; span = span } }
     {
         QuotaRow {
@@ -49,7 +49,7 @@ impl QuotaRow {
     /// Returns the number of the constraint in a proof's first stage.
     pub fn number(&self) -> usize
         ensures value { result ≡ self.now.number }
-        ensures within { result ≤ 1400 }
+        ensures within { result ≤ 5000 }
     {
         self.number
     }
@@ -134,7 +134,7 @@ fn row(
 ) -> Result<QuotaRow, AllocError>
     requires households { households.now ≡ shared_households pool.now }
     requires columns { AreColumns pool.now columns.now }
-    requires number { number ≤ 1400 }
+    requires number { number ≤ 5000 }
     requires bounds { HasBounds demand.now }
     ensures { IfOk result (λ row. row ≡ row_of columns.now (number, constraint_of pool.now demand.now)) }
 {
@@ -172,7 +172,7 @@ fn one_if(holds: bool) -> Narrow
 /// Returns the span `least..=greatest`.
 pub(crate) fn span(least: usize, greatest: usize) -> Span
     requires order { least ≤ greatest }
-    requires few { greatest ≤ 1000 }
+    requires few { greatest ≤ 4000 }
     ensures { result ≡ record { least = pos least; greatest = pos greatest } }
 {
     match Span::new(narrow(least), narrow(greatest)) {
@@ -183,7 +183,7 @@ pub(crate) fn span(least: usize, greatest: usize) -> Span
 
 /// Returns a count as a narrow number.
 pub(crate) fn narrow(count: usize) -> Narrow
-    requires { count ≤ 1000 }
+    requires { count ≤ 4000 }
     ensures { result ≡ pos count }
 {
     Narrow::from(count as u32)

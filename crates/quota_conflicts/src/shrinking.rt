@@ -12,8 +12,8 @@ use pool_model::{Panel, Pool};
 use prove_limits::{Budget, ProveStop};
 use std::alloc::{AllocError, Global};
 
-/// The most bounds that are tried. A pool has at most 1,401 constraints before its first stage, each with two bounds.
-const MOST_TRIES: usize = 2802;
+/// The most bounds that are tried. A pool has at most 5,001 constraints before its first stage, each with two bounds.
+const MOST_TRIES: usize = 10_002;
 
 /// The most nodes at which a search looks for a selection that meets all bounds but one.
 const MOST_NODES: u64 = 400;
