@@ -90,7 +90,7 @@ fn push_value(
     share: Share,
     sizes: Sizes,
 ) -> Result<(), AllocError>
-    requires { share.expected ≤ 4010000 }
+    requires { share.expected ≤ 40010000 }
     ensures { OnOk result (text.new.items ≡ text.old.items ++ text_of (value_parts name.now share sizes)) }
 {
     let name = escaped(alloc, name.as_bytes())?;
@@ -156,7 +156,7 @@ fn push_words(
 /// Appends the bars of the picture of a value. A volunteer is as wide as there are seats, and a seat as wide as there are volunteers who
 /// aren't gone, so that all of these are as wide as all seats.
 fn push_shapes(text: &mut Vec<u8>, share: Share, sizes: Sizes) -> Result<(), AllocError>
-    requires { share.expected ≤ 4010000 }
+    requires { share.expected ≤ 40010000 }
     ensures { OnOk result (text.new.items ≡ text.old.items ++ text_of (shapes_part share sizes ∷ [])) }
 {
     let (volunteer, seat) = (sizes.seats as u128, sizes.present() as u128);

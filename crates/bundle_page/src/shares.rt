@@ -35,7 +35,7 @@ pub(crate) fn share_of(
     requires some { 1 ≤ total }
     requires most { total ≤ 10 ^ 38 }
     ensures value { result ≡ words_of_share volunteers.now counts.now total place value_place value.now }
-    ensures few { result.expected ≤ 4010000 }
+    ensures few { result.expected ≤ 40010000 }
 {
     let sum = sum_with(volunteers, counts, total, place, value_place);
     Share {

@@ -83,7 +83,7 @@ pub fn rounded_sum(sum: Sum, total: u128) -> u128
     requires few { sum.whole ≤ 4000 }
     requires most { total ≤ 10 ^ 38 }
     ensures value { result ≡ value_of_ten_thousandths (sum.whole * total + sum.rest) total }
-    ensures few { result ≤ 4010000 }
+    ensures few { result ≤ 40010000 }
 {
     sum.whole * 10_000 + ten_thousandths(sum.rest, total)
 }

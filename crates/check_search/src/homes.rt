@@ -8,7 +8,7 @@ ghost use Rattle.define_searches.specs.Homes.{AreFew, HasMoreAt, CanGiveAt, has_
 pub(crate) fn add_at(homes: &mut [usize], household: Option<usize>, count: usize)
     requires known { IsKnownHousehold (length homes.old) household }
     requires small { AreFew homes.old }
-    requires count { count ≤ 1000 }
+    requires count { count ≤ 4000 }
     ensures { HasMoreAt household count homes.old homes.new }
 {
     if let Some(number) = household {
@@ -31,7 +31,7 @@ pub(crate) fn take_at(homes: &mut [usize], household: Option<usize>, count: usiz
 pub(crate) fn has_room(homes: &[usize], household: Option<usize>, count: usize) -> bool
     requires known { IsKnownHousehold (length homes.now) household }
     requires small { AreFew homes.now }
-    requires count { count ≤ 1000 }
+    requires count { count ≤ 4000 }
     ensures { result ≡ has_room homes.now household count }
 {
     match household {

@@ -275,7 +275,7 @@ impl Search {
         requires terms { AreTerms terms.now }
         requires below { depth < length terms.now.classes.classes }
         requires can_take { CanTake terms.now.classes depth count }
-        requires count { count ≤ 1000 }
+        requires count { count ≤ 4000 }
         requires stands { StandsAt terms.now.classes terms.now.closed.items terms.now.row depth (drop (depth + 1) terms.now.classes.classes) self.old }
         ensures { Steps terms.now.classes terms.now.closed.items terms.now.row depth (drop (depth + 1) terms.now.classes.classes)
             (child_above terms.now.classes terms.now.closed.items terms.now.row (drop (depth + 1) terms.now.classes.classes) (take depth self.old.counts.items ++ count ∷ []))

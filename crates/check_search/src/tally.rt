@@ -73,7 +73,7 @@ impl Tally {
     pub fn take(&mut self, classes: &Classes, front: &[usize], count: usize)
         requires below { length front.now < length classes.now.classes }
         requires small { taken_by classes.now front.now ≤ 1000 }
-        requires few { count ≤ 1000 }
+        requires few { count ≤ 4000 }
         requires stands { Tracks classes.now front.now (drop (length front.now + 1) classes.now.classes) self.old }
         ensures { Tracks classes.now (front.now ++ count ∷ []) (drop (length front.now + 1) classes.now.classes) self.new }
     {
@@ -99,7 +99,7 @@ impl Tally {
     pub(crate) fn allows(&self, classes: &Classes, front: &[usize], count: usize) -> bool
         requires below { length front.now < length classes.now.classes }
         requires live { is_reachable classes.now front.now ≡ true }
-        requires few { count ≤ 1000 }
+        requires few { count ≤ 4000 }
         requires stands { Tracks classes.now front.now (drop (length front.now + 1) classes.now.classes) self.now }
         ensures { result ≡ is_reachable classes.now (front.now ++ count ∷ []) }
     {
@@ -112,7 +112,7 @@ impl Tally {
     fn counts_allow(&self, classes: &Classes, front: &[usize], count: usize) -> bool
         requires below { length front.now < length classes.now.classes }
         requires live { is_reachable classes.now front.now ≡ true }
-        requires few { count ≤ 1000 }
+        requires few { count ≤ 4000 }
         requires stands { Tracks classes.now front.now (drop (length front.now + 1) classes.now.classes) self.now }
         ensures { result ≡ (size_reachable classes.now (front.now ++ count ∷ []) && values_reachable classes.now (front.now ++ count ∷ [])) }
     {

@@ -1,17 +1,21 @@
 -- The lines of a stage's search are in the ranges of a cover's text.
-use Rattle.std.proofs.Common.{◌≡◌, ℕ, ◌+◌, ◌-◌, ◌≤◌, ◌<◌, Bool, true, false, cond, ◌&&◌, leb, ltb, List, [], ◌∷◌, ◌++◌, map, filter, length, get_or, Option, Some, None, refl, sym, ap, ap₂, ◌∙◌, arith, length-append}
+use Rattle.std.proofs.Common.{◌≡◌, ℕ, zero, suc, ◌+◌, ◌-◌, ◌≤◌, ◌<◌, Bool, true, false, cond, ◌&&◌, leb, ltb, List, [], ◌∷◌, ◌++◌, map, filter, length, get_or, Option, Some, None, refl, sym, ap, ap₂, ◌∙◌, arith, length-append}
+use Rattle.std.specs.Prelude.{slice_index}
 use Rattle.std.specs.List.{AllByRecursion, enumerate_from, flat_map, list_all, range_with_len}
-use Rattle.std.proofs.lemmas.Bool.{and_from, and_parts, false≢true, le-leb, lt-ltb}
+use Rattle.std.proofs.lemmas.Bool.{and_from, and_parts, false≢true, le-leb, leb-true, lt-ltb}
 use Rattle.std.proofs.lemmas.List.{get_or_default, length-map}
 use Rattle.std.proofs.lemmas.List.Elements.{recursion_from_All}
 use Rattle.std.proofs.lemmas.List.FromFn.{length-enumerate_from, length-range_with_len}
 use Rattle.define_pools.proofs.Each.{each_append, each_mapped, each_range, list_all_from_each}
 use Rattle.define_pools.proofs.Found.{find-each}
 use Rattle.define_pools.proofs.Sums.{sum_by-is-total, total}
-use Rattle.define_pools.specs.Pool.{BoundedValue, Category, Pool}
+use Rattle.define_pools.specs.declared.Limits.TheVariants.{Large}
+use Rattle.define_pools.specs.Pool.{BoundedValue, Category, Pool, most_volunteers}
+use Rattle.define_pools.proofs.BuildingLemmas.{within_limits_for}
 use Rattle.define_rows.specs.Row.{Row}
 use Rattle.define_searches.specs.declared.Bounds.{Bounds}
-use Rattle.define_searches.specs.Classes.{Classes, KeepsLimits, bounds_of, class_by, classes_by, leaders}
+use Rattle.define_searches.specs.Classes.{Class, Classes, KeepsLimits, bounds_of, class_by, classes_by, leaders}
+use Rattle.define_searches.specs.Fronts.{sizes_of}
 use Rattle.define_searches.proofs.Limits.{limits_kept}
 use Rattle.define_checks.specs.Caps.{alike_at, classes_at, stage_row}
 use Rattle.define_checks.proofs.CheckClasses.{alike_at_makes}
@@ -19,7 +23,6 @@ use Rattle.define_covers.specs.Causes.{all_values, applies}
 use Rattle.define_covers.specs.Covers.{ByCap, ByClosed, ByHousehold, ByValue, Cause, FrontLine}
 use Rattle.define_covers.specs.CoverRanges.{is_cause, is_front_line, is_numbered, most_count, value_count}
 use Rattle.define_covers.specs.FrontOrder.{are_in_order, continues, turned}
-use Rattle.define_searches.proofs.WeightLaws.{count_few}
 use Rattle.define_covers.specs.Counts.{BeginningFits, Fits}
 use Rattle.define_covers.specs.FirstCause.{causes, first_cause}
 use Rattle.define_covers.specs.Made.{InRangesWhereSearched, SameValueCount}
@@ -54,6 +57,14 @@ filter_few p (x ∷ xs) =
       | false ↦ omega arith
     ]
 
+members_few : (pool : Pool) (alike : ℕ → ℕ → Bool) (t : ℕ) → slice_index (sizes_of (classes_by alike pool)) t ≤ length pool.volunteers
+members_few pool alike = each (leaders alike (length pool.volunteers))
+  where
+    each : (firsts : List ℕ) (t : ℕ) → slice_index (map (λ (class : Class). length class.members) (map (class_by alike pool) firsts)) t ≤ length pool.volunteers
+    each [] t = omega arith
+    each (first ∷ firsts) zero = omega (arith, filter_few (alike first) (range_with_len 0 (length pool.volunteers)), length-range_with_len 0 (length pool.volunteers))
+    each (first ∷ firsts) (suc t) = each firsts t
+
 classes_few : (pool : Pool) (alike : ℕ → ℕ → Bool) → length (classes_by alike pool).classes ≤ length pool.volunteers
 classes_few pool alike =
     let n = length pool.volunteers in
@@ -69,7 +80,7 @@ numbered : (last number : ℕ) → 1 ≤ number → number < 1 + last → is_num
 numbered last number l m = and_from (ltb 0 number) (leb number last) (lt-ltb 0 number (omega arith)) (le-leb number last (omega arith))
 
 module _ (pool : Pool) (all : Classes) (closed : List Row) (row : Row) (stage : ℕ) (limits : KeepsLimits all) (values : length (all_values all) ≡ value_count pool) (few : length all.classes ≤ length pool.volunteers)
-    (at : stage ≡ length closed + 1) where
+    (sizes : (t : ℕ) → slice_index (sizes_of all) t ≤ length pool.volunteers) (volunteers : length pool.volunteers ≤ most_volunteers Large) (at : stage ≡ length closed + 1) where
   causes_in_range : AllByRecursion (λ cause. is_cause pool stage cause ≡ true) (causes all closed)
   causes_in_range =
       let In : Cause → Type 0 = λ cause. is_cause pool stage cause ≡ true in
@@ -90,7 +101,7 @@ module _ (pool : Pool) (all : Classes) (closed : List Row) (row : Row) (stage : 
   counts_in_range front fits =
       list_all_from_each (λ c. leb c (most_count (length pool.volunteers))) front
       (recursion_from_All (λ c. leb c (most_count (length pool.volunteers)) ≡ true) front
-      (λ t d l. le-leb (get_or front t d) (most_count (length pool.volunteers)) (omega (arith, count_few all front t limits (fits_within all front fits) l, get_or_default front t d 0 l))))
+      (λ t d l. le-leb (get_or front t d) (most_count (length pool.volunteers)) (omega (arith, fits_within all front fits t l, sizes t, within_limits_for (length pool.volunteers) volunteers, get_or_default front t d 0 l))))
 
   line_in_range : (line : FrontLine) → Fits all.classes line.front → first_cause all closed row line.front ≡ Some line.cause → is_front_line pool stage line ≡ true
   line_in_range line fits first =
@@ -120,4 +131,4 @@ in_ranges_where_searched pool earlier stage lines is_pool searched =
     let alike = alike_at pool (stage ∷ earlier) in
     lines_in_ranges pool (classes_at pool (stage ∷ earlier)) (map (stage_row pool (stage ∷ earlier)) earlier) (stage_row pool (stage ∷ earlier) stage) (length earlier + 1)
     (limits_kept pool alike is_pool (alike_at_makes pool (stage ∷ earlier))) (same_value_count pool (stage ∷ earlier)) (classes_few pool alike)
-    (ap (λ n. n + 1) (sym (length-map earlier (stage_row pool (stage ∷ earlier))))) (Some []) lines tt searched.in_order searched.causes
+    (members_few pool alike) (leb-true (length pool.volunteers) (most_volunteers Large) is_pool.few_volunteers) (ap (λ n. n + 1) (sym (length-map earlier (stage_row pool (stage ∷ earlier))))) (Some []) lines tt searched.in_order searched.causes

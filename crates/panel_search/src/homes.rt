@@ -8,7 +8,7 @@ ghost use Rattle.define_searches.specs.Homes.{AreFew, HasMoreAt, CanGiveAt, has_
 pub(crate) fn add_at(homes: &mut [usize], household: Option<usize>, count: usize)
     requires known { IsKnownHousehold (length homes.old) household }
     requires small { AreFew homes.old }
-    requires count { count ≤ 1000 }
+    requires count { count ≤ 4000 }
     ensures { HasMoreAt household count homes.old homes.new }
 {
     if let Some(number) = household {

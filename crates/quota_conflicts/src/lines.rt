@@ -36,8 +36,8 @@ pub(crate) fn lines_of_tree(alloc: Global, tree: &[TreeLine]) -> Result<Vec<Line
 }
 
 /// Returns the lines of a search's steps, whose columns are volunteers, with the multipliers of kept bounds alone. In the search a lower
-/// bound that isn't kept is 0, and an upper one is 999, more than a pool has volunteers. So a leaf shows the same without the multipliers
-/// of such bounds.
+/// bound that isn't kept is 0, and no selection passes an upper one that isn't. So a leaf shows the same without the multipliers of such
+/// bounds.
 pub(crate) fn lines_of_steps(
     alloc: Global,
     steps: Vec<Step>,

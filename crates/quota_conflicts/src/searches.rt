@@ -16,7 +16,7 @@ use prove_stages::table_of;
 use prove_table::Table;
 use std::alloc::{AllocError, Global};
 
-/// The greatest number of a row's span if the row's upper bound isn't kept. No pool has more volunteers.
+/// The greatest number of a row's span if the row's upper bound isn't kept, and the pool has no more volunteers.
 const MOST: u32 = 999;
 
 /// A program of a pool with its table, for one search after another.
@@ -152,18 +152,20 @@ impl Search {
     }
 }
 
-/// Returns the spans of the rows. A span begins at 0 if the row's lower bound isn't kept, and ends at `MOST` if its upper bound isn't.
+/// Returns the spans of the rows. A span begins at 0 if the row's lower bound isn't kept. If its upper bound isn't kept, the span ends at
+/// `MOST`, or in a larger pool at the number of volunteers.
 fn kept_spans(alloc: Global, program: &Program, kept: &[Kept]) -> Result<Vec<Span>, AllocError>
     ensures { IfOk result (λ spans. length spans.items ≡ length program.now.rows) }
 {
+    let most = MOST.max(program.volunteers() as u32);
     let mut spans = Vec::new(alloc);
     for row in 0..program.rows().len() {
-        spans.push(kept_span(&program.rows()[row], kept))?;
+        spans.push(kept_span(&program.rows()[row], kept, most))?;
     }
     Ok(spans)
 }
 
-fn kept_span(row: &QuotaRow, kept: &[Kept]) -> Span {
+fn kept_span(row: &QuotaRow, kept: &[Kept], most: u32) -> Span {
     let least = if is_kept(kept, row.number(), Side::AtLeast) {
         row.span().least()
     } else {
@@ -172,7 +174,7 @@ fn kept_span(row: &QuotaRow, kept: &[Kept]) -> Span {
     let greatest = if is_kept(kept, row.number(), Side::AtMost) {
         row.span().greatest()
     } else {
-        Narrow::from(MOST)
+        Narrow::from(most)
     };
     Span::reaching(least, greatest)
 }

@@ -2,13 +2,13 @@ use Rattle.std.proofs.Common.{◌-◌, ◌+◌, ◌*◌, length}
 use Rattle.check_search.proofs.searching.Search.+search.Given as goal
 
 abbrev pub decreases-enter : goal.decreases-enter
-decreases-enter l = 1000 * (length l.terms.now.classes.classes - l.depth) + 600
+decreases-enter l = 10000 * (length l.terms.now.classes.classes - l.depth) + 6000
 
 abbrev pub decreases-go_on : goal.decreases-go_on
-decreases-go_on l = 1000 * (length l.terms.now.classes.classes - l.depth) + 500
+decreases-go_on l = 10000 * (length l.terms.now.classes.classes - l.depth) + 5000
 
 abbrev pub decreases-children : goal.decreases-children
-decreases-children l = 1000 * (length l.terms.now.classes.classes - l.depth) + l.above + 1
+decreases-children l = 10000 * (length l.terms.now.classes.classes - l.depth) + l.above + 1
 
 abbrev pub decreases-try_child : goal.decreases-try_child
-decreases-try_child l = 1000 * (length l.terms.now.classes.classes - l.depth)
+decreases-try_child l = 10000 * (length l.terms.now.classes.classes - l.depth)

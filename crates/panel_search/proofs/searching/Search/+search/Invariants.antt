@@ -2,10 +2,10 @@ use Rattle.std.proofs.Common.{◌-◌, ◌+◌, ◌*◌, length}
 use Rattle.panel_search.proofs.searching.Search.+search.Given as goal
 
 abbrev pub decreases-enter : goal.decreases-enter
-decreases-enter l = 1000 * (length l.classes.now.classes - l.depth) + 500
+decreases-enter l = 10000 * (length l.classes.now.classes - l.depth) + 5000
 
 abbrev pub decreases-children : goal.decreases-children
-decreases-children l = 1000 * (length l.classes.now.classes - l.depth) + l.end + 1
+decreases-children l = 10000 * (length l.classes.now.classes - l.depth) + l.end + 1
 
 abbrev pub decreases-try_child : goal.decreases-try_child
-decreases-try_child l = 1000 * (length l.classes.now.classes - l.depth)
+decreases-try_child l = 10000 * (length l.classes.now.classes - l.depth)
