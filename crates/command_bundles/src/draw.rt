@@ -9,12 +9,9 @@ ghost use Rattle.command_bundles.specs.Stopped.{TellsStop};
 use crate::lines::{drawn_lines, number_rule_line, seal_rule_line};
 use bundle_text::Bundle;
 use command_meanings::draw_has_one_answer;
-use command_shell::{Answer, Cause, Command, Meaning, Printed, input_line};
+use command_shell::{Answer, Cause, Command, Meaning, Printed, WRONG_TOTAL, input_line};
 use sealed_draw::{DrawStop, draw, seal, total_agrees};
 use std::alloc::{AllocError, Global};
-
-/// The kind of fault of a bundle whose weights don't sum to its total. It is printed with line number 0, since no single line is faulty.
-pub(crate) const WRONG_TOTAL: u8 = 14;
 
 /// `draw`: prints the panel that is drawn from a bundle.
 #[derive(Clone, Copy, Debug)]

@@ -6,10 +6,10 @@ ghost use Rattle.define_bundles.specs.BundleText.{Bundle as SeenBundle, bundle_s
 ghost use Rattle.command_shell.specs.Answers.{HasOneAnswer, IsRight, saying};
 ghost use Rattle.command_meanings.specs.ShortDraw.{ShortDrawMeans};
 
-use crate::draw::{WRONG_TOTAL, stopped};
+use crate::draw::stopped;
 use crate::lines::drawn_lines;
 use bundle_text::Bundle;
-use command_shell::{Answer, Cause, Command, Meaning, Printed, input_line};
+use command_shell::{Answer, Cause, Command, Meaning, Printed, WRONG_TOTAL, input_line};
 use sealed_draw::{seal, total_agrees};
 use short_tickets::{TicketCount, draw_short};
 use std::alloc::{AllocError, Global};

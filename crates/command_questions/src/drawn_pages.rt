@@ -12,11 +12,13 @@ ghost use Rattle.command_meanings.specs.Page.{DrawnPageMeans, DrawnPageOfBundle,
 ghost use Rattle.sealed_draw.specs.Answers.{DrawSays};
 
 use crate::inputs::bundle_in;
-use crate::pages::{WRONG_TOTAL, without_lottery};
+use crate::pages::without_lottery;
 use bundle_page::write_drawn_page;
 use bundle_text::{Bundle, write_bundle};
 use command_bundles::{Draw, ShortDraw};
-use command_shell::{Answer, BundleOrProof, Cause, Command, Meaning, Printed, input_line};
+use command_shell::{
+    Answer, BundleOrProof, Cause, Command, Meaning, Printed, WRONG_TOTAL, input_line,
+};
 use sealed_draw::{Draw as Drawn, DrawStop, draw, seal, total_agrees};
 use short_tickets::{TicketCount, draw_short};
 use std::alloc::{AllocError, Global};

@@ -11,13 +11,12 @@ ghost use Rattle.command_meanings.specs.Page.{PageMeans, PageOfBundle, WithoutLo
 use crate::inputs::bundle_in;
 use bundle_page::write_page;
 use bundle_text::{Bundle, write_bundle};
-use command_shell::{Answer, BundleOrProof, Cause, Command, Meaning, Printed, input_line};
+use command_shell::{
+    Answer, BundleOrProof, Cause, Command, Meaning, Printed, WRONG_TOTAL, input_line,
+};
 use sealed_draw::{seal, total_agrees};
 use std::alloc::{AllocError, Global};
 use text_lines::push_line;
-
-/// The kind of fault of a bundle whose weights don't sum to its total. It is printed with line number 0, since no single line is faulty.
-pub(crate) const WRONG_TOTAL: u8 = 14;
 
 /// `page`: prints the page about a bundle, or about the bundle that a proof holds. It has no arguments.
 #[derive(Clone, Copy, Debug)]

@@ -11,13 +11,10 @@ ghost use Rattle.command_questions.specs.declared.questions.Question.{Question};
 use crate::short::InTickets;
 use crate::{chances, dice, ranges, short};
 use bundle_text::Bundle;
-use command_shell::{Answer, Cause, Command, Meaning, Printed, input_line};
+use command_shell::{Answer, Cause, Command, Meaning, Printed, WRONG_TOTAL, input_line};
 use sealed_draw::total_agrees;
 use short_tickets::TicketCount;
 use std::alloc::{AllocError, Global};
-
-/// The kind of fault of a bundle whose weights don't sum to its total. It is printed with line number 0, since no single line is faulty.
-const WRONG_TOTAL: u8 = 14;
 
 /// A command that prints a text about a bundle.
 #[derive(Clone, Copy, Debug)]

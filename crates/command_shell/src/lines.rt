@@ -11,6 +11,9 @@ use text_lines::{end_line, push_number};
 
 const NO_PANEL_LINE: &[u8] = b"no panel\n";
 
+/// The kind of fault of a bundle whose weights don't sum to its total. It is printed with line number 0, since no single line is faulty.
+pub const WRONG_TOTAL: u8 = 14;
+
 /// Returns the line for a faulty input: its first faulty line, counted from 1, and the lowest kind of fault in it.
 pub fn input_line(alloc: Global, line: usize, kind: u8) -> Result<Vec<u8>, AllocError>
     ensures { IfOk result (λ text. text.items ≡ words_of_input (record { line = line; kind = kind })) }
