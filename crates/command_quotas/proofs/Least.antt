@@ -6,7 +6,7 @@ use Rattle.define_pools.proofs.Each.{each_filter_passes}
 use Rattle.define_quotas.specs.Costs.{cheapest_team}
 use Rattle.define_quotas.specs.Loosenings.{IsCheapest, IsLeast, Loosening, least_loosening, loosening_for}
 use Rattle.define_quotas.specs.Teams.{is_team}
-use Rattle.define_quotas.proofs.Freed.{team_of_panel}
+use Rattle.define_quotas.proofs.WidestBounds.{team_of_panel}
 use Rattle.define_pools.specs.Pool.{Pool, is_quota_panel, panels}
 use Rattle.define_searches.specs.Classes.{are_alike, classes_of}
 use Rattle.define_searches.specs.Compositions.{composition_of, first_panel}
