@@ -6,19 +6,19 @@ use Rattle.define_pools.proofs.Each.{each_filter_passes}
 use Rattle.define_quotas.specs.Costs.{cheapest_team}
 use Rattle.define_quotas.specs.Loosenings.{IsCheapest, IsLeast, Loosening, least_loosening, loosening_for}
 use Rattle.define_quotas.specs.Teams.{is_team}
-use Rattle.define_quotas.proofs.Freed.{team_of_panel}
-use Rattle.define_pools.specs.Pool.{Pool, is_quota_panel, panels}
+use Rattle.define_quotas.proofs.MovedBounds.{team_of_panel}
+use Rattle.define_pools.specs.Pool.{IsPool, Pool, is_quota_panel, panels}
 use Rattle.define_searches.specs.Classes.{are_alike, classes_of}
 use Rattle.define_searches.specs.Compositions.{composition_of, first_panel}
 use Rattle.command_meanings.specs.Loosening.{IsLeastLoosening}
 
 -- if there is no team, there is no quota panel, since each quota panel is a team
-pub no_panels : (pool : Pool) → ((team : List ℕ) → is_team pool team ≡ true → ⊥) → panels pool ≡ []
-no_panels pool none = by (panels pool) refl (each_filter_passes (λ panel. is_quota_panel pool panel ≡ true) (is_quota_panel pool) (λ panel h. h) _)
+pub no_panels : (pool : Pool) → IsPool pool → ((team : List ℕ) → is_team pool team ≡ true → ⊥) → panels pool ≡ []
+no_panels pool is none = by (panels pool) refl (each_filter_passes (λ panel. is_quota_panel pool panel ≡ true) (is_quota_panel pool) (λ panel h. h) _)
   where
     by : (found : List (List ℕ)) → panels pool ≡ found → AllByRecursion (λ panel. is_quota_panel pool panel ≡ true) found → panels pool ≡ []
     by [] e h = e
-    by (panel ∷ later) e h = absurd (none panel (team_of_panel pool panel h.0).0)
+    by (panel ∷ later) e h = absurd (none panel (team_of_panel pool panel is h.0))
 
 -- if the first panel with the cheapest counts is a cheapest team, so is the panel of the least loosening, since it is this first panel
 pub the_least : (pool : Pool) (loosening : Loosening) →

@@ -48,6 +48,7 @@ pub(crate) fn answered(alloc: Global, nodes: u64, pool: &Pool) -> Result<Answer,
     alike_make_classes();
     cheapest_is_least();
     least_loosening_is_least();
+    pool.facts();
     match loosen(alloc, pool, nodes) {
         Ok(Some(loosened)) => Ok(Answer::Prints {
             printed: Printed::Done,

@@ -95,6 +95,6 @@ fn none_told(alloc: Global, pool: &Pool) -> Result<Answer, AllocError>
     requires { (team : List ℕ) → IsTrue (is_team pool.now team) → ⊥ }
     ensures { IfOk result (λ answer. IsRight (LoosenByProofMeans pool.now) (saying answer)) }
 {
-    let _ = pool.size();
+    pool.facts();
     no_panel(alloc)
 }

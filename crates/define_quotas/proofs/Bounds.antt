@@ -9,7 +9,7 @@ use Rattle.define_pools.proofs.Sums.{sum_by-is-total, total}
 use Rattle.define_pools.specs.declared.Standing.{Standing}
 use Rattle.define_pools.specs.declared.Standing.TheVariants.{Seated, Gone}
 use Rattle.define_pools.specs.Lists.{includes}
-use Rattle.define_pools.specs.Pool.{Pool, allows}
+use Rattle.define_pools.specs.Pool.{IsPool, Pool, allows}
 use Rattle.define_proofs.specs.Leaves.{standings}
 use Rattle.define_quotas.specs.declared.Counted.{Counted}
 use Rattle.define_quotas.specs.declared.Counted.TheVariants.{Everybody, WithValue, OfHousehold}
@@ -115,15 +115,15 @@ both_cost pool all i least without with team is keeps = by (includes team i) ref
 pub team_keeps : (pool : Pool) (team : List ℕ) → is_team pool team ≡ true → is_selection_at (standings pool) team ≡ true
 team_keeps pool team is = own_selected (loosened pool team) team (loosened_fits pool team is)
 
-pub least_by_bound : (pool : Pool) (team : List ℕ) → is_team pool team ≡ true → CostsAt pool (standings pool) (Some (team_cost pool team)) → IsLeast pool (loosening_for pool team)
-least_by_bound pool team is bound = least_is pool team is (λ other h. bound other h (team_keeps pool other h))
+pub least_by_bound : (pool : Pool) (team : List ℕ) → IsPool pool → is_team pool team ≡ true → CostsAt pool (standings pool) (Some (team_cost pool team)) → IsLeast pool (loosening_for pool team)
+least_by_bound pool team p is bound = least_is pool team p is (λ other h. bound other h (team_keeps pool other h))
 
 pub no_team_by_bound : (pool : Pool) → CostsAt pool (standings pool) None → (team : List ℕ) → is_team pool team ≡ true → ⊥
 no_team_by_bound pool bound team is = bound team is (team_keeps pool team is)
 
 at_most : (pool : Pool) (one other : Loosening) → IsLeast pool one → IsLeast pool other → one.total ≤ other.total
 at_most pool one other first second =
-    let within = first.no_less other.pool second.bounds_alone (has_panels other.pool other.panel second.fits) in
+    let within = first.no_less other.pool second.is_pool second.bounds_alone (has_panels other.pool other.panel second.fits) in
     let moved = second.moved in omega (arith, within, moved)
 
 pub equal_totals : (pool : Pool) (one other : Loosening) → IsLeast pool one → IsLeast pool other → one.total ≡ other.total

@@ -3,7 +3,7 @@ use Rattle.std.proofs.Common.{◌≡◌, ℕ, ◌≤◌, Bool, true, List, [], �
 use Rattle.std.specs.Prelude.{◌↔◌, ◌≢◌, option_map}
 use Rattle.std.specs.List.{AllByRecursion}
 use Rattle.define_pools.proofs.Each.{each_filter_passes}
-use Rattle.define_pools.specs.Pool.{Pool, is_quota_panel, panels}
+use Rattle.define_pools.specs.Pool.{IsPool, Pool, is_quota_panel, panels}
 use Rattle.define_pools.proofs.AllPanels.{each_panel}
 use Rattle.define_searches.specs.Classes.{MakesClasses, are_alike, classes_by, classes_of}
 use Rattle.define_searches.specs.Compositions.{composition_of, compositions, first_panel}
@@ -11,10 +11,10 @@ use Rattle.define_searches.proofs.Contained.{each_contains}
 use Rattle.define_searches.proofs.Order.{Ordered, compositions_ordered}
 use Rattle.define_quotas.specs.Costs.{cheapest_team, cost, team_counts}
 use Rattle.define_quotas.specs.Loosenings.{IsCheapest, IsLeast, Loosening, least_loosening, loosening_for}
-use Rattle.define_quotas.specs.Teams.{is_team, team_cost}
+use Rattle.define_quotas.specs.Teams.{is_team, team_cost, widest}
 use Rattle.define_quotas.proofs.Cheapest.{IsDearer, IsFirst, found_first, none_found}
-use Rattle.define_quotas.proofs.Freed.{cost_same, first_teams, first_teams_compose, freed, panel_of_team, team_composes, team_counts_same, team_of_panel}
-use Rattle.define_quotas.proofs.MovedBounds.{free_if_met, loosened_differs, loosened_fits, loosened_moves, met_if_free, panel_of_other}
+use Rattle.define_quotas.proofs.WidestBounds.{cost_same, first_teams, first_teams_compose, panel_of_team, panel_parts, team_composes, team_counts_same}
+use Rattle.define_quotas.proofs.MovedBounds.{free_if_met, loosened_differs, loosened_fits, loosened_is_pool, loosened_moves, met_if_free, panel_of_other, team_of_panel}
 
 all_kept : (xs : List (List ℕ)) → filter (λ counts. true) xs ≡ xs
 all_kept [] = refl
@@ -22,7 +22,7 @@ all_kept (x ∷ xs) = ap (λ rest. x ∷ rest) (all_kept xs)
 
 module _ (pool : Pool) (alike : ℕ → ℕ → Bool) (makes : MakesClasses pool alike) where
   ordered : Ordered (team_counts (classes_by alike pool))
-  ordered = subst Ordered (all_kept (compositions (classes_by alike (freed pool))) ∙ sym (team_counts_same pool alike)) (compositions_ordered (classes_by alike (freed pool)) (λ counts. true))
+  ordered = subst Ordered (all_kept (compositions (classes_by alike (widest pool))) ∙ sym (team_counts_same pool alike)) (compositions_ordered (classes_by alike (widest pool)) (λ counts. true))
 
   pub cheapest_is : (counts : List ℕ) → cheapest_team (classes_by alike pool) ≡ Some counts → IsCheapest pool alike counts (first_panel (classes_by alike pool) counts)
   cheapest_is counts e = record {
@@ -73,30 +73,31 @@ pub has_panels : (pool : Pool) (panel : List ℕ) → is_quota_panel pool panel 
 has_panels pool panel h none = each_panel (λ panel. ⊥) pool (subst (AllByRecursion (λ panel. ⊥)) (sym none) tt) panel h
 
 -- the loosening for a team is least if no team costs less
-pub least_is : (pool : Pool) (team : List ℕ) → is_team pool team ≡ true → ((other : List ℕ) → is_team pool other ≡ true → team_cost pool team ≤ team_cost pool other) → IsLeast pool (loosening_for pool team)
-least_is pool team h cheapest = record {
+pub least_is : (pool : Pool) (team : List ℕ) → IsPool pool → is_team pool team ≡ true → ((other : List ℕ) → is_team pool other ≡ true → team_cost pool team ≤ team_cost pool other) → IsLeast pool (loosening_for pool team)
+least_is pool team p h cheapest = record {
   bounds_alone = loosened_differs pool team;
   moved = loosened_moves pool team;
+  is_pool = loosened_is_pool pool team p h;
   fits = loosened_fits pool team h;
-  no_less = λ other differ some.
-      let panel = some_panel other some in let parts = panel_of_other pool other panel.0 differ panel.1 in
+  no_less = λ other q differ some.
+      let panel = some_panel other some in let parts = panel_of_other pool other panel.0 q differ panel.1 in
       let within = cheapest panel.0 parts.0 in let m = parts.1 in omega arith;
   none_needed = (
-    λ z. has_panels pool team (panel_of_team pool team h (met_if_free pool team z)),
-    λ some. let panel = some_panel pool some in let parts = team_of_panel pool panel.0 panel.1 in
-        let within = cheapest panel.0 parts.0 in let z = free_if_met pool panel.0 parts.1 in omega arith,
+    λ z. has_panels pool team (panel_of_team pool pool.categories team h (met_if_free pool team z)),
+    λ some. let panel = some_panel pool some in
+        let within = cheapest panel.0 (team_of_panel pool panel.0 p panel.1) in let z = free_if_met pool panel.0 (panel_parts pool panel.0 panel.1).quotas in omega arith,
   );
 }
 
-pub least_loosening_least : (pool : Pool) → MakesClasses pool (are_alike pool) → (loosening : Loosening) → least_loosening pool ≡ Some loosening → IsLeast pool loosening
-least_loosening_least pool makes loosening e = by (cheapest_team (classes_of pool)) refl e
+pub least_loosening_least : (pool : Pool) → IsPool pool → MakesClasses pool (are_alike pool) → (loosening : Loosening) → least_loosening pool ≡ Some loosening → IsLeast pool loosening
+least_loosening_least pool p makes loosening e = by (cheapest_team (classes_of pool)) refl e
   where
     by : (found : Option (List ℕ)) → cheapest_team (classes_of pool) ≡ found → option_map (λ counts. loosening_for pool (first_panel (classes_of pool) counts)) found ≡ Some loosening → IsLeast pool loosening
     by None f e = absurd cc
     by (Some counts) f e =
         let cheapest = cheapest_is pool (are_alike pool) makes counts f in
         let same : loosening_for pool (first_panel (classes_of pool) counts) ≡ loosening = cc in
-        subst (IsLeast pool) same (least_is pool (first_panel (classes_of pool) counts) cheapest.is_one cheapest.none_cheaper)
+        subst (IsLeast pool) same (least_is pool (first_panel (classes_of pool) counts) p cheapest.is_one cheapest.none_cheaper)
 
 pub no_loosening : (pool : Pool) → MakesClasses pool (are_alike pool) → least_loosening pool ≡ None ↔ ((team : List ℕ) → is_team pool team ≡ true → ⊥)
 no_loosening pool makes = (λ e. (none_is pool (are_alike pool) makes).0 (nothing (cheapest_team (classes_of pool)) e), λ none. ap (option_map (λ counts. loosening_for pool (first_panel (classes_of pool) counts))) ((none_is pool (are_alike pool) makes).1 none))

@@ -5,7 +5,7 @@ pub mod AllTogether
 pub mod Listed
 pub mod Keeping
 pub mod TeamSearch
-pub mod Freed
+pub mod WidestBounds
 pub mod Cheapest
 pub mod MovedBounds
 pub mod Least

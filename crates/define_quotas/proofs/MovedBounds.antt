@@ -1,14 +1,13 @@
 -- Bounds that are moved just so far that a team meets them: what changes, by how much, and that the team is then a quota panel.
-use Rattle.std.proofs.Common.{◌≡◌, ℕ, ◌+◌, ◌≤◌, Bool, true, ◌&&◌, eqb, leb, List, [], ◌∷◌, map, length, max, min, sum_by, refl, sym, ap, ◌∙◌, arith, subst, suc, slice_index}
+use Rattle.std.proofs.Common.{◌≡◌, ℕ, ◌+◌, ◌≤◌, Bool, true, ◌&&◌, leb, List, [], ◌∷◌, map, length, max, min, sum_by, refl, sym, ap, ◌∙◌, arith, subst, suc}
 use Rattle.std.specs.List.{list_all, enumerate_from}
 use Rattle.std.proofs.lemmas.Bool.{and_parts, and_from, leb-true, le-leb}
-use Rattle.std.proofs.lemmas.List.Sums.{count_by-le-length}
 use Rattle.define_pools.proofs.Each.{list_all_equal}
 use Rattle.define_pools.proofs.Sums.{sum_by-is-total, total, total_ext}
 use Rattle.define_pools.specs.Lists.{all_different}
-use Rattle.define_pools.specs.Pool.{BoundedValue, Category, IsPool, Pool, Volunteer, are_bounds, has_values, is_category, is_name, is_quota_panel, is_value, is_within, meets_quotas, members_with, volunteer}
-use Rattle.define_quotas.specs.Teams.{DifferInBounds, bounds_moved, distance, is_team, loosened, loosened_category, loosened_value, missed_by, names_of_values, team_cost, values_moved}
-use Rattle.define_quotas.proofs.Freed.{panel_of_team, team_length, team_of_panel, team_parts}
+use Rattle.define_pools.specs.Pool.{BoundedValue, Category, IsPool, Pool, Volunteer, are_bounds, has_values, is_category, is_name, is_of_size, is_quota_panel, is_value, is_within, keeps_households, keeps_standings, meets_quotas, members_with}
+use Rattle.define_quotas.specs.Teams.{DifferInBounds, bounds_moved, distance, is_team, loosened, loosened_category, loosened_value, missed_by, names_of_values, team_cost, values_moved, widest_category, widest_value}
+use Rattle.define_quotas.proofs.WidestBounds.{panel_of_team, panel_parts, team_parts}
 
 -- ---- the bounds of one value
 
@@ -31,6 +30,13 @@ within_from_none lower upper number z = and_from (leb lower number) (leb number 
 
 missed_within_moved : (lower upper low up number : ℕ) → (leb low number && leb number up) ≡ true → missed_by lower upper number ≤ distance lower low + distance upper up
 missed_within_moved lower upper low up number h = let parts = within_parts low up number h in let a = parts.0 in let b = parts.1 in omega arith
+
+-- a number within the bounds of a value of a pool is within the widest bounds
+within_widest : (value : BoundedValue) (number : ℕ) → is_value value ≡ true → is_within value number ≡ true → (leb 0 number && leb number 999) ≡ true
+within_widest value number right h =
+    let bounds = and_parts (leb value.lower value.upper) (leb value.upper 999) (and_parts (is_name value.name) (are_bounds value.lower value.upper) right).1 in
+    let high = leb-true value.upper 999 bounds.1 in let within = (within_parts value.lower value.upper number h).1 in
+    and_from (leb 0 number) (leb number 999) (le-leb 0 number (omega arith)) (le-leb number 999 (omega arith))
 
 still_value : (value : BoundedValue) (number : ℕ) → number ≤ 999 → is_value value ≡ true → is_value (loosened_value value number) ≡ true
 still_value value number few h =
@@ -82,12 +88,13 @@ module _ (volunteers : List Volunteer) (team : List ℕ) where
       and_from (is_within (loosened_value value (number_of c first)) (number_of c first)) (values_meet c (first + 1) (loose_values c (first + 1) values))
       (lies_in_moved value (number_of c first)) (values_met_now c (first + 1) values)
 
-  still_values : (c first : ℕ) (values : List BoundedValue) → ((c v : ℕ) → number_of c v ≤ 999) → list_all is_value values ≡ true → list_all is_value (loose_values c first values) ≡ true
-  still_values c first [] few h = refl
-  still_values c first (value ∷ values) few h =
+  still_values : (c first : ℕ) (values : List BoundedValue) → values_meet c first (map widest_value values) ≡ true → list_all is_value values ≡ true → list_all is_value (loose_values c first values) ≡ true
+  still_values c first [] wide h = refl
+  still_values c first (value ∷ values) wide h =
       let parts = and_parts (is_value value) (list_all is_value values) h in
+      let both = and_parts (is_within (widest_value value) (number_of c first)) (values_meet c (first + 1) (map widest_value values)) wide in
       and_from (is_value (loosened_value value (number_of c first))) (list_all is_value (loose_values c (first + 1) values))
-      (still_value value (number_of c first) (few c first) parts.0) (still_values c (first + 1) values few parts.1)
+      (still_value value (number_of c first) (within_parts 0 999 (number_of c first) both.0).1 parts.0) (still_values c (first + 1) values both.1 parts.1)
 
   values_many : (c first : ℕ) (values : List BoundedValue) → length (loose_values c first values) ≡ length values
   values_many c first [] = refl
@@ -140,8 +147,8 @@ module _ (volunteers : List Volunteer) (team : List ℕ) where
       and_from (values_meet first 0 (loose_values first 0 category.values)) (all_meet (first + 1) (loose_categories (first + 1) categories))
       (values_met_now first 0 category.values) (all_met_now (first + 1) categories)
 
-  still_category : (c : ℕ) (category : Category) → ((c v : ℕ) → number_of c v ≤ 999) → is_category category ≡ true → is_category (loosened_category volunteers team c category) ≡ true
-  still_category c category few h =
+  still_category : (c : ℕ) (category : Category) → values_meet c 0 (map widest_value category.values) ≡ true → is_category category ≡ true → is_category (loosened_category volunteers team c category) ≡ true
+  still_category c category wide h =
       let A = is_name category.name in let B = leb (length category.values) 50 in
       let C = all_different (map (λ (value : BoundedValue). value.name) category.values) in let D = list_all is_value category.values in
       let d = and_parts (A && B && C) D h in let e = and_parts (A && B) C d.0 in let f = and_parts A B e.0 in
@@ -150,14 +157,15 @@ module _ (volunteers : List Volunteer) (team : List ℕ) where
       let names : all_different (map (λ (value : BoundedValue). value.name) values) ≡ true = rw (value_names_same c 0 category.values) e.1 in
       and_from (A && leb (length values) 50 && all_different (map (λ (value : BoundedValue). value.name) values)) (list_all is_value values)
       (and_from (A && leb (length values) 50) (all_different (map (λ (value : BoundedValue). value.name) values)) (and_from A (leb (length values) 50) f.0 many) names)
-      (still_values c 0 category.values few d.1)
+      (still_values c 0 category.values wide d.1)
 
-  still_categories : (first : ℕ) (categories : List Category) → ((c v : ℕ) → number_of c v ≤ 999) → list_all is_category categories ≡ true → list_all is_category (loose_categories first categories) ≡ true
-  still_categories first [] few h = refl
-  still_categories first (category ∷ categories) few h =
+  still_categories : (first : ℕ) (categories : List Category) → all_meet first (map widest_category categories) ≡ true → list_all is_category categories ≡ true → list_all is_category (loose_categories first categories) ≡ true
+  still_categories first [] wide h = refl
+  still_categories first (category ∷ categories) wide h =
       let parts = and_parts (is_category category) (list_all is_category categories) h in
+      let both = and_parts (values_meet first 0 (map widest_value category.values)) (all_meet (first + 1) (map widest_category categories)) wide in
       and_from (is_category (loosened_category volunteers team first category)) (list_all is_category (loose_categories (first + 1) categories))
-      (still_category first category few parts.0) (still_categories (first + 1) categories few parts.1)
+      (still_category first category both.0 parts.0) (still_categories (first + 1) categories both.1 parts.1)
 
   categories_many : (first : ℕ) (categories : List Category) → length (loose_categories first categories) ≡ length categories
   categories_many first [] = refl
@@ -193,6 +201,27 @@ module _ (volunteers : List Volunteer) (team : List ℕ) where
       let here = values_missed_within first 0 category.values other.values (cc) parts.0 in
       let rest = all_missed_within (first + 1) categories others (cc) parts.1 in omega (arith, here, rest)
 
+  -- if `others` are values of a pool with the names of `values`, and the team meets their bounds, it meets the widest bounds
+  values_widen : (c first : ℕ) (values others : List BoundedValue) → map (λ (value : BoundedValue). value.name) others ≡ map (λ (value : BoundedValue). value.name) values →
+      list_all is_value others ≡ true → values_meet c first others ≡ true → values_meet c first (map widest_value values) ≡ true
+  values_widen c first [] others e right h = refl
+  values_widen c first (value ∷ values) [] e right h = absurd cc
+  values_widen c first (value ∷ values) (other ∷ others) e right h =
+      let parts = and_parts (is_within other (number_of c first)) (values_meet c (first + 1) others) h in
+      let both = and_parts (is_value other) (list_all is_value others) right in
+      and_from (is_within (widest_value value) (number_of c first)) (values_meet c (first + 1) (map widest_value values))
+      (within_widest other (number_of c first) both.0 parts.0) (values_widen c (first + 1) values others (cc) both.1 parts.1)
+
+  all_widen : (first : ℕ) (categories others : List Category) → map names_of_values others ≡ map names_of_values categories → list_all is_category others ≡ true →
+      all_meet first others ≡ true → all_meet first (map widest_category categories) ≡ true
+  all_widen first [] others e right h = refl
+  all_widen first (category ∷ categories) [] e right h = absurd cc
+  all_widen first (category ∷ categories) (other ∷ others) e right h =
+      let parts = and_parts (values_meet first 0 other.values) (all_meet (first + 1) others) h in
+      let both = and_parts (is_category other) (list_all is_category others) right in
+      and_from (values_meet first 0 (map widest_value category.values)) (all_meet (first + 1) (map widest_category categories))
+      (values_widen first 0 category.values other.values (cc) (and_parts _ _ both.0).1 parts.0) (all_widen (first + 1) categories others (cc) both.1 parts.1)
+
 -- ---- the bounds of a pool
 
 -- a team's cost is the number of people by which it misses the bounds, added up over the values of all categories
@@ -216,18 +245,14 @@ pub loosened_moves : (pool : Pool) (team : List ℕ) → bounds_moved pool.categ
 loosened_moves pool team = bounds_moved_is pool.volunteers team 0 pool.categories ∙ sym (cost_is pool team)
 
 pub loosened_fits : (pool : Pool) (team : List ℕ) → is_team pool team ≡ true → is_quota_panel (loosened pool team) team ≡ true
-loosened_fits pool team h = panel_of_team (loosened pool team) team h (all_met_now pool.volunteers team 0 pool.categories)
+loosened_fits pool team h = panel_of_team pool (loosened pool team).categories team h (all_met_now pool.volunteers team 0 pool.categories)
 
 pub loosened_is_pool : (pool : Pool) (team : List ℕ) → IsPool pool → is_team pool team ≡ true → IsPool (loosened pool team)
 loosened_is_pool pool team p h =
-    let size = team_length pool team (team_parts pool team h).of_size in
-    let limit = leb-true pool.size 200 (and_parts (leb 1 pool.size) (leb pool.size 200) p.size).1 in
-    let few : (c v : ℕ) → members_with pool.volunteers team c v ≤ 999 =
-    λ c v. let within = count_by-le-length (λ i. eqb (slice_index (volunteer pool.volunteers i).values c) v) team in omega arith in
     record {
       size = p.size;
       few_categories = rw (categories_many pool.volunteers team 0 pool.categories) p.few_categories;
-      categories = still_categories pool.volunteers team 0 pool.categories few p.categories;
+      categories = still_categories pool.volunteers team 0 pool.categories (team_parts pool team h).quotas p.categories;
       different_categories = rw (category_names_same pool.volunteers team 0 pool.categories) p.different_categories;
       few_volunteers = p.few_volunteers;
       ids = p.ids;
@@ -245,12 +270,23 @@ pub met_if_free : (pool : Pool) (team : List ℕ) → team_cost pool team ≡ 0 
 met_if_free pool team z = all_meet_from pool.volunteers team 0 pool.categories (sym (cost_is pool team) ∙ z)
 
 -- if two pools differ in bounds alone, a quota panel of `other` is a team of `pool`, and costs at most what the bounds differ by in all
-pub panel_of_other : (pool other : Pool) (team : List ℕ) → DifferInBounds pool other → is_quota_panel other team ≡ true →
+pub panel_of_other : (pool other : Pool) (team : List ℕ) → IsPool other → DifferInBounds pool other → is_quota_panel other team ≡ true →
     (is_team pool team ≡ true) × (team_cost pool team ≤ bounds_moved pool.categories other.categories)
-panel_of_other pool other team differ h =
-    let parts = team_of_panel other team h in
-    let met : meets_quotas other.categories pool.volunteers team ≡ true = subst (λ vs. meets_quotas other.categories vs team ≡ true) differ.volunteers parts.1 in (
-      subst (λ size. is_team (record { size = size; categories = pool.categories; volunteers = pool.volunteers }) team ≡ true) differ.size
-          (subst (λ vs. is_team (record { size = other.size; categories = pool.categories; volunteers = vs }) team ≡ true) differ.volunteers parts.0),
+panel_of_other pool other team p differ h =
+    let parts = panel_parts other team h in
+    let met : all_meet pool.volunteers team 0 other.categories ≡ true = subst (λ vs. all_meet vs team 0 other.categories ≡ true) differ.volunteers parts.quotas in
+    let wide = all_widen pool.volunteers team 0 pool.categories other.categories differ.values p.categories met in
+    let size : is_of_size pool team ≡ true = subst (λ vs. is_of_size (record { size = pool.size; categories = pool.categories; volunteers = vs }) team ≡ true) differ.volunteers
+    (subst (λ size. is_of_size (record { size = size; categories = pool.categories; volunteers = other.volunteers }) team ≡ true) differ.size parts.of_size) in
+    let standings = subst (λ vs. keeps_standings vs team ≡ true) differ.volunteers parts.standings in
+    let households = subst (λ vs. keeps_households vs team ≡ true) differ.volunteers parts.households in (
+      and_from (is_of_size pool team && keeps_standings pool.volunteers team && all_meet pool.volunteers team 0 (map widest_category pool.categories)) (keeps_households pool.volunteers team)
+          (and_from (is_of_size pool team && keeps_standings pool.volunteers team) (all_meet pool.volunteers team 0 (map widest_category pool.categories))
+          (and_from (is_of_size pool team) (keeps_standings pool.volunteers team) size standings) wide) households,
       omega (arith, cost_is pool team, all_missed_within pool.volunteers team 0 pool.categories other.categories differ.values met),
     )
+
+-- a quota panel of a pool is a team
+pub team_of_panel : (pool : Pool) (panel : List ℕ) → IsPool pool → is_quota_panel pool panel ≡ true → is_team pool panel ≡ true
+team_of_panel pool panel p h =
+    (panel_of_other pool pool panel p (record { size = refl; categories = refl; values = refl; volunteers = refl }) h).0

@@ -1,61 +1,37 @@
 -- The search through live fronts finds the cheapest team.
-use Rattle.std.proofs.Common.{◌≡◌, ℕ, ◌+◌, ◌-◌, ◌≤◌, Bool, true, false, cond, ◌&&◌, eqb, leb, List, [], ◌∷◌, ◌++◌, map, filter, fold, sum_by, Option, Some, None, refl, sym, ap, ◌∙◌, arith, append_assoc}
+use Rattle.std.proofs.Common.{◌≡◌, ℕ, ◌+◌, ◌-◌, ◌≤◌, Bool, true, false, cond, List, [], ◌∷◌, ◌++◌, map, filter, fold, sum_by, Option, Some, None, refl, sym, ap, ◌∙◌, arith, append_assoc}
 use Rattle.std.specs.List.{flat_map, enumerate_from, AllByRecursion}
-use Rattle.std.proofs.lemmas.Bool.{and_parts, and_from, eqb-true, eq-eqb, leb-true, le-leb, ltb-true, lt-ltb, false≢true, false_from_ne_true}
+use Rattle.std.proofs.lemmas.Bool.{and_parts, and_from, ltb-true, lt-ltb, false≢true, false_from_ne_true}
 use Rattle.std.proofs.lemmas.List.{map-append, map-id, append-nil}
 use Rattle.std.proofs.lemmas.List.Elements.{filter-append}
 use Rattle.std.proofs.lemmas.List.Sums.{fold-append}
-use Rattle.define_pools.proofs.Each.{each_map, each_mapped, each_filter, each_everywhere, list_all_implies}
+use Rattle.define_pools.proofs.Each.{each_map, each_mapped, each_filter, each_everywhere}
 use Rattle.define_pools.proofs.Sums.{sum_by-is-total, total_le}
 use Rattle.define_searches.specs.declared.Bounds.{Bounds}
 use Rattle.define_searches.specs.Classes.{Class, Classes, IsSearchable}
-use Rattle.define_searches.specs.Compositions.{counts_of, all_counts, taken_of, has_value, is_of_household, takes_one_of, takes_one_a_household}
-use Rattle.define_searches.specs.Fronts.{later_than, most_given, size_reachable, taken_by}
-use Rattle.define_searches.proofs.FirstSearch.{Gives, InOrder, Split, all_counts_give, child_splits, empty_splits, later_is, taken_split, taken_within_most}
+use Rattle.define_searches.specs.Compositions.{counts_of, all_counts, taken_of, has_value, is_composition}
+use Rattle.define_searches.specs.Fronts.{later_than, most_given}
+use Rattle.define_searches.proofs.FirstSearch.{Gives, InOrder, Split, all_counts_give, child_splits, composition_from_live, empty_splits, later_is, live_from_composition, taken_split, taken_within_most}
 use Rattle.define_searches.proofs.BestSearch.{flat_map-map}
-use Rattle.define_quotas.specs.Costs.{makes_team, team_counts, cost, surely_missed, sure_cost, cheapest_team}
+use Rattle.define_quotas.specs.Costs.{team_counts, cost, surely_missed, sure_cost, cheapest_team, widened}
 use Rattle.define_quotas.specs.CostSearch.{leads_to_team, may_cost_less, is_live_below, CostSearch, enter_cheapest, cheapest_search}
 use Rattle.define_quotas.specs.Teams.{missed_by}
 use Rattle.define_quotas.proofs.Keeping.{costs_less, keep, keep_none, keeps_first_cheapest}
 
 -- ---- a front and the teams that begin with it
 
-reached : (size taken more most : ℕ) → more ≤ most → taken + more ≡ size → (leb taken size && leb size (taken + most)) ≡ true
-reached size taken more most l s =
-    and_from (leb taken size) (leb size (taken + most)) (le-leb taken size (omega arith)) (le-leb size (taken + most) (omega arith))
-
--- if `front ++ counts` takes at most one member of a household, so does `front`
-one_of_front : (all : Classes) (pre later : List Class) (front counts : List ℕ) → Split all pre later front → (household : Option ℕ) →
-    takes_one_of all.classes (front ++ counts) household ≡ true → takes_one_of all.classes front household ≡ true
-one_of_front all pre later front counts split None one = refl
-one_of_front all pre later front counts split (Some h) one =
-    let of : Class → Bool = λ class. is_of_household h class.household in
-    let whole = leb-true (taken_of of all.classes (front ++ counts)) 1 one in
-    let parts = taken_split all pre later front counts split of in
-    le-leb (taken_of of all.classes front) 1 (omega arith)
+wide_split : (all : Classes) (pre later : List Class) (front : List ℕ) → Split all pre later front → Split (widened all) pre later front
+wide_split all pre later front split = record { whole = split.whole; fits = split.fits }
 
 -- if the counts of a team begin with a front, the front leads to a team
 leads_from_team : (all : Classes) (pre later : List Class) (front counts : List ℕ) → Split all pre later front → Gives later counts →
-    makes_team all (front ++ counts) ≡ true → leads_to_team all front ≡ true
+    is_composition (widened all) (front ++ counts) ≡ true → leads_to_team all front ≡ true
 leads_from_team all pre later front counts split gives team =
-    let parts = and_parts (eqb (taken_of (λ class. true) all.classes (front ++ counts)) all.size) (takes_one_a_household all.classes (front ++ counts)) team in
-    let whole = eqb-true (taken_of (λ class. true) all.classes (front ++ counts)) all.size parts.0 in
-    let after = later_is all pre later front split in
-    let taken = taken_split all pre later front counts split (λ class. true) in
-    let size : size_reachable all front ≡ true = rw after (reached all.size (taken_by all front) (taken_of (λ class. true) later counts) (most_given (λ class. true) later) (taken_within_most (λ class. true) later counts gives) (sym taken ∙ whole)) in
-    let households = list_all_implies (λ class. takes_one_of all.classes (front ++ counts) class.household) (λ class. takes_one_of all.classes front class.household)
-    (λ class one. one_of_front all pre later front counts split class.household one) all.classes parts.1 in
-    and_from (size_reachable all front) (takes_one_a_household all.classes front) size households
+    live_from_composition (widened all) pre later front counts (wide_split all pre later front split) gives team
 
 -- a front of all classes that leads to a team is a team's counts
-team_from_front : (all : Classes) (pre : List Class) (front : List ℕ) → Split all pre [] front → leads_to_team all front ≡ true → makes_team all front ≡ true
-team_from_front all pre front split leads =
-    let parts = and_parts (size_reachable all front) (takes_one_a_household all.classes front) leads in
-    let after = later_is all pre [] front split in
-    let sizes = and_parts (leb (taken_by all front) all.size) (leb all.size (taken_by all front + most_given (λ class. true) (later_than front all.classes))) parts.0 in
-    let low = leb-true (taken_by all front) all.size sizes.0 in
-    let high : all.size ≤ taken_by all front + 0 = leb-true all.size (taken_by all front + 0) (rw after at sizes.1) in
-    and_from (eqb (taken_by all front) all.size) (takes_one_a_household all.classes front) (eq-eqb (taken_by all front) all.size (omega arith)) parts.1
+team_from_front : (all : Classes) (pre : List Class) (front : List ℕ) → Split all pre [] front → leads_to_team all front ≡ true → is_composition (widened all) front ≡ true
+team_from_front all pre front split leads = composition_from_live (widened all) pre front (wide_split all pre [] front split) leads
 
 -- ---- the cost of counts that begin with a front
 
@@ -113,15 +89,15 @@ front_costs_less all pre later (Some kept) front counts split gives less =
 -- ---- the teams that begin with a front
 
 abbrev teams_from : Classes → List ℕ → List Class → List (List ℕ)
-teams_from all front later = filter (makes_team all) (map (λ counts. front ++ counts) (all_counts later))
+teams_from all front later = filter (is_composition (widened all)) (map (λ counts. front ++ counts) (all_counts later))
 
 -- if a front isn't live, no team that begins with it costs less than what is kept
 none_cheaper : (all : Classes) (kept : Option (List ℕ)) (pre later : List Class) (front : List ℕ) → Split all pre later front → InOrder later →
     is_live_below all kept front ≡ false → AllByRecursion (λ counts. costs_less (cost all) kept counts ≡ false) (teams_from all front later)
 none_cheaper all kept pre later front split order dead =
-    each_filter (λ counts. costs_less (cost all) kept counts ≡ false) (makes_team all) (map (λ counts. front ++ counts) (all_counts later))
-    (each_mapped (λ counts. makes_team all counts ≡ true → costs_less (cost all) kept counts ≡ false) (λ counts. front ++ counts) (all_counts later)
-    (each_map (Gives later) (λ counts. makes_team all (front ++ counts) ≡ true → costs_less (cost all) kept (front ++ counts) ≡ false)
+    each_filter (λ counts. costs_less (cost all) kept counts ≡ false) (is_composition (widened all)) (map (λ counts. front ++ counts) (all_counts later))
+    (each_mapped (λ counts. is_composition (widened all) counts ≡ true → costs_less (cost all) kept counts ≡ false) (λ counts. front ++ counts) (all_counts later)
+    (each_map (Gives later) (λ counts. is_composition (widened all) (front ++ counts) ≡ true → costs_less (cost all) kept (front ++ counts) ≡ false)
     (λ counts gives team. false_from_ne_true (costs_less (cost all) kept (front ++ counts))
     (λ less. false≢true (sym dead ∙ and_from (leads_to_team all front) (may_cost_less all kept front)
     (leads_from_team all pre later front counts split gives team) (front_costs_less all pre later kept front counts split gives less))))
@@ -135,14 +111,14 @@ joined front c (x ∷ xs) =
 -- the teams that begin with a front are those that begin with its children, in the order of the children
 of_children : (all : Classes) (front : List ℕ) (later : List Class) (cs : List ℕ) →
     flat_map (λ child. teams_from all child later) (map (λ c. front ++ c ∷ []) cs)
-    ≡ filter (makes_team all) (map (λ counts. front ++ counts) (flat_map (λ c. map (λ counts. c ∷ counts) (all_counts later)) cs))
+    ≡ filter (is_composition (widened all)) (map (λ counts. front ++ counts) (flat_map (λ c. map (λ counts. c ∷ counts) (all_counts later)) cs))
 of_children all front later [] = refl
 of_children all front later (c ∷ cs) =
     let X = map (λ counts. c ∷ counts) (all_counts later) in
     let Y = flat_map (λ c. map (λ counts. c ∷ counts) (all_counts later)) cs in
     let rest = of_children all front later cs in
     let a = map-append (λ counts. front ++ counts) X Y in
-    let b = filter-append (makes_team all) (map (λ counts. front ++ counts) X) (map (λ counts. front ++ counts) Y) in
+    let b = filter-append (is_composition (widened all)) (map (λ counts. front ++ counts) X) (map (λ counts. front ++ counts) Y) in
     let j = joined front c (all_counts later) in
     rw (a, b, j, rest) refl
 
@@ -182,7 +158,7 @@ enter_keeps all pre (class ∷ later) front so_far split order live =
 pub search_keeps_cheapest : (all : Classes) → IsSearchable all → (cheapest_search all).kept ≡ cheapest_team all
 search_keeps_cheapest all searchable =
     let kept : fold (keep (cost all)) None (teams_from all [] all.classes) ≡ cheapest_team all =
-    ap (λ xs. fold (keep (cost all)) None (filter (makes_team all) xs)) (map-id (all_counts all.classes)) ∙ keeps_first_cheapest (cost all) (team_counts all) in
+    ap (λ xs. fold (keep (cost all)) None (filter (is_composition (widened all)) xs)) (map-id (all_counts all.classes)) ∙ keeps_first_cheapest (cost all) (team_counts all) in
     (elim (is_live_below all None []) as (λ b. is_live_below all None [] ≡ b →
     (cond b (enter_cheapest all all.classes [] (record { visits = 0; kept = None })) (record { visits = 1; kept = None })).kept ≡ cheapest_team all) [
       | true ↦ λ live. enter_keeps all [] all.classes [] (record { visits = 0; kept = None }) (empty_splits all) searchable.in_order live ∙ kept

@@ -3,13 +3,13 @@
 -- entered. Builds on Costs, and on Classes, Compositions and Fronts of `define_searches`. `quota_loosen` searches this way.
 use Rattle.std.specs.Prelude.{ℕ, ◌+◌, nat_lt, if◌then◌else◌, Bool, true, ◌&&◌, List, [], ◌∷◌, ◌++◌, fold, Option, Some, None}
 use Rattle.define_searches.specs.Classes.{Class, Classes}
-use Rattle.define_searches.specs.Compositions.{counts_of, takes_one_a_household}
-use Rattle.define_searches.specs.Fronts.{size_reachable}
-use Rattle.define_quotas.specs.Costs.{cost, sure_cost}
+use Rattle.define_searches.specs.Compositions.{counts_of}
+use Rattle.define_searches.specs.Fronts.{is_reachable}
+use Rattle.define_quotas.specs.Costs.{cost, sure_cost, widened}
 
--- a front may lead to a team: the size is within reach, and no household has two members taken
+-- a front may lead to a team: the size is within reach, no household has two members taken, and at most 999 are taken of each value
 abbrev pub leads_to_team : Classes → List ℕ → Bool
-leads_to_team all front = size_reachable all front && takes_one_a_household all.classes front
+leads_to_team all front = is_reachable (widened all) front
 
 -- true if nothing is kept yet, or the front's sure cost is less than the cost of the counts that are kept
 abbrev pub may_cost_less : Classes → Option (List ℕ) → List ℕ → Bool

@@ -1,20 +1,20 @@
 -- The counts of teams by classes, and what they cost. Builds on Teams, and on Classes, Compositions and Fronts of `define_searches`. The
 -- search for a least loosening uses these costs.
-use Rattle.std.specs.Prelude.{ℕ, ◌+◌, ◌-◌, ◌==◌, nat_lt, if◌then◌else◌, Bool, true, ◌&&◌, List, [], ◌∷◌, filter, sum_by, Option, Some, None}
+use Rattle.std.specs.Prelude.{ℕ, ◌+◌, ◌-◌, nat_lt, if◌then◌else◌, List, [], ◌∷◌, map, sum_by, Option, Some, None}
 use Rattle.std.specs.List.{enumerate_from}
 use Rattle.define_searches.specs.declared.Bounds.{Bounds}
 use Rattle.define_searches.specs.Classes.{Classes}
-use Rattle.define_searches.specs.Compositions.{all_counts, has_value, taken_of, takes_one_a_household}
+use Rattle.define_searches.specs.Compositions.{compositions, has_value, taken_of}
 use Rattle.define_searches.specs.Fronts.{later_than, most_given}
 use Rattle.define_quotas.specs.Teams.{missed_by}
 
--- the counts sum to the size, and no household has two members taken
-abbrev pub makes_team : Classes → List ℕ → Bool
-makes_team all counts = taken_of (λ class. true) all.classes counts == all.size && takes_one_a_household all.classes counts
+-- the classes with the widest bounds that a pool may have
+abbrev pub widened : Classes → Classes
+widened all = record all { bounds = map (λ values. map (λ bound. record { lower = 0; upper = 999 }) values) all.bounds }
 
--- the counts of all teams, in the order of `all_counts`
+-- the counts of all teams: the compositions if the bounds are the widest
 abbrev pub team_counts : Classes → List (List ℕ)
-team_counts all = filter (makes_team all) (all_counts all.classes)
+team_counts all = compositions (widened all)
 
 -- the sum over values of how far the count of members with the value is below its lower or above its upper bound
 abbrev pub cost : Classes → List ℕ → ℕ

@@ -2,7 +2,7 @@
 -- `define_pools`, and on Best, Classes and Compositions of `define_searches`. `quota_loosen` and `loosening_by_proof` find least
 -- loosenings, `define_quotas` has laws on them, and `command_quotas` prints them.
 use Rattle.std.specs.Prelude.{◌≡◌, ◌≢◌, ◌↔◌, ℕ, ◌≤◌, ◌<◌, Bool, IsTrue, List, [], Option, option_map}
-use Rattle.define_pools.specs.Pool.{Pool, is_quota_panel, panels}
+use Rattle.define_pools.specs.Pool.{IsPool, Pool, is_quota_panel, panels}
 use Rattle.define_searches.specs.Best.{comes_before}
 use Rattle.define_searches.specs.Classes.{classes_by, classes_of}
 use Rattle.define_searches.specs.Compositions.{composition_of, first_panel}
@@ -32,11 +32,12 @@ pub record IsCheapest (pool : Pool) (alike : ℕ → ℕ → Bool) (counts team 
   pub first : (other : List ℕ) → IsTrue (is_team pool other) → IsTrue (comes_before (composition_of (classes_by alike pool) other) counts) →
       team_cost pool team < team_cost pool other
 
--- the loosening moves bounds alone, by its total in all, and its panel is a quota panel of the pool that it makes. No pool that differs in
--- bounds alone and has a quota panel differs by less. The total is 0 exactly if the pool itself has a quota panel
+-- the loosening moves bounds alone, by its total in all. It makes a pool, and its panel is a quota panel of that pool. No pool that differs
+-- in bounds alone and has a quota panel differs by less. The total is 0 exactly if the pool itself has a quota panel
 pub record IsLeast (pool : Pool) (loosening : Loosening) : Type 0 where
   pub bounds_alone : DifferInBounds pool loosening.pool
   pub moved : bounds_moved pool.categories loosening.pool.categories ≡ loosening.total
+  pub is_pool : IsPool loosening.pool
   pub fits : IsTrue (is_quota_panel loosening.pool loosening.panel)
-  pub no_less : (other : Pool) → DifferInBounds pool other → panels other ≢ [] → loosening.total ≤ bounds_moved pool.categories other.categories
+  pub no_less : (other : Pool) → IsPool other → DifferInBounds pool other → panels other ≢ [] → loosening.total ≤ bounds_moved pool.categories other.categories
   pub none_needed : loosening.total ≡ 0 ↔ panels pool ≢ []

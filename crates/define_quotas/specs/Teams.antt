@@ -1,13 +1,25 @@
--- Teams: panels that need not meet the quotas. What a team costs, and the pool whose bounds are moved so that the team is a quota panel.
+-- Teams: panels that need not meet the quotas, only the widest bounds that a pool may have. What a team costs, and the pool whose bounds are
+-- moved so that the team is a quota panel.
 -- Builds on Pool of `define_pools`. `quota_loosen`, which searches for a team, `define_quotas`, `loosening_by_proof` and
 -- `command_quotas` use it.
-use Rattle.std.specs.Prelude.{◌≡◌, ℕ, ◌+◌, ◌-◌, Bool, ◌&&◌, List, [], ◌∷◌, map, max, min, sum_by}
+use Rattle.std.specs.Prelude.{◌≡◌, ℕ, ◌+◌, ◌-◌, Bool, List, [], ◌∷◌, map, max, min, sum_by}
 use Rattle.std.specs.List.{enumerate_from}
-use Rattle.define_pools.specs.Pool.{BoundedValue, Category, Pool, Volunteer, is_of_size, keeps_households, keeps_standings, members_with}
+use Rattle.define_pools.specs.Pool.{BoundedValue, Category, Pool, Volunteer, is_quota_panel, members_with}
 
--- an increasing list of numbers of volunteers, of the pool's size, that keeps the standings and has no two members of one household
+-- the widest bounds that a value of a pool may have
+abbrev pub widest_value : BoundedValue → BoundedValue
+widest_value value = record value { lower = 0; upper = 999 }
+
+abbrev pub widest_category : Category → Category
+widest_category category = record category { values = map widest_value category.values }
+
+abbrev pub widest : Pool → Pool
+widest pool = record pool { categories = map widest_category pool.categories }
+
+-- a quota panel of the pool with the widest bounds: an increasing list of numbers of volunteers, of the pool's size, that keeps the
+-- standings, has no two members of one household, and has at most 999 members with each value
 abbrev pub is_team : Pool → List ℕ → Bool
-is_team pool team = is_of_size pool team && keeps_standings pool.volunteers team && keeps_households pool.volunteers team
+is_team pool team = is_quota_panel (widest pool) team
 
 -- how far `number` is below `lower` or above `upper`; 0 if it is neither
 abbrev pub missed_by : ℕ → ℕ → ℕ → ℕ

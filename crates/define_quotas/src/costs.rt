@@ -6,7 +6,7 @@ ghost use Rattle.std.specs.Prelude.{◌≡◌, ◌+◌, ◌*◌, ◌<◌, ◌++�
 ghost use Rattle.std.specs.List.{list_all};
 ghost use Rattle.define_pools.specs.declared.Standing.{Standing};
 ghost use Rattle.define_pools.specs.declared.Standing.TheVariants.{Gone, Seated};
-ghost use Rattle.define_pools.specs.Pool.{Pool};
+ghost use Rattle.define_pools.specs.Pool.{IsPool, Pool};
 ghost use Rattle.define_proofs.specs.Leaves.{standings};
 ghost use Rattle.define_quotas.specs.declared.WeightedQuota.{WeightedQuota};
 ghost use Rattle.define_quotas.specs.LeastMisses.{asked, given, quotas_of};
@@ -36,7 +36,7 @@ pub fn both_parts_cost()
 
 /// If no team costs less than `team`, the loosening for `team` is least. If no team keeps the pool's standings, there is no team.
 pub fn cheapest_by_bound()
-    ensures least { (pool : Pool) (team : List ℕ) → IsTrue (is_team pool team) → CostsAt pool (standings pool) (Some (team_cost pool team)) →
+    ensures least { (pool : Pool) (team : List ℕ) → IsPool pool → IsTrue (is_team pool team) → CostsAt pool (standings pool) (Some (team_cost pool team)) →
         IsLeast pool (loosening_for pool team) }
     ensures none { (pool : Pool) → CostsAt pool (standings pool) None → (team : List ℕ) → IsTrue (is_team pool team) → ⊥ }
 {}

@@ -1,4 +1,4 @@
-//! Least loosenings of quotas: teams, which are panels that need not meet the quotas; what a team costs; the pool with its bounds moved so
+//! Least loosenings of quotas: teams, which are panels that need only meet the widest bounds; what a team costs; the pool with its bounds moved so
 //! that a team is a quota panel; and the search for the cheapest team with the visits that it counts. The definitions are in `specs/`.
 //!
 //! The functions have no body: their contracts are laws over the definitions, and worked examples. Each law is a promise. The laws hold for
@@ -41,7 +41,7 @@ pub fn loosened_pool_has_team()
 /// given one in bounds alone and has a quota panel differs by less. The total is 0 exactly if the given pool has a quota panel. There is no
 /// least loosening exactly if there is no team.
 pub fn least_loosening_is_least()
-    ensures least { (pool : Pool) (loosening : Loosening) → least_loosening pool ≡ Some loosening → IsLeast pool loosening }
+    ensures least { (pool : Pool) (loosening : Loosening) → IsPool pool → least_loosening pool ≡ Some loosening → IsLeast pool loosening }
     ensures none { (pool : Pool) → least_loosening pool ≡ None ↔ ((team : List ℕ) → IsTrue (is_team pool team) → ⊥) }
 {}
 

@@ -129,6 +129,7 @@ fn least_loosening(
     ensures { IfOk result (IsLeastForTeam pool.now) }
 {
     cheapest_by_bound();
+    pool.facts();
     Loosened::for_team(alloc, pool, team, cost)
 }
 

@@ -1,16 +1,19 @@
 //! Whether a panel is a team of a pool, and what a team costs.
 
-ghost use Rattle.std.specs.Prelude.{◌≡◌, IsTrue, nat_lt, count_by, length, sum_by, IfSome};
+ghost use Rattle.std.specs.Prelude.{◌≡◌, IsTrue, nat_le, nat_lt, count_by, length, map, sum_by, IfSome};
 ghost use Rattle.std.specs.List.{list_all, enumerate_from};
-ghost use Rattle.define_pools.specs.Pool.{keeps_households, members_with, share_household as share};
-ghost use Rattle.define_quotas.specs.Teams.{is_team as is_team_of, missed_by as missed_by_number, team_cost as team_cost_of};
+ghost use Rattle.define_pools.specs.Pool.{keeps_households, meets_quotas, members_with, share_household as share};
+ghost use Rattle.define_quotas.specs.Teams.{is_team as is_team_of, missed_by as missed_by_number, team_cost as team_cost_of, widest_category};
 
 use pool_model::{BoundedValue, Category, Panel, Pool, Volunteer, share_household};
 use quota_conflicts::{are_below, keep_standings};
 use quota_loosen::number_with;
 
+/// The greatest bound that a value may have.
+const MOST: usize = 999;
+
 /// True if the panel is a team of the pool: it has the pool's size, its members are volunteers, it has everyone who is seated and no one
-/// who is gone, and no two members share a household.
+/// who is gone, at most 999 members have each value, and no two members share a household.
 pub(crate) fn is_team(pool: &Pool, panel: &Panel) -> bool
     ensures { result ≡ is_team_of pool.now panel.now }
 {
@@ -18,7 +21,35 @@ pub(crate) fn is_team(pool: &Pool, panel: &Panel) -> bool
     members.len() == pool.size()
         && are_below(members, pool.volunteers().len())
         && keep_standings(pool.volunteers(), members)
+        && keep_widest(pool.categories(), pool.volunteers(), members)
         && keep_households(pool.volunteers(), members)
+}
+
+/// True if for each value the number of members who have it is within the widest bounds of a pool.
+fn keep_widest(categories: &[Category], volunteers: &[Volunteer], members: &[usize]) -> bool
+    requires { IsTrue (list_all (λ i. nat_lt i (length volunteers.now)) members.now) }
+    ensures { result ≡ meets_quotas (map widest_category categories.now) volunteers.now members.now }
+{
+    categories
+        .iter()
+        .enumerate()
+        .all(|(c, category)| few_have_each(category.values(), volunteers, members, c))
+}
+
+/// True if each value of a category has at most 999 members.
+fn few_have_each(
+    values: &[BoundedValue],
+    volunteers: &[Volunteer],
+    members: &[usize],
+    category: usize,
+) -> bool
+    requires { IsTrue (list_all (λ i. nat_lt i (length volunteers.now)) members.now) }
+    ensures { result ≡ list_all (λ (v, value). nat_le (members_with volunteers.now members.now category v) 999) (enumerate_from 0 values.now) }
+{
+    values
+        .iter()
+        .enumerate()
+        .all(|(v, _value)| number_with(volunteers, members, category, v) <= MOST)
 }
 
 fn keep_households(volunteers: &[Volunteer], members: &[usize]) -> bool

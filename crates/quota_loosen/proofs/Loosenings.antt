@@ -5,7 +5,7 @@ use Rattle.define_quotas.specs.Costs.{cheapest_team, cost}
 use Rattle.define_quotas.specs.CostSearch.{cheapest_search}
 use Rattle.define_quotas.specs.Loosenings.{Loosening, least_loosening, loosening_for}
 use Rattle.define_quotas.specs.Teams.{is_team, loosened, team_cost}
-use Rattle.define_quotas.proofs.Freed.{cost_same}
+use Rattle.define_quotas.proofs.WidestBounds.{cost_same}
 use Rattle.define_quotas.proofs.Least.{cheapest_is}
 use Rattle.define_quotas.proofs.TeamSearch.{search_keeps_cheapest}
 use Rattle.define_pools.specs.Pool.{Pool}

@@ -1,16 +1,17 @@
 -- How the search for the cheapest team goes through the children of a front, one after the other.
 use Rattle.std.proofs.Common.{◌≡◌, ℕ, zero, suc, ◌+◌, ◌-◌, ◌≤◌, ◌<◌, Bool, true, false, cond, ◌&&◌, ltb, List, [], ◌∷◌, ◌++◌, length, take, drop, set, Option, Some, None, Result, Ok, Err, refl, sym, ap, ◌∙◌, arith, subst}
 use Rattle.std.specs.Prelude.{IsErr}
-use Rattle.std.proofs.lemmas.Bool.{false≢true, and_parts, leb-true}
+use Rattle.std.proofs.lemmas.Bool.{false≢true, and_parts}
 use Rattle.std.proofs.lemmas.List.{length-set}
-use Rattle.define_quotas.specs.Costs.{cost, sure_cost}
+use Rattle.define_quotas.specs.Costs.{cost, sure_cost, widened}
 use Rattle.define_quotas.specs.CostSearch.{CostSearch, cheapest_search, enter_cheapest, is_live_below, leads_to_team, may_cost_less}
 use Rattle.define_searches.specs.Classes.{Class, Classes}
-use Rattle.define_searches.specs.Compositions.{counts_down, counts_of, takes_one_a_household}
-use Rattle.define_searches.specs.Fronts.{size_reachable, taken_by}
+use Rattle.define_searches.specs.Compositions.{counts_down, counts_of}
+use Rattle.define_searches.specs.Fronts.{taken_by}
 use Rattle.define_searches.specs.Front.{Stands}
 use Rattle.define_searches.proofs.Fronts.{front_of, front_length, placed}
 use Rattle.define_searches.proofs.Tracking.{comes_next}
+use Rattle.define_searches.proofs.WeightLaws.{taken_few}
 use Rattle.quota_loosen.proofs.Liveness.{whole_cost}
 use Rattle.quota_loosen.proofs.LoosenedParts.{all_taken}
 use Rattle.quota_loosen.specs.Front.{Tracks}
@@ -83,10 +84,7 @@ pub enter_whole : (all : Classes) (depth : ℕ) (front : List ℕ) (now : CostSe
 enter_whole all depth front now e = ap (λ later. enter_cheapest all later front now) (none_later all depth e)
 
 pub taken_if_live : (all : Classes) (kept : Option (List ℕ)) (front : List ℕ) → is_live_below all kept front ≡ true → taken_by all front ≤ all.size
-taken_if_live all kept front live =
-    let leads = (and_parts (leads_to_team all front) (may_cost_less all kept front) live).0 in
-    let size = (and_parts (size_reachable all front) (takes_one_a_household all.classes front) leads).0 in
-    leb-true (taken_by all front) all.size (and_parts _ _ size).0
+taken_if_live all kept front live = taken_few (widened all) front (and_parts (leads_to_team all front) (may_cost_less all kept front) live).0
 
 -- ---- what the contracts of the code need
 

@@ -6,7 +6,7 @@ ghost use Rattle.define_quotas.specs.Teams.{is_team, loosened as loosened_for, l
 ghost use Rattle.define_pools.specs.Building.{category_kind};
 ghost use Rattle.define_pools.specs.Pool.{IsPool, is_category, members_with};
 
-use pool_model::{Category, Panel, Pool, Volunteer};
+use pool_model::{Category, Limits, Panel, Pool, Volunteer};
 use std::alloc::{AllocError, Global};
 
 // Returns the pool with each bound moved only as far as the team needs to meet it.
@@ -27,7 +27,7 @@ fn quotas(alloc: Global, pool: &Pool, team: &[usize]) -> Result<Pool, AllocError
     requires team { IsTrue (is_team pool.now team.now) }
     ensures { IfOk result (λ made. made ≡ record { size = pool.now.size; categories = (loosened_for pool.now team.now).categories; volunteers = [] }) }
 {
-    let mut made = match Pool::new(alloc, pool.size()) {
+    let mut made = match Pool::new_within(alloc, Limits::Large, pool.size()) {
         Ok(made) => made,
         Err(_) => unreachable!(),
     };

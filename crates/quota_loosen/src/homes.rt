@@ -8,7 +8,7 @@ ghost use Rattle.define_searches.specs.Homes.{AreFew, HasMoreAt, CanGiveAt, has_
 pub(crate) fn add_at(homes: &mut [usize], household: Option<usize>, count: usize)
     requires known { IsKnownHousehold (length homes.old) household }
     requires small { AreFew homes.old }
-    requires count { count ≤ 1000 }
+    requires count { count ≤ 4000 }
     ensures { HasMoreAt household count homes.old homes.new }
 {
     if let Some(number) = household {
@@ -29,8 +29,7 @@ pub(crate) fn take_at(homes: &mut [usize], household: Option<usize>, count: usiz
 
 // True if at most one member is taken of the household, or if there is no household.
 pub(crate) fn has_one(homes: &[usize], household: Option<usize>) -> bool
-    requires known { IsKnownHousehold (length homes.now) household }
-    requires small { AreFew homes.now }
+    requires { IsKnownHousehold (length homes.now) household }
     ensures { result ≡ has_room homes.now household 0 }
 {
     match household {

@@ -127,19 +127,20 @@ impl Search {
 
     // True if the front of the first `depth` classes may lead to a team that costs less than the one that was kept.
     fn is_live(&self, classes: &Classes, depth: usize) -> bool
-        requires small { taken_by classes.now (take depth self.now.counts.items) ≤ 1000 }
+        requires small { taken_by classes.now (take depth self.now.counts.items) ≤ 5000 }
         requires stands { StandsAt classes.now depth (drop depth classes.now.classes) self.now }
         ensures { result ≡ is_live_below classes.now (search_of self.now).kept (take depth self.now.counts.items) }
     {
         let front = &self.counts[..depth];
         self.tally.size_in_reach(classes, front)
             && self.may_cost_less(classes, depth)
+            && self.tally.values_alive(classes, front)
             && self.tally.homes_alive(classes, front)
     }
 
     // True if nothing is kept yet, or the sure cost of the front of the first `depth` classes is less than what the kept counts cost.
     fn may_cost_less(&self, classes: &Classes, depth: usize) -> bool
-        requires small { taken_by classes.now (take depth self.now.counts.items) ≤ 1000 }
+        requires small { taken_by classes.now (take depth self.now.counts.items) ≤ 5000 }
         requires stands { StandsAt classes.now depth (drop depth classes.now.classes) self.now }
         ensures { result ≡ may_cost_less classes.now (search_of self.now).kept (take depth self.now.counts.items) }
     {
@@ -266,7 +267,7 @@ impl Search {
     // Enters the front of the first `depth` classes, if it is live.
     fn enter_live(&mut self, classes: &Classes, depth: usize) -> Result<(), BudgetSpent>
         requires few { self.old.visits ≤ self.old.nodes }
-        requires small { taken_by classes.now (take depth self.old.counts.items) ≤ 1000 }
+        requires small { taken_by classes.now (take depth self.old.counts.items) ≤ 5000 }
         requires stands { StandsAt classes.now depth (drop depth classes.now.classes) self.old }
         ensures { Moves classes.now depth (drop depth classes.now.classes)
             (child_cheapest classes.now (drop depth classes.now.classes) (take depth self.old.counts.items) (search_of self.old))

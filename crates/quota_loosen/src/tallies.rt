@@ -1,14 +1,18 @@
 //! Counters for values, 50 places for each category, and how far they miss the bounds at least. A helper of `tally`.
 
-ghost use Rattle.std.specs.Prelude.{◌≡◌, ◌≤◌, ◌<◌, ◌+◌, ◌*◌, All, length};
+ghost use Rattle.std.specs.Prelude.{◌≡◌, ◌≤◌, ◌<◌, ◌+◌, ◌*◌, All, length, slice_index};
+ghost use Rattle.std.specs.List.{enumerate_from, list_all};
 ghost use Rattle.define_quotas.specs.Costs.{surely_missed};
 ghost use Rattle.define_searches.specs.Tallies.{HaveCells, CanGive, AreAtMost, FitCells, HasMore};
-ghost use Rattle.quota_loosen.specs.Sums.{AreLimited, AreSmallIn, missed_in, missed_in_all};
+ghost use Rattle.quota_loosen.specs.Sums.{AreLimited, AreSmallIn, are_few, missed_in, missed_in_all};
 
 use alike::{Bounds, ValueBounds};
 
 // How many places each category has.
 pub(crate) const PLACES: usize = 50;
+
+// The greatest bound that a value may have.
+pub(crate) const MOST: usize = 999;
 
 // Adds `count` to the counter of each category's value. A search often tries the count 0, which changes nothing.
 pub(crate) fn add_to(cells: &mut [usize], values: &[usize], count: usize)
@@ -37,6 +41,35 @@ pub(crate) fn take_from(cells: &mut [usize], values: &[usize], count: usize)
     for (category, value) in values.iter().enumerate() {
         cells[PLACES * category + value] -= count;
     }
+}
+
+// True if the number of each value is at most the greatest bound that it may have.
+pub(crate) fn hold_few(bounds: &[ValueBounds], held: &[usize]) -> bool
+    requires { length bounds.now ≤ 20 }
+    ensures { result ≡ list_all (λ (c, values). are_few values held.now c) (enumerate_from 0 bounds.now) }
+{
+    bounds
+        .iter()
+        .enumerate()
+        .all(|(category, values)| hold_few_of(values.as_slice(), held, category))
+}
+
+// True if the number of each value of a category is at most the greatest bound that it may have.
+fn hold_few_of(values: &[Bounds], held: &[usize], category: usize) -> bool
+    requires { category < 20 }
+    ensures { result ≡ are_few values.now held.now category }
+{
+    values
+        .iter()
+        .enumerate()
+        .all(|(value, _bound)| number_in(held, PLACES * category + value) <= MOST)
+}
+
+// Returns the number in a cell, or 0 if there is no such cell.
+fn number_in(cells: &[usize], cell: usize) -> usize
+    ensures { result ≡ slice_index cells.now cell }
+{
+    cells.get(cell).copied().unwrap_or(0)
 }
 
 // Returns the least sum by which all values will miss their bounds, whatever later classes give.

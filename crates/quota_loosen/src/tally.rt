@@ -2,15 +2,15 @@
 //! give. The search of `searching` keeps one.
 
 ghost use Rattle.std.specs.Prelude.{◌≡◌, ◌+◌, ◌*◌, ◌≤◌, ◌<◌, ◌++◌, ◌^◌, [], ◌∷◌, IfOk, nat_le, ◌&&◌, drop, length};
-ghost use Rattle.define_quotas.specs.Costs.{sure_cost};
+ghost use Rattle.define_quotas.specs.Costs.{sure_cost, widened};
 ghost use Rattle.define_searches.specs.Compositions.{takes_one_a_household};
-ghost use Rattle.define_searches.specs.Fronts.{size_reachable, taken_by};
+ghost use Rattle.define_searches.specs.Fronts.{size_reachable, taken_by, values_reachable};
 ghost use Rattle.define_searches.specs.Front.{Gives};
 ghost use Rattle.define_searches.specs.Tallies.{AreAtMost};
 ghost use Rattle.quota_loosen.specs.Front.{Tracks};
 
 use crate::homes;
-use crate::tallies::{PLACES, add_to, missed_by_all, take_from};
+use crate::tallies::{MOST, PLACES, add_to, hold_few, missed_by_all, take_from};
 use alike::Classes;
 use std::alloc::{AllocError, Global};
 
@@ -71,7 +71,7 @@ impl Tally {
     pub(crate) fn take(&mut self, classes: &Classes, front: &[usize], count: usize)
         requires below { length front.now < length classes.now.classes }
         requires small { taken_by classes.now front.now ≤ 1000 }
-        requires few { count ≤ 1000 }
+        requires few { count ≤ 4000 }
         requires stands { Tracks classes.now front.now (drop (length front.now + 1) classes.now.classes) self.old }
         ensures { Tracks classes.now (front.now ++ count ∷ []) (drop (length front.now + 1) classes.now.classes) self.new }
     {
@@ -95,7 +95,7 @@ impl Tally {
 
     // True if the panel's size can still be reached, and isn't exceeded.
     pub(crate) fn size_in_reach(&self, classes: &Classes, front: &[usize]) -> bool
-        requires small { taken_by classes.now front.now ≤ 1000 }
+        requires small { taken_by classes.now front.now ≤ 5000 }
         requires stands { Tracks classes.now front.now (drop (length front.now) classes.now.classes) self.now }
         ensures { result ≡ size_reachable classes.now front.now }
     {
@@ -103,9 +103,18 @@ impl Tally {
         self.size_allows(classes.size())
     }
 
+    // True if at most 999 are taken of each value.
+    pub(crate) fn values_alive(&self, classes: &Classes, front: &[usize]) -> bool
+        requires stands { Tracks classes.now front.now (drop (length front.now) classes.now.classes) self.now }
+        ensures { result ≡ values_reachable (widened classes.now) front.now }
+    {
+        classes.facts();
+        self.taken <= MOST || hold_few(classes.bounds(), &self.held)
+    }
+
     // True if at most one is taken of each household.
     pub(crate) fn homes_alive(&self, classes: &Classes, front: &[usize]) -> bool
-        requires small { taken_by classes.now front.now ≤ 1000 }
+        requires small { taken_by classes.now front.now ≤ 5000 }
         requires stands { Tracks classes.now front.now (drop (length front.now) classes.now.classes) self.now }
         ensures { result ≡ takes_one_a_household classes.now.classes front.now }
     {
@@ -120,7 +129,7 @@ impl Tally {
 
     // Returns the front's sure cost: all counts that begin with the front cost at least this.
     pub(crate) fn sure_cost(&self, classes: &Classes, front: &[usize]) -> usize
-        requires small { taken_by classes.now front.now ≤ 1000 }
+        requires small { taken_by classes.now front.now ≤ 5000 }
         requires stands { Tracks classes.now front.now (drop (length front.now) classes.now.classes) self.now }
         ensures { result ≡ sure_cost classes.now front.now }
     {

@@ -3,7 +3,7 @@ use Rattle.std.specs.List.{list_all}
 use Rattle.std.proofs.lemmas.Bool.{and_parts}
 use Rattle.define_lines.specs.Lines.{text_of}
 use Rattle.define_lines.proofs.LineLemmas.{text_of-append}
-use Rattle.define_quotas.proofs.Freed.{team_parts}
+use Rattle.define_quotas.proofs.WidestBounds.{team_parts}
 use Rattle.define_pools.specs.Pool.{Category, Pool}
 use Rattle.command_meanings.specs.Lines.{panel_line}
 use Rattle.command_meanings.specs.LooseningLines.{moved_lines, total_line}

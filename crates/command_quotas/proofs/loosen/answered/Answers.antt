@@ -17,7 +17,7 @@ loosening_text-requires c =
     let found : least_loosening pool ≡ Some c.in-Ok-Some.loosened = sym says.1 in
     let least : IsLeastLoosening pool c.in-Ok-Some.loosened =
     the_least pool c.in-Ok-Some.loosened (λ counts e. c.cheapest_is_least.ensures.found pool (are_alike pool) counts (c.alike_make_classes.ensures pool) e)
-    (c.least_loosening_is_least.ensures.least pool c.in-Ok-Some.loosened found) found in
+    (c.least_loosening_is_least.ensures.least pool c.in-Ok-Some.loosened c.facts.ensures found) found in
     least.cheapest.is_one
 
 pub returns-in_ok-loosening_text-in-Ok-Some : goal.returns-in_ok-loosening_text-in-Ok-Some
@@ -29,7 +29,7 @@ returns-in_ok-loosening_text-in-Ok-Some c =
       within = says.0;
       loosening = c.in-Ok-Some.loosened;
       least = the_least pool c.in-Ok-Some.loosened (λ counts e. c.cheapest_is_least.ensures.found pool (are_alike pool) counts (c.alike_make_classes.ensures pool) e)
-          (c.least_loosening_is_least.ensures.least pool c.in-Ok-Some.loosened found) found;
+          (c.least_loosening_is_least.ensures.least pool c.in-Ok-Some.loosened c.facts.ensures found) found;
       lines = c.in_ok-loosening_text-in-Ok-Some.ensures;
     }
 
@@ -39,6 +39,6 @@ returns-in-Ok-None c =
     let says = rw c.in-Ok-None.field-0-is at c.in-Ok-None.ensures in
     let found : least_loosening pool ≡ None = sym says.1 in
     let no_team = (c.least_loosening_is_least.ensures.none pool).0 found in
-    let right : PrintsNoTeam c.args.nodes pool no_panel_line = record { within = says.0; no_team = no_team; none = no_panels pool no_team; line = refl } in
+    let right : PrintsNoTeam c.args.nodes pool no_panel_line = record { within = says.0; no_team = no_team; none = no_panels pool c.facts.ensures no_team; line = refl } in
     IfOk-weaker c.no_panel.result (λ (answer : Answer). saying answer ≡ Prints NoPanel no_panel_line) (λ (answer : Answer). IsRight (LoosenMeans c.args.nodes pool) (saying answer))
     (λ answer e. subst (IsRight (LoosenMeans c.args.nodes pool)) (sym e) right) c.no_panel.ensures

@@ -11,6 +11,6 @@ use Rattle.command_quotas.proofs.loosen_by_proof.none_told.Goals as goal
 pub returns : goal.returns
 returns c =
     let pool = c.args.pool.now in
-    let right : PrintsNone pool no_panel_line = record { no_team = c.requires; none = no_panels pool c.requires; line = refl } in
+    let right : PrintsNone pool no_panel_line = record { no_team = c.requires; none = no_panels pool c.facts.ensures c.requires; line = refl } in
     IfOk-weaker c.no_panel.result (λ (answer : Answer). saying answer ≡ Prints NoPanel no_panel_line) _
     (λ answer e. subst (IsRight (LoosenByProofMeans pool)) (sym e) right) c.no_panel.ensures

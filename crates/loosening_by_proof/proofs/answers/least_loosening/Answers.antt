@@ -13,6 +13,6 @@ returns c =
     let right : IsLeastForTeam pool (loosening_for pool team) = record {
       team = c.requires.team;
       is_for = refl;
-      least = c.cheapest_by_bound.ensures.least pool team c.requires.team (subst (λ (n : ℕ). CostsAt pool (standings pool) (Some n)) c.requires.cost c.requires.least);
+      least = c.cheapest_by_bound.ensures.least pool team c.facts.ensures c.requires.team (subst (λ (n : ℕ). CostsAt pool (standings pool) (Some n)) c.requires.cost c.requires.least);
     } in
     IfOk-weaker c.for_team.result _ _ (λ loosened e. subst (IsLeastForTeam pool) (sym e) right) c.for_team.ensures

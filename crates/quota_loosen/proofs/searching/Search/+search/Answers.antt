@@ -49,7 +49,7 @@ try_child-enter_live-requires t c =
     let long = front_length depth self.counts.items (length all.classes) c.requires.stands.places c.requires.stands.within in
     let child = placed depth count self.counts.items (omega (arith, c.requires.below, c.requires.stands.places)) in
     let more = taken_next all (take depth self.counts.items) count (omega (arith, long, c.requires.below)) in
-    let few : taken_by all (take (depth + 1) (set self.counts.items depth count)) ≤ 1000 =
+    let few : taken_by all (take (depth + 1) (set self.counts.items depth count)) ≤ 5000 =
     omega (arith, ap (taken_by all) child, more, c.requires.small, c.requires.count) in (
       search rules,
       (

@@ -1,6 +1,6 @@
 use Rattle.std.proofs.Common.{length, refl, sym, ap, ◌∙◌, arith}
-use Rattle.define_searches.proofs.Tracking.{few_later, fit_cells, fit_same, small_held, small_same}
-use Rattle.quota_loosen.proofs.Liveness.{missed_is_cost}
+use Rattle.define_searches.proofs.Tracking.{few_later, fit_cells, fit_same, small_same}
+use Rattle.quota_loosen.proofs.Liveness.{missed_is_cost, small_held}
 use Rattle.quota_loosen.specs.Sums.{missed_in_all}
 use Rattle.quota_loosen.proofs.tally.Tally.sure_cost.Goals as goal
 
@@ -15,7 +15,7 @@ missed_by_all-requires-clause-later c =
 pub missed_by_all-requires-clause-small : goal.missed_by_all-requires-clause-small
 missed_by_all-requires-clause-small c =
     let all = c.args.classes.now in
-    small_same _ (length all.bounds) _ c.args.self.now.held.items (ap length c.bounds.ensures) c.deref.ensures.value (small_held all c.args.front.now _ (length all.bounds) _ refl c.requires.small c.requires.stands)
+    small_same _ (length all.bounds) _ c.args.self.now.held.items (ap length c.bounds.ensures) c.deref.ensures.value (small_held all c.args.front.now _ _ c.requires.small c.requires.stands)
 
 pub missed_by_all-requires-clause-small_later : goal.missed_by_all-requires-clause-small_later
 missed_by_all-requires-clause-small_later c =
