@@ -25,6 +25,9 @@ const TURNS: [u64; 4] = [11, 4, 57, 96];
 /// How far pseudo-random numbers may shift a volunteer's wish, up or down, in all turns but the first.
 const WILDNESS: u32 = 40;
 
+/// The same, where sets of classes are peeled. With smaller shifts a table stays nearer to its last basis.
+const CLASS_WILDNESS: u32 = 10;
+
 /// A remainder is doubled only if its whole is below this number, 2^56.
 const MOST_DOUBLED: i64 = 72_057_594_037_927_936;
 
@@ -155,7 +158,7 @@ fn lottery_by_volunteers(
 }
 
 /// Peels sets of classes off a remainder, which has a part for each class. Each set has `size` classes. Tries fewer turns and tails than
-/// for volunteers, and no mix of compositions. Stops if there is not one part for each of `columns` columns.
+/// for volunteers, and no mix of compositions. Stops if a row has not one coefficient for each part.
 pub(crate) fn class_sets(
     alloc: Global,
     rows: &PanelRows,
@@ -302,7 +305,7 @@ impl PeelingRun<'_> {
         let mut next: u64 = 1;
         for round in 0..TURNS.len() {
             let end = next.saturating_add(TURNS[round]);
-            if self.turns(next, end, budget)? {
+            if self.turns(next, end, WILDNESS, budget)? {
                 return self.found(&[], Narrow::ONE);
             }
             next = end;
@@ -335,22 +338,29 @@ impl PeelingRun<'_> {
         requires table { HasTable self.old }
         ensures { SpendsOn budget.old budget.new }
     {
-        if self.peel(0, 0, budget)? || self.turns(1, SHORT_ROUND, budget)? {
+        if self.peel(0, 0, budget)? || self.turns(1, SHORT_ROUND, CLASS_WILDNESS, budget)? {
             return self.found(&[], Narrow::ONE);
         }
         self.go_to_best()?;
         if let Some(found) = self.short_tails(budget)? {
             return Ok(found);
         }
-        if self.turns(SHORT_ROUND, SHORT_ROUNDS, budget)? {
+        if self.turns(SHORT_ROUND, SHORT_ROUNDS, CLASS_WILDNESS, budget)? {
             return self.found(&[], Narrow::ONE);
         }
         self.go_to_best()?;
         self.tails(tail_limits(false), CLASS_TAILS, budget)
     }
 
-    /// Peels in turns `first..end`. True if nothing is left after one of them.
-    fn turns(&mut self, first: u64, end: u64, budget: &mut Budget) -> Result<bool, ProveStop>
+    /// Peels in turns `first..end`, in which pseudo-random numbers shift each wish by at most `wildness`. True if nothing is left after one of
+    /// them.
+    fn turns(
+        &mut self,
+        first: u64,
+        end: u64,
+        wildness: u32,
+        budget: &mut Budget,
+    ) -> Result<bool, ProveStop>
         requires run { IsPeelingRun self.old }
         requires table { HasTable self.old }
         ensures run { IsPeelingRun self.new }
@@ -359,7 +369,7 @@ impl PeelingRun<'_> {
     {
         for turn in first..end {
             self.begin_turn(turn)?;
-            if self.peel(turn, WILDNESS, budget)? {
+            if self.peel(turn, wildness, budget)? {
                 return Ok(true);
             }
         }
