@@ -4,7 +4,7 @@
 
 const KINDS = {
   1: 'it is no line that may stand there',
-  2: 'it is not the size, a number from 1 to 200',
+  2: 'it is not the size, a number from 1 to 200, or to 1,000 in a text of version 3',
   3: 'its category is there already',
   4: 'its value is there already',
   5: 'a bound is no number from 0 to 999, or the least is above the most',

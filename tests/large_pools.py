@@ -95,7 +95,8 @@ def realistic(seed, volunteers, size, categories, slack, housed=10):
         j = int(rng.random() * (i + 1))
         people[i], people[j] = people[j], people[i]
     homes = households(rng, volunteers, housed)
-    lines = ['pool\t%d' % (2 if homes else 1), 'size\t%d' % size]
+    version = 3 if volunteers > 400 or size > 200 else 2 if homes else 1
+    lines = ['pool\t%d' % version, 'size\t%d' % size]
     for (name, names, _, _, _), own in zip(kinds, counts):
         lines.append('category\t' + name)
         lines += ['value\t%s\t%d\t%d' % (value, max(0, count - slack), count + slack) for value, count in zip(names, own)]

@@ -17,9 +17,7 @@ follows that page, uses nothing of `sortition`, and isn't proved. It stands on `
 import sys
 
 sys.dont_write_bytecode = True      # (no compiled files beside the tools)
-from check_proof import Lines, Refusal, check_panels, check_settled, main, number_of, numbers_of, read_lottery, read_pool
-
-MOST_COUNT = 400
+from check_proof import VERSIONS, Lines, Refusal, check_panels, check_settled, main, most_trees, number_of, numbers_of, read_lottery, read_pool
 
 
 # ---- the text
@@ -38,7 +36,7 @@ def front_of(line, pool, stage):
     if word != b'front' or len(fields) < 2:
         return None
     cause = cause_of(fields[0], fields[1], len(pool.all_values()), stage)
-    counts = numbers_of(fields[2:], 0, MOST_COUNT)
+    counts = numbers_of(fields[2:], 0, most_trees(len(pool.numbers)))
     return None if cause is None or counts is None or len(counts) > len(pool.numbers) else (cause, counts)
 
 
@@ -71,15 +69,34 @@ class Class:
         self.most = 0 if standing == 'gone' else len(members)
 
 
-def classes_of(pool, stages):
-    """The classes at the last of the stages: of equal values, standing and weights; who shares a household is a class alone."""
+def values_of(pool):
+    """For each volunteer the places of the values."""
+    values = [[] for _ in pool.standings]
+    for place, (having, _, _) in enumerate(pool.all_values()):
+        for i in having:
+            values[i].append(place)
+    return values
+
+
+def marks_of(pool, values):
+    """For each volunteer a mark that those share who are of equal values and standing. Who shares a household has an own one."""
+    alone = {i for members, _, _ in pool.shared_homes() for i in members}
+    return [('alone', i) if i in alone else (standing, *values[i]) for i, standing in enumerate(pool.standings)]
+
+
+def parted(marks, weights):
+    """The marks where of those who share one also the weights are equal."""
+    numbers = {}
+    return [numbers.setdefault(both, len(numbers)) for both in zip(marks, weights)]
+
+
+def classes_of(pool, values, marks):
+    """The classes of those who share a mark, in the order of their first members."""
     homes = {i: home for home, (members, _, _) in enumerate(pool.shared_homes()) for i in members}
     alike = {}
-    for i, standing in enumerate(pool.standings):
-        values = tuple(place for place, (having, _, _) in enumerate(pool.all_values()) if i in having)
-        key = ('alone', i) if i in homes else (values, standing, tuple(weights[i] for _, weights in stages))
-        alike.setdefault(key, Class([], values, homes.get(i), standing)).members.append(i)
-    return [Class(it.members, it.values, it.home, pool.standings[it.members[0]]) for it in alike.values()]
+    for i, mark in enumerate(marks):
+        alike.setdefault(mark, []).append(i)
+    return [Class(members, values[members[0]], homes.get(members[0]), pool.standings[members[0]]) for members in alike.values()]
 
 
 def applies(pool, classes, stages, cause, counts):
@@ -111,9 +128,9 @@ def next_beginning(classes, counts):
     return None
 
 
-def check_fronts(pool, stages, tree):
+def check_fronts(pool, classes, stages, tree):
     """Refuses the first line that isn't the next front in order, or whose cause doesn't apply."""
-    classes, beginning = classes_of(pool, stages), []
+    beginning = []
     for line, front in tree:
         if front is None:
             if beginning is not None:
@@ -130,11 +147,17 @@ def check_fronts(pool, stages, tree):
 
 def check_lottery(pool, total, panels, stages, trees):
     check_panels(pool, total, panels)
-    counts = [sum(weight for members, weight in panels if i in members) for i in range(len(pool.numbers))]
+    counts = [0] * len(pool.numbers)
+    for members, weight in panels:
+        for i in members:
+            counts[i] += weight
     unsettled = range(len(pool.numbers))
+    values = values_of(pool)
+    marks = marks_of(pool, values)
     for number, ((cap, weights), tree) in enumerate(zip(stages, trees), 1):
         check_settled(number, weights, counts, unsettled)
-        check_fronts(pool, stages[:number], tree)
+        marks = parted(marks, weights)
+        check_fronts(pool, classes_of(pool, values, marks), stages[:number], tree)
         for members, _ in panels:
             if sum(weights[i] for i in members) != cap:
                 raise Refusal(number, 9, members)
@@ -148,8 +171,8 @@ def check(text):
     lines = Lines(text)
     lines.refuse(18, lines.take(20) != b'cover\t1')
     line = lines.take(17)
-    lines.refuse(13, line not in (b'bundle\t1', b'bundle\t2'))
     version = line[-1:]
+    lines.refuse(13, line[:-1] != b'bundle\t' or version not in VERSIONS)
     lines.refuse(1, lines.take(12) != b'pool\t' + version)
     pool = read_pool(lines, version)
     total, panels, stages = read_lottery(lines, len(pool.numbers))

@@ -20,11 +20,12 @@ import sys
 from functools import partial
 
 MOST_BYTES = 16_777_216        # of a text
+VERSIONS = (b'1', b'2', b'3')  # of a pool and a bundle
 MOST_WEIGHT = 10 ** 38         # of a panel, and the greatest total
 FAR = 2 ** 127 - 1             # how far the numbers of a stage may reach in a text
 LIMIT = 2 ** 56                # the greatest scale and multiplier, and how far a stage may reach that is shown
-LAST_CONSTRAINT = 1800
-MOST_TREES = 400
+USUAL_SIZE, LARGE_SIZE = 200, 1000             # the greatest size of a panel in versions 1 and 2, and in version 3
+USUAL_VOLUNTEERS, LARGE_VOLUNTEERS = 400, 4000  # the most volunteers in these
 
 
 class Fault(Exception):
@@ -78,6 +79,16 @@ def numbers_of(fields, least, most):
     return None if None in numbers else numbers
 
 
+def most_trees(volunteers):
+    """The most trees of a proof over so many volunteers."""
+    return USUAL_VOLUNTEERS if volunteers <= USUAL_VOLUNTEERS else LARGE_VOLUNTEERS
+
+
+def last_constraint(volunteers):
+    """The greatest number of a constraint in a proof over so many volunteers."""
+    return 1000 + 2 * most_trees(volunteers)
+
+
 def rise(numbers):
     return all(first < second for first, second in zip(numbers, numbers[1:]))
 
@@ -106,6 +117,14 @@ class Pool:
         self.home_from = 0         # the least number that the next household line may have
         self.standing_from = 0     # and the next line `seated` or `gone`
 
+    def is_small(self):
+        """Is it of version 3, but within the limits of the versions before?"""
+        return self.version == b'3' and self.size <= USUAL_SIZE and len(self.numbers) <= USUAL_VOLUNTEERS
+
+    def lacks_homes(self):
+        """Is it of version 2 without a household?"""
+        return self.version == b'2' and not self.homes
+
     def category(self, name):
         self.refuse(1, self.numbers)
         self.refuse(3, name in self.categories)
@@ -127,14 +146,14 @@ class Pool:
         self.refuse(6, any(value not in category for value, category in given))
         self.refuse(7, len(values) != len(self.categories))
         self.refuse(8, name in self.numbers)
-        self.refuse(10, not is_name(name) or len(self.numbers) == 400)
+        self.refuse(10, not is_name(name) or len(self.numbers) == (LARGE_VOLUNTEERS if self.version == b'3' else USUAL_VOLUNTEERS))
         for value, category in given:
             category[value][0].add(len(self.numbers))
         self.numbers[name] = len(self.numbers)
         self.standings.append('open')
 
     def household(self, name, home):
-        self.refuse(1, self.version == b'1' or self.standing_from > 0)
+        self.refuse(1, self.version == b'1' or self.standing_from > 0 or self.is_small())
         number = self.numbers.get(name, -1)
         self.refuse(9, number < self.home_from)
         self.refuse(10, not is_name(home))
@@ -142,14 +161,14 @@ class Pool:
         self.home_from = number + 1
 
     def standing(self, word, name):
-        self.refuse(1, self.version == b'2' and not self.homes)
+        self.refuse(1, self.lacks_homes() or self.is_small())
         number = self.numbers.get(name, -1)
         self.refuse(9, number < self.standing_from)
         self.standings[number] = word
         self.standing_from = number + 1
 
     def end(self):
-        self.refuse(1, self.version == b'2' and not self.homes)
+        self.refuse(1, self.lacks_homes() or self.is_small())
 
     def all_values(self):
         return [value for values in self.categories.values() for value in values.values()]
@@ -162,7 +181,7 @@ class Pool:
 def read_pool(lines, version):
     """A pool, from its second line up to `end`."""
     word, *fields = lines.take(12).split(b'\t')
-    size = number_of(fields[0], 1, 200) if word == b'size' and len(fields) == 1 else None
+    size = number_of(fields[0], 1, LARGE_SIZE if version == b'3' else USUAL_SIZE) if word == b'size' and len(fields) == 1 else None
     lines.refuse(2, size is None)
     pool = Pool(size, version, lines.refuse)
     forms = {(b'category', 1): pool.category, (b'value', 3): pool.value, (b'household', 2): pool.household,
@@ -220,7 +239,7 @@ def node_of(line, volunteers):
         return None if volunteer is None else ('split', volunteer)
     if word == b'bound' and len(fields) % 2 == 1:
         scale = number_of(fields[0], 0, LIMIT)
-        constraints, multipliers = numbers_of(fields[1::2], 0, LAST_CONSTRAINT), numbers_of(fields[2::2], -LIMIT, LIMIT)
+        constraints, multipliers = numbers_of(fields[1::2], 0, last_constraint(volunteers)), numbers_of(fields[2::2], -LIMIT, LIMIT)
         if None not in (scale, constraints, multipliers) and rise(constraints) and 0 not in multipliers:
             return 'bound', scale, list(zip(constraints, multipliers))
     return None
@@ -243,7 +262,7 @@ def read_trees(lines, first, last, volunteers):
     lines.refuse(22, lines.take(23) != b'tree\t%d' % first)
     trees = []
     for number in range(first, last + 1):
-        behind = b'close' if number == last else b'tree\t%d' % (number + 1) if number < MOST_TREES else None
+        behind = b'close' if number == last else b'tree\t%d' % (number + 1) if number < most_trees(volunteers) else None
         trees.append(read_tree(lines, behind, volunteers))
     lines.end(23)
     return trees
@@ -358,9 +377,9 @@ def check(text):
     lines = Lines(text)
     lines.refuse(21, lines.take(23) != b'proof\t1')
     line = lines.take(23)
-    word, version = line[:-2], line[-1:]
-    lines.refuse(22, line not in (b'bundle\t1', b'bundle\t2', b'pool\t1', b'pool\t2'))
-    if word == b'bundle':
+    word, version = line[:-1], line[-1:]
+    lines.refuse(22, word not in (b'bundle\t', b'pool\t') or version not in VERSIONS)
+    if word == b'bundle\t':
         lines.refuse(1, lines.take(12) != b'pool\t' + version)
         pool = read_pool(lines, version)
         total, panels, stages = read_lottery(lines, len(pool.numbers))

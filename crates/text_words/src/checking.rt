@@ -1,7 +1,7 @@
 //! Tests the fields of a line that may stand where it is.
 
-use crate::forms::{LineForm, Place, SECOND, Word};
-use crate::reading::{Entry, Reading, first_of, number_at, place_of};
+use crate::forms::{LARGE_VOLUNTEERS, LineForm, Place, USUAL_VOLUNTEERS, Word};
+use crate::reading::{Entry, Reading, first_of, number_at, place_of, version_said};
 use crate::rows::{Checked, first_of_rows};
 use std::alloc::{AllocError, Global};
 use std::str;
@@ -26,7 +26,7 @@ impl Reading<'_> {
             more => more == Some(0),
         };
         let name = first_of(rest);
-        let is_other = self.has_bundle && (name == SECOND) != self.is_second;
+        let is_other = self.has_bundle && 0 < self.version && version_said(name) != self.version;
         let (comes, _) = Place::PoolOfBundle.words();
         let is_category = matches!(form.word, Word::Category);
         let is_late = matches!(form.word, Word::Category | Word::Value)
@@ -101,7 +101,10 @@ impl Reading<'_> {
             0 < line => "this id is that of the volunteer in line {line}";
         };
         match words? {
-            None => self.check_name(id, self.volunteers.len(), 400),
+            None if self.version == 1 || self.version == 2 => {
+                self.check_name(id, self.volunteers.len(), USUAL_VOLUNTEERS)
+            }
+            None => self.check_name(id, self.volunteers.len(), LARGE_VOLUNTEERS),
             words => Ok(words),
         }
     }
@@ -143,10 +146,13 @@ impl Reading<'_> {
         };
         let number = place_of(&self.volunteers, id);
         let is_behind = number < Some(passed);
-        let words = first_of_rows! { self.alloc;;
-            is_home && !self.is_second => "a text with households says 2 in its first line, in a bundle in the lines \"bundle\" and \"pool\"; this one says 1";
+        let is_small = self.version == 3 && 0 < self.size && !self.is_large();
+        let words =
+            first_of_rows! { self.alloc; volunteers: Number(self.volunteers.len()), size: Number(self.size);
+            is_home && self.version == 1 => "a text with households says 2 in its first line, in a bundle in the lines \"bundle\" and \"pool\"; this one says 1";
             is_home && 0 < self.passed_standings => "all households come before the lines \"seated\" and \"gone\"";
-            !is_home && self.is_second && self.passed_households == 0 => "the text says version 2, which a text with households has, and no household came; without any it says version 1";
+            is_small => "the text says version 3, which a text with more than 400 volunteers or a size above 200 has; here there are {volunteers} and the size is {size}, so it says version 2 if it has households, else version 1";
+            !is_home && self.version == 2 && self.passed_households == 0 => "the text says version 2, which a text with households has, and no household came; without any it says version 1";
             !is_end && number.is_none() => "no volunteer has this id";
             !is_end && is_behind => "this volunteer doesn't come after the one of the line before: such lines are in the order of the volunteers, at most one for each";
         };
@@ -163,6 +169,7 @@ impl Reading<'_> {
             length == 0 => "the name or id is empty";
             200 < length => "the name or id has {length} bytes, and 200 are the most";
             name.iter().any(u8::is_ascii_control) => "{shown} has a control character, which no name or id may have";
+            most <= count && most == USUAL_VOLUNTEERS => "this is one too many: {most} are the most in version 1 and 2; a text with more says 3 in its first line, in a bundle in the lines \"bundle\" and \"pool\"";
             most <= count => "this is one too many: {most} are the most";
         }
     }
@@ -171,15 +178,24 @@ impl Reading<'_> {
     fn check_numbers(&self, form: &LineForm, rest: &[&[u8]]) -> Checked {
         let volunteers = self.volunteers.len();
         let last = volunteers as i128 - 1;
+        let is_large = if matches!(form.word, Word::Size) {
+            self.version == 3
+        } else {
+            USUAL_VOLUNTEERS < volunteers
+        };
         let mut least = 0;
         for (i, text) in rest.iter().enumerate() {
-            let (what, from, to, words) = form.field(i);
+            let (what, from, usual, large, words) = form.field(i);
             if what.is_empty() {
                 continue;
             }
             let is_person = what == "volunteer";
             let is_rising = is_person || what == "constraint";
-            let to = if is_person { last } else { to };
+            let to = match (is_person, is_large) {
+                (true, _) => last,
+                (false, true) => large,
+                (false, false) => usual,
+            };
             let number = signed_number(text);
             let is_zero = what == "multiplier" && number == Some(0);
             let is_right = Some(from) <= number && number <= Some(to) && !is_zero;

@@ -45,13 +45,35 @@ pub(crate) enum Place {
     Nothing,
 }
 
-/// What a field is: what its number is called, the least and the greatest, and words for these. Any bytes, if the number has no name.
-pub(crate) type Field = (&'static str, i128, i128, &'static str);
+/// What a field is: what its number is called, the least, the greatest within the usual limits and that within the large ones, and words
+/// for these. Any bytes, if the number has no name.
+pub(crate) type Field = (&'static str, i128, i128, i128, &'static str);
 
-const TEXT: Field = ("", 0, 0, "");
+const TEXT: Field = ("", 0, 0, 0, "");
 
-/// The number of a volunteer, which `reading` tests against the number of volunteers.
-const MEMBER: Field = ("volunteer", 0, 399, "the number of a volunteer");
+/// The number of a volunteer, which `checking` tests against the number of volunteers.
+const MEMBER: Field = ("volunteer", 0, 399, 3999, "the number of a volunteer");
+
+const WEIGHT: Field = (
+    "weight",
+    1,
+    MOST_WEIGHT,
+    MOST_WEIGHT,
+    "a number from 1 to 10^38",
+);
+
+/// The most volunteers within the usual limits, and within the large ones, which a text of version 3 has.
+pub(crate) const USUAL_VOLUNTEERS: usize = 400;
+
+pub(crate) const LARGE_VOLUNTEERS: usize = 4000;
+
+/// The greatest size of a panel within the usual limits.
+pub(crate) const USUAL_SIZE: usize = 200;
+
+/// The version of a proof or a cover, and that of a pool or a bundle.
+const ONE: Field = ("version", 1, 1, 1, "1");
+
+const VERSION: Field = ("version", 1, 3, 3, "1, 2 or 3");
 
 /// The greatest total, and the greatest weight of a panel: 10^38.
 const MOST_WEIGHT: i128 = 100_000_000_000_000_000_000_000_000_000_000_000_000;
@@ -63,6 +85,7 @@ const MOST_SCALE: i128 = 72_057_594_037_927_936;
 const WHOLE: Field = (
     "cap or weight",
     -i128::MAX,
+    i128::MAX,
     i128::MAX,
     "a whole number of at most 2^127 - 1",
 );
@@ -98,40 +121,39 @@ macro_rules! forms {
     };
 }
 
-/// How the second version of a pool or bundle is spelt.
-pub(crate) const SECOND: &[u8] = b"2";
-
 /// The form of a pool's first line, which a text is taken for until its first line shows what it is.
 pub(crate) const POOL: usize = 2;
 
 pub(crate) static FORMS: [LineForm; 22] = forms! {
-    Proof "proof" FirstLine-FirstLine > SecondOfProof [("version", 1, 1, "1")] [] "one field after it, the version"
-    Bundle "bundle" FirstLine-SecondOfProof > PoolOfBundle [("version", 1, 2, "1 or 2")] [] "one field after it, the version"
-    Pool "pool" FirstLine-PoolOfBundle > Size [("version", 1, 2, "1 or 2")] [] "one field after it, the version"
-    Size "size" Size-Size > Entries [("size of a panel", 1, 200, "a number from 1 to 200")] [] "one field after it, the number of members of a panel"
+    Proof "proof" FirstLine-FirstLine > SecondOfProof [ONE] [] "one field after it, the version"
+    Bundle "bundle" FirstLine-SecondOfProof > PoolOfBundle [VERSION] [] "one field after it, the version"
+    Pool "pool" FirstLine-PoolOfBundle > Size [VERSION] [] "one field after it, the version"
+    Size "size" Size-Size > Entries [("size of a panel", 1, 200, 1000, "a number from 1 to 200, or to 1000 if the text says version 3")] [] "one field after it, the number of members of a panel"
     Category "category" Entries-Entries > Entries [TEXT] [] "one field after it, a name"
     Value "value" Entries-Entries > Entries
-        [TEXT, ("lower bound", 0, 999, "a number from 0 to 999"), ("upper bound", 0, 999, "a number from 0 to 999")] []
+        [TEXT, ("lower bound", 0, 999, 999, "a number from 0 to 999"), ("upper bound", 0, 999, 999, "a number from 0 to 999")] []
         "three fields after it: a name, a lower bound and an upper bound"
     Volunteer "volunteer" Entries-Entries > Entries [TEXT] [TEXT] "an id after it, and a value for each category"
     Household "household" Entries-Entries > Entries [TEXT, TEXT] [] "two fields after it: a volunteer's id and the household's name"
     Seated "seated" Entries-Entries > Entries [TEXT] [] "one field after it, a volunteer's id"
     Gone "gone" Entries-Entries > Entries [TEXT] [] "one field after it, a volunteer's id"
     End "end" Entries-Entries > Total [] [] "no field after it"
-    Total "total" Total-Total > FirstPanel [("total", 1, MOST_WEIGHT, "a number from 1 to 10^38")] [] "one field after it, a number from 1 to 10^38"
-    Panel "panel" FirstPanel-Panels > Panels [("weight", 1, MOST_WEIGHT, "a number from 1 to 10^38"), MEMBER] [MEMBER]
+    Total "total" Total-Total > FirstPanel [("total", 1, MOST_WEIGHT, MOST_WEIGHT, "a number from 1 to 10^38")] [] "one field after it, a number from 1 to 10^38"
+    Panel "panel" FirstPanel-Panels > Panels [WEIGHT, MEMBER] [MEMBER]
         "a weight after it, and the numbers of its members"
     Stage "stage" Panels-Stages > Stages [WHOLE] [WHOLE] "a cap after it, and a weight for each volunteer"
     Done "done" Stages-Stages > FirstTree [] [] "no field after it"
     None "none" None-None > FirstTree [] [] "no field after it"
-    Tree "tree" FirstTree-Trees > Trees [("tree", 0, 400, "a number from 1 to 400, or 0 after \"none\"")] [] "one field after it, its number"
+    Tree "tree" FirstTree-Trees > Trees [("tree", 0, 400, 4000, "a number from 1 to 400, or to 4000 with more than 400 volunteers, or 0 after \"none\"")] [] "one field after it, its number"
     Split "split" Trees-Trees > Trees [MEMBER] [] "one field after it, the number of a volunteer"
-    Bound "bound" Trees-Trees > Trees [("scale", 0, MOST_SCALE, "a number from 0 to 2^56")]
-        [("constraint", 0, 1800, "a number from 0 to 1800"), ("multiplier", -MOST_SCALE, MOST_SCALE, "a whole number other than 0, from -2^56 to 2^56")]
+    Bound "bound" Trees-Trees > Trees [("scale", 0, MOST_SCALE, MOST_SCALE, "a number from 0 to 2^56")]
+        [("constraint", 0, 1800, 9000, "a number from 0 to 1800, or to 9000 with more than 400 volunteers"),
+            ("multiplier", -MOST_SCALE, MOST_SCALE, MOST_SCALE, "a whole number other than 0, from -2^56 to 2^56")]
         "a scale after it, and pairs of a constraint and a multiplier"
     Close "close" Trees-Trees > Nothing [] [] "no field after it"
-    Cover "cover" FirstLine-FirstLine > SecondOfProof [("version", 1, 1, "1")] [] "one field after it, the version"
-    Front "front" Trees-Trees > Trees [TEXT, ("number", 0, 1800, "a number from 0 to 1800")] [("count", 0, 400, "a number from 0 to 400")]
+    Cover "cover" FirstLine-FirstLine > SecondOfProof [ONE] [] "one field after it, the version"
+    Front "front" Trees-Trees > Trees [TEXT, ("number", 0, 1800, 9000, "a number from 0 to 1800, or to 9000 with more than 400 volunteers")]
+        [("count", 0, 400, 4000, "a number from 0 to 400, or to 4000 with more than 400 volunteers")]
         "a cause after it (size, value, house, closed or cap), a number, and counts"
 };
 
@@ -181,9 +203,9 @@ impl Place {
     pub(crate) fn words(self) -> (&'static str, &'static str) {
         choose! { self, Place;
             FirstLine ("a text of this program begins with \"pool\", \"bundle\", \"proof\" or \"cover\", a TAB and its version", "it has no line");
-            SecondOfProof ("the second line of a proof is \"bundle\" or \"pool\", that of a cover \"bundle\", then a TAB and the version, 1 or 2", "the pool or bundle is missing");
+            SecondOfProof ("the second line of a proof is \"bundle\" or \"pool\", that of a cover \"bundle\", then a TAB and the version, 1, 2 or 3", "the pool or bundle is missing");
             PoolOfBundle ("the pool of a bundle begins with \"pool\", a TAB and the version that the line \"bundle\" has", "the pool is missing");
-            Size ("the second line of a pool is \"size\", a TAB and the number of members of a panel, from 1 to 200", "the size is missing");
+            Size ("the second line of a pool is \"size\", a TAB and the number of members of a panel, from 1 to 200, or to 1000 in version 3", "the size is missing");
             Entries ("between the size and the end, lines begin with category, value, volunteer, household, seated or gone", "the line \"end\" is missing");
             Total ("after the pool's \"end\" comes \"total\", a TAB and a number from 1 to 10^38", "total, panels, stages and the line \"done\" are missing");
             FirstPanel ("a line \"panel\" comes after the total", "panels, stages and the line \"done\" are missing");

@@ -3,7 +3,9 @@
 //! lines that depend on it aren't called faulty as well. Of one line, the first flaw alone is told: the tests come in the order of the
 //! kinds of fault.
 
-use crate::forms::{FORMS, LineForm, POOL, Place, SECOND, Word, before, form_like};
+use crate::forms::{
+    FORMS, LineForm, POOL, Place, USUAL_SIZE, USUAL_VOLUNTEERS, Word, before, form_like,
+};
 use crate::rows::{Checked, Done, first_of_rows};
 use std::alloc::{AllocError, Global};
 use text_lines::{fields, number_up_to, signed_number};
@@ -40,8 +42,8 @@ pub(crate) struct Reading<'a> {
     pub(crate) tabs: usize,
     /// True if the text is a bundle or has one.
     pub(crate) has_bundle: bool,
-    /// True if the text is read as one of version 2.
-    pub(crate) is_second: bool,
+    /// The version that the text is read as: the one that it says until a line shows that it is another, or 0 if it says none.
+    pub(crate) version: usize,
     pub(crate) size: usize,
     pub(crate) categories: Vec<Entry<'a>>,
     /// The values of each category.
@@ -70,7 +72,7 @@ impl<'a> Reading<'a> {
             returns: 0,
             tabs: 0,
             has_bundle: false,
-            is_second: false,
+            version: 0,
             size: 0,
             categories: Vec::new(alloc),
             values: Vec::new(alloc),
@@ -197,10 +199,13 @@ impl<'a> Reading<'a> {
                 let has_trees = self.is_proof() || self.is_cover();
                 self.form = if has_trees { self.form } else { form };
                 self.has_bundle = true;
-                self.is_second = name == SECOND;
+                self.version = version_said(name);
             }
-            Word::Pool if !self.has_bundle => self.is_second = name == SECOND,
-            Word::Size => self.size = number_at(&rest, 0),
+            Word::Pool if !self.has_bundle => self.version = version_said(name),
+            Word::Size => {
+                self.size = number_at(&rest, 0);
+                self.note_large();
+            }
             Word::Total => self.total = weight,
             Word::Panel => {
                 self.panels = self.panels.saturating_add(1);
@@ -244,17 +249,20 @@ impl<'a> Reading<'a> {
                     values.push(entry)?;
                 }
             }
-            (Word::Volunteer, None) => self.volunteers.push(entry)?,
+            (Word::Volunteer, None) => {
+                self.volunteers.push(entry)?;
+                self.note_large();
+            }
             (Word::Household, Some(number)) => {
-                self.is_second = true;
                 self.passed_households = number.saturating_add(1);
+                self.note_version();
                 if let Some(volunteer) = self.volunteers.get_mut(number) {
                     volunteer.household = last;
                 }
             }
             (Word::Seated | Word::Gone, Some(number)) => {
-                self.is_second = self.is_second && 0 < self.passed_households;
                 self.passed_standings = number.saturating_add(1);
+                self.note_version();
                 if let Some(volunteer) = self.volunteers.get_mut(number) {
                     volunteer.standing = standing;
                 }
@@ -262,6 +270,29 @@ impl<'a> Reading<'a> {
             _ => {}
         }
         Ok(())
+    }
+}
+
+impl Reading<'_> {
+    /// True if the pool is beyond the usual limits, as a pool of version 3 is.
+    pub(crate) fn is_large(&self) -> bool {
+        USUAL_SIZE < self.size || USUAL_VOLUNTEERS < self.volunteers.len()
+    }
+
+    /// Reads the text as one of version 3 from here on, if the pool is beyond the usual limits.
+    fn note_large(&mut self) {
+        if self.is_large() {
+            self.version = 3;
+        }
+    }
+
+    /// Reads the text as one of the version that its lines up to here call for.
+    fn note_version(&mut self) {
+        self.version = match (self.is_large(), self.passed_households) {
+            (true, _) => 3,
+            (false, 0) => 1,
+            (false, _) => 2,
+        };
     }
 }
 
@@ -281,6 +312,11 @@ pub(crate) fn place_of(entries: &[Entry], name: &[u8]) -> Option<usize> {
         }
     }
     None
+}
+
+/// Returns the version that the field spells, or 0 if it spells none.
+pub(crate) fn version_said(field: &[u8]) -> usize {
+    number_up_to(3, field).unwrap_or(0)
 }
 
 /// Returns the number that the field at this place spells, or 0 if there is none.

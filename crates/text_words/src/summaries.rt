@@ -14,10 +14,9 @@ pub(crate) fn summary(alloc: Global, bytes: &[u8]) -> Result<String, AllocError>
         }
     }
     let mut text = String::new(alloc);
-    let version = if reading.is_second { 2 } else { 1 };
     let is_proof = reading.is_proof();
     let is_cover = reading.is_cover();
-    say! { &mut text; form: Words(reading.form.spelling), version: Number(version);
+    say! { &mut text; form: Words(reading.form.spelling), version: Number(reading.version);
         is_proof => "This is a proof, and each of its lines is right.";
         is_cover => "This is a cover, and each of its lines is right.";
         !is_proof && !is_cover => "This is a {form} of version {version}, and each of its lines is right.";
@@ -62,7 +61,7 @@ fn push_pool(text: &mut String, reading: &Reading) -> Done {
         0 < seated || 0 < gone => "Seated: {seated}; gone: {gone}.";
         left < size => "Hint: a panel of {size} is wanted, and only {left} of the volunteers aren't gone.";
         size < seated => "Hint: {seated} are seated, and the panel is of {size} only.";
-        reading.is_second => "With a household: {housed}; no two of one household are on a panel.";
+        0 < housed => "With a household: {housed}; no two of one household are on a panel.";
     };
     for (i, volunteer) in reading.volunteers.iter().enumerate() {
         let name = volunteer.household;
