@@ -14,8 +14,8 @@ use Rattle.define_pools.proofs.Weights.{total_panel}
 use Rattle.define_quotas.specs.declared.Side.{Side}
 use Rattle.define_quotas.specs.declared.Side.TheVariants.{AtLeast, AtMost}
 use Rattle.define_quotas.specs.declared.WeightedQuota.{WeightedQuota}
-use Rattle.define_quotas.specs.LeastMisses.{asked, given, given_by, is_side, quotas_of, taken_by, weighed_bound, weighed_bounds, weighed_misses, weight_for, weights_for}
-use Rattle.define_quotas.specs.Quotas.{MissAt, bound, counts, is_selection_at, keeps, miss, missed, misses}
+use Rattle.define_quotas.specs.LeastMisses.{asked, given, given_by, is_side, quotas_of, taken_by_standing, weighed_bound, weighed_bounds, weighed_misses, weight_for, weights_for}
+use Rattle.define_quotas.specs.Quotas.{MissAt, bound, is_counted, is_selection_at, keeps, miss, missed, misses}
 
 -- a double sum is the same whether it goes over `xs` or over `ys` first
 exchanged : {X Y : Type 0} (f : X → Y → ℕ) (xs : List X) (ys : List Y) → total (λ x. total (f x) ys) xs ≡ total (λ y. total (λ x. f x y) xs) ys
@@ -64,7 +64,7 @@ module _ (selection : List ℕ) where
     weighed_miss it = it.weight * miss pool selection it.quota
 
     one_quota : (it : WeightedQuota) → weighed_bound pool AtLeast it + over_members AtMost it ≤ over_members AtLeast it + (weighed_bound pool AtMost it + weighed_miss it)
-    one_quota it = one_side it.quota.side (bound pool it.quota) it.weight (counts pool it.quota.counted)
+    one_quota it = one_side it.quota.side (bound pool it.quota) it.weight (is_counted pool it.quota.counted)
 
     -- the sum, over the selection's members, of the weights of the quotas of this side that count the member
     abbrev members_weigh : Side → List WeightedQuota → ℕ
@@ -96,7 +96,7 @@ module _ (selection : List ℕ) where
 
 -- one volunteer's part of the sums: what is taken, plus `l` for a member, is at most `m` for a member plus what is given. `l` and `m` are
 -- the weights of the quotas with least and with greatest numbers that count the volunteer; `is_in` says whether the volunteer is a member
-one_volunteer : (standing : Standing) (is_in : Bool) (l m : ℕ) → allows standing is_in ≡ true → taken_by standing m + cond is_in l 0 ≤ cond is_in m 0 + given_by standing l m
+one_volunteer : (standing : Standing) (is_in : Bool) (l m : ℕ) → allows standing is_in ≡ true → taken_by_standing standing m + cond is_in l 0 ≤ cond is_in m 0 + given_by standing l m
 one_volunteer Open true l m h = omega arith
 one_volunteer Open false l m h = omega arith
 one_volunteer Seated true l m h = omega arith
@@ -106,7 +106,7 @@ one_volunteer Gone false l m h = omega arith
 
 module _ (selection : List ℕ) (l m : ℕ → ℕ) where
   abbrev takes : ℕ × Standing → ℕ
-  takes (i, standing) = taken_by standing (m i)
+  takes (i, standing) = taken_by_standing standing (m i)
 
   abbrev gives : ℕ × Standing → ℕ
   gives (i, standing) = given_by standing (l i) (m i)

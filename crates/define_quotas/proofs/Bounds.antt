@@ -18,7 +18,7 @@ use Rattle.define_quotas.specs.declared.Side.{Side}
 use Rattle.define_quotas.specs.declared.Side.TheVariants.{AtLeast, AtMost}
 use Rattle.define_quotas.specs.declared.WeightedQuota.{WeightedQuota}
 use Rattle.define_quotas.specs.LeastMisses.{asked, given, quotas_of, weighed_misses}
-use Rattle.define_quotas.specs.Quotas.{bound_of, counts, is_selection_at, miss, missed, misses}
+use Rattle.define_quotas.specs.Quotas.{bound_of, is_counted, is_selection_at, miss, missed, misses}
 use Rattle.define_quotas.proofs.Asking.{asked_or_missed, few_misses}
 use Rattle.define_quotas.proofs.NoPanel.{own_household_met, own_selected, own_size_met}
 use Rattle.define_quotas.proofs.Splits.{selection_set}
@@ -35,7 +35,7 @@ use Rattle.define_quotas.proofs.CostsAsked.{misses_are_cost, total-append}
 module _ (pool : Pool) (team : List ℕ) (is : is_team pool team ≡ true) where
   -- by how many people the team misses a quota
   abbrev missed_of : Side → Counted → ℕ
-  missed_of side counted = missed side (bound_of pool side counted) (count_by (counts pool counted) team)
+  missed_of side counted = missed side (bound_of pool side counted) (count_by (is_counted pool counted) team)
 
   -- a team misses no quota of the size or of a household: it is a quota panel of the pool that is loosened for it, and this pool has the
   -- same size, volunteers and households

@@ -20,8 +20,8 @@ use Rattle.define_quotas.specs.declared.Quota.{Quota}
 use Rattle.define_quotas.specs.declared.Side.{Side}
 use Rattle.define_quotas.specs.declared.Side.TheVariants.{AtLeast, AtMost}
 use Rattle.define_quotas.specs.LeastMisses.{is_side}
-use Rattle.define_quotas.specs.OnlyQuotas.{has_household, has_value, is_in_household, is_of_value, only, only_category, only_value, only_volunteer}
-use Rattle.define_quotas.specs.Quotas.{MissBy, bound_of, category_at, counts, is_counted_of, is_quota_of, is_selection, keeps, miss, missed, misses, value_at}
+use Rattle.define_quotas.specs.OnlyQuotas.{has_household, names_value, is_in_household, is_of_value, only, only_category, only_value, only_volunteer}
+use Rattle.define_quotas.specs.Quotas.{MissBy, bound_of, category_at, is_counted, is_counted_of, is_quota_of, is_selection, keeps, miss, missed, misses, value_at}
 
 -- ---- numbers of elements that pass a test
 
@@ -75,14 +75,14 @@ module _ (pool : Pool) where
   -- this side; a household if, for each of its members, one of the quotas is of the household
   Named : List Quota → Side → Counted → Type 0
   Named quotas side Everybody = Unit {0}
-  Named quotas side (WithValue category value) = has_value quotas side category value ≡ true
+  Named quotas side (WithValue category value) = names_value quotas side category value ≡ true
   Named quotas side (OfHousehold member) = (i : ℕ) → share_household pool.volunteers member i ≡ true → has_household pool quotas i ≡ true
 
   named_here : (quotas : List Quota) (side : Side) (counted : Counted) → Named (record { counted = counted; side = side } ∷ quotas) side counted
   unfolding Named
   named_here quotas side Everybody = tt
   named_here quotas side (WithValue category value) =
-      or_first (is_side side side && (eqb category category && eqb value value)) (has_value quotas side category value)
+      or_first (is_side side side && (eqb category category && eqb value value)) (names_value quotas side category value)
       (and_from (is_side side side) (eqb category category && eqb value value) (same_side side)
       (and_from (eqb category category) (eqb value value) (eq-eqb category category refl) (eq-eqb value value refl)))
   named_here quotas side (OfHousehold member) = λ i h. or_first (share_household pool.volunteers member i) (has_household pool quotas i) h
@@ -90,7 +90,7 @@ module _ (pool : Pool) where
   named_later : (quota : Quota) (quotas : List Quota) (side : Side) (counted : Counted) → Named quotas side counted → Named (quota ∷ quotas) side counted
   unfolding Named
   named_later quota quotas side Everybody h = tt
-  named_later quota quotas side (WithValue category value) h = or_later (is_side side quota.side && is_of_value category value quota.counted) (has_value quotas side category value) h
+  named_later quota quotas side (WithValue category value) h = or_later (is_side side quota.side && is_of_value category value quota.counted) (names_value quotas side category value) h
   named_later quota quotas side (OfHousehold member) h = λ i e. or_later (is_in_household pool i quota.counted) (has_household pool quotas i) (h i e)
 
   each_named : (quotas : List Quota) → AllByRecursion (λ quota. Named quotas quota.side quota.counted) quotas
@@ -188,22 +188,22 @@ module _ (pool : Pool) where
             subst (λ n. is_within (only_value quotas c (n, value_at pool c v)) (members_with kept.volunteers panel c n) ≡ true) here
             (subst (λ value. is_within value (members_with kept.volunteers panel c (0 + v)) ≡ true) is at)
 
-        same_members : members_with kept.volunteers panel c v ≡ count_by (counts pool (WithValue c v)) panel
+        same_members : members_with kept.volunteers panel c v ≡ count_by (is_counted pool (WithValue c v)) panel
         same_members =
-            same_count (λ i. eqb (slice_index (volunteer kept.volunteers i).values c) v) (counts pool (WithValue c v))
+            same_count (λ i. eqb (slice_index (volunteer kept.volunteers i).values c) v) (is_counted pool (WithValue c v))
             (λ i. ap (λ values. eqb (slice_index values c) v) (same_values 0 pool.volunteers i)) panel
 
-        value_met : (side : Side) → has_value quotas side c v ≡ true → missed side (bound_of pool side (WithValue c v)) (count_by (counts pool (WithValue c v)) panel) ≡ 0
+        value_met : (side : Side) → names_value quotas side c v ≡ true → missed side (bound_of pool side (WithValue c v)) (count_by (is_counted pool (WithValue c v)) panel) ≡ 0
         value_met AtLeast named =
             let many = members_with kept.volunteers panel c v in
             let value = value_at pool c v in
-            let both = and_parts (leb (cond (has_value quotas AtLeast c v) value.lower 0) many) (leb many (cond (has_value quotas AtMost c v) value.upper 999)) value_within in
+            let both = and_parts (leb (cond (names_value quotas AtLeast c v) value.lower 0) many) (leb many (cond (names_value quotas AtMost c v) value.upper 999)) value_within in
             let least = leb-true value.lower many (subst (λ b. leb (cond b value.lower 0) many ≡ true) named both.0) in
             let same = same_members in omega (arith, least, same)
         value_met AtMost named =
             let many = members_with kept.volunteers panel c v in
             let value = value_at pool c v in
-            let both = and_parts (leb (cond (has_value quotas AtLeast c v) value.lower 0) many) (leb many (cond (has_value quotas AtMost c v) value.upper 999)) value_within in
+            let both = and_parts (leb (cond (names_value quotas AtLeast c v) value.lower 0) many) (leb many (cond (names_value quotas AtMost c v) value.upper 999)) value_within in
             let most = leb-true many value.upper (subst (λ b. leb many (cond b value.upper 999) ≡ true) named both.1) in
             let same = same_members in omega (arith, most, same)
 
@@ -235,7 +235,7 @@ module _ (pool : Pool) where
             ⊎_elim (λ (no : total (λ i. one_if (share i)) panel ≡ 0). let r : count_by share panel ≤ 1 = omega (arith, no, same) in r)
             (λ (one : count_by share panel ≤ 1). one) (none_or_one share (count_by share panel) panel each)
 
-        household_met : (side : Side) → missed side (bound_of pool side (OfHousehold member)) (count_by (counts pool (OfHousehold member)) panel) ≡ 0
+        household_met : (side : Side) → missed side (bound_of pool side (OfHousehold member)) (count_by (is_counted pool (OfHousehold member)) panel) ≡ 0
         household_met AtLeast = omega arith
         household_met AtMost = let le = few in omega (arith, le)
 
@@ -246,11 +246,11 @@ module _ (pool : Pool) where
       size_met AtMost = let many = everybody_counts panel in let size = parts.size in omega (arith, many, size)
 
       counted_met : (side : Side) (counted : Counted) → is_counted_of pool counted ≡ true → Named quotas side counted →
-          missed side (bound_of pool side counted) (count_by (counts pool counted) panel) ≡ 0
+          missed side (bound_of pool side counted) (count_by (is_counted pool counted) panel) ≡ 0
       unfolding Named
       counted_met side Everybody of_pool named = any side
         where
-          any : (side : Side) → missed side (bound_of pool side Everybody) (count_by (counts pool Everybody) panel) ≡ 0
+          any : (side : Side) → missed side (bound_of pool side Everybody) (count_by (is_counted pool Everybody) panel) ≡ 0
           any AtLeast = size_met AtLeast
           any AtMost = size_met AtMost
       counted_met side (WithValue c v) of_pool named =
@@ -321,7 +321,7 @@ module _ (pool : Pool) (panel : List ℕ) (is : is_quota_panel pool panel ≡ tr
         subst (λ n. is_within (value_at pool c v) (members_with pool.volunteers panel c n) ≡ true) here
         (enumerated-each within 0 (category_at pool c).values own_category v (record { name = []; lower = 0; upper = 0 }) in_values)
 
-    own_value_met : (side : Side) → missed side (bound_of pool side (WithValue c v)) (count_by (counts pool (WithValue c v)) panel) ≡ 0
+    own_value_met : (side : Side) → missed side (bound_of pool side (WithValue c v)) (count_by (is_counted pool (WithValue c v)) panel) ≡ 0
     own_value_met AtLeast =
         let many = members_with pool.volunteers panel c v in
         let value = value_at pool c v in
@@ -351,15 +351,15 @@ module _ (pool : Pool) (panel : List ℕ) (is : is_quota_panel pool panel ≡ tr
         ⊎_elim (λ (no : total (λ i. one_if (shares i)) panel ≡ 0). let r : count_by shares panel ≤ 1 = omega (arith, no, same) in r)
         (λ (one : count_by shares panel ≤ 1). one) (none_or_one shares (count_by shares panel) panel each)
 
-    pub own_household_met : (side : Side) → missed side (bound_of pool side (OfHousehold member)) (count_by (counts pool (OfHousehold member)) panel) ≡ 0
+    pub own_household_met : (side : Side) → missed side (bound_of pool side (OfHousehold member)) (count_by (is_counted pool (OfHousehold member)) panel) ≡ 0
     own_household_met AtLeast = omega arith
     own_household_met AtMost = let le = own_few in omega (arith, le)
 
-  pub own_size_met : (side : Side) → missed side (bound_of pool side Everybody) (count_by (counts pool Everybody) panel) ≡ 0
+  pub own_size_met : (side : Side) → missed side (bound_of pool side Everybody) (count_by (is_counted pool Everybody) panel) ≡ 0
   own_size_met AtLeast = let many = everybody_counts panel in let size = own_parts.size in omega (arith, many, size)
   own_size_met AtMost = let many = everybody_counts panel in let size = own_parts.size in omega (arith, many, size)
 
-  own_met : (side : Side) (counted : Counted) → is_counted_of pool counted ≡ true → missed side (bound_of pool side counted) (count_by (counts pool counted) panel) ≡ 0
+  own_met : (side : Side) (counted : Counted) → is_counted_of pool counted ≡ true → missed side (bound_of pool side counted) (count_by (is_counted pool counted) panel) ≡ 0
   own_met side Everybody of_pool = own_size_met side
   own_met side (WithValue c v) of_pool =
       let both = and_parts (ltb c (length pool.categories)) (ltb v (length (category_at pool c).values)) of_pool in

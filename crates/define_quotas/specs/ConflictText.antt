@@ -12,7 +12,7 @@ use Rattle.define_quotas.specs.declared.Counted.TheVariants.{Everybody, WithValu
 use Rattle.define_quotas.specs.declared.Quota.{Quota}
 use Rattle.define_quotas.specs.declared.Side.{Side}
 use Rattle.define_quotas.specs.declared.Side.TheVariants.{AtLeast, AtMost}
-use Rattle.define_quotas.specs.Quotas.{Conflict, bound, category_at, counts, value_at}
+use Rattle.define_quotas.specs.Quotas.{Conflict, bound, category_at, is_counted, value_at}
 
 abbrev pub is_seated : Standing → Bool
 is_seated Open = false
@@ -27,7 +27,7 @@ is_available Gone = false
 
 -- how many volunteers whom a quota counts have a standing that passes a test
 abbrev pub number_standing : (Standing → Bool) → Pool → Counted → ℕ
-number_standing passes pool counted = count_by (λ i. counts pool counted i && passes (volunteer pool.volunteers i).standing) (everybody pool)
+number_standing passes pool counted = count_by (λ i. is_counted pool counted i && passes (volunteer pool.volunteers i).standing) (everybody pool)
 
 -- how many volunteers whom a quota counts aren't gone
 abbrev pub available : Pool → Counted → ℕ

@@ -14,7 +14,7 @@ is_met_by_teams Everybody = true
 is_met_by_teams (WithValue category value) = false
 is_met_by_teams (OfHousehold member) = true
 
--- the cost is at least the given number; no cost is at least None
+-- the cost is at least the given number. Without a number there is no team, so no cost either
 abbrev pub IsAtLeast : Option ℕ → ℕ → Type 0
 IsAtLeast None cost = ⊥
 IsAtLeast (Some least) cost = least ≤ cost

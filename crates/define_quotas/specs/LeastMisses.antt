@@ -10,7 +10,7 @@ use Rattle.define_quotas.specs.declared.Quota.{Quota}
 use Rattle.define_quotas.specs.declared.Side.{Side}
 use Rattle.define_quotas.specs.declared.Side.TheVariants.{AtLeast, AtMost}
 use Rattle.define_quotas.specs.declared.WeightedQuota.{WeightedQuota}
-use Rattle.define_quotas.specs.Quotas.{bound, counts, miss}
+use Rattle.define_quotas.specs.Quotas.{bound, is_counted, miss}
 
 -- the quotas, without their weights
 abbrev pub quotas_of : List WeightedQuota → List Quota
@@ -32,7 +32,7 @@ weighed_bounds pool side weighted = sum_by (weighed_bound pool side) weighted
 
 -- the weight of a quota if it is of this side and counts volunteer `i`, else 0
 abbrev pub weight_for : Pool → Side → ℕ → WeightedQuota → ℕ
-weight_for pool side i it = if is_side side it.quota.side && counts pool it.quota.counted i then it.weight else 0
+weight_for pool side i it = if is_side side it.quota.side && is_counted pool it.quota.counted i then it.weight else 0
 
 -- the sum of the weights of the quotas of a side that count volunteer `i`
 abbrev pub weights_for : Pool → Side → List WeightedQuota → ℕ → ℕ
@@ -40,14 +40,14 @@ weights_for pool side weighted i = sum_by (weight_for pool side i) weighted
 
 -- what a volunteer takes from every selection: `most` if the volunteer is seated, else 0. `most` is the sum of the weights of the quotas
 -- with greatest numbers that count this volunteer
-abbrev pub taken_by : Standing → ℕ → ℕ
-taken_by Open most = 0
-taken_by Seated most = most
-taken_by Gone most = 0
+abbrev pub taken_by_standing : Standing → ℕ → ℕ
+taken_by_standing Open most = 0
+taken_by_standing Seated most = most
+taken_by_standing Gone most = 0
 
 -- the most that a volunteer gives to a selection. `least` and `most` are the sums of the weights of the quotas with least and with greatest
--- numbers that count this volunteer. Someone who is open gives `least` less `most`, or 0 if `most` is greater, since a selection may leave
--- this volunteer out; someone who is seated gives `least`
+-- numbers that count this volunteer. For someone who is open it is `least` minus `most`, or 0 if `most` is greater, since a selection may
+-- leave this volunteer out. For someone who is seated it is `least`
 abbrev pub given_by : Standing → ℕ → ℕ → ℕ
 given_by Open least most = least - most
 given_by Seated least most = least
@@ -57,7 +57,7 @@ given_by Gone least most = 0
 abbrev pub asked : Pool → List WeightedQuota → List Standing → ℕ
 asked pool weighted all =
     weighed_bounds pool AtLeast weighted
-    + sum_by (λ (i, standing). taken_by standing (weights_for pool AtMost weighted i)) (enumerate_from 0 all)
+    + sum_by (λ (i, standing). taken_by_standing standing (weights_for pool AtMost weighted i)) (enumerate_from 0 all)
 
 -- the most that a selection that keeps the standings `all` can give: the sum of the bounds of the quotas with greatest numbers, each times
 -- its quota's weight, and of the most that each volunteer gives

@@ -18,8 +18,8 @@ is_of_value category value (WithValue own_category own_value) = category == own_
 is_of_value category value (OfHousehold member) = false
 
 -- one of the quotas is of this side of a value
-abbrev pub has_value : List Quota → Side → ℕ → ℕ → Bool
-has_value quotas side category value = list_any (λ quota. is_side side quota.side && is_of_value category value quota.counted) quotas
+abbrev pub names_value : List Quota → Side → ℕ → ℕ → Bool
+names_value quotas side category value = list_any (λ quota. is_side side quota.side && is_of_value category value quota.counted) quotas
 
 -- volunteer `i` is of the household that the quota counts
 abbrev pub is_in_household : Pool → ℕ → Counted → Bool
@@ -33,8 +33,8 @@ has_household pool quotas i = list_any (λ quota. is_in_household pool i quota.c
 
 abbrev pub only_value : List Quota → ℕ → ℕ × BoundedValue → BoundedValue
 only_value quotas category (place, value) = record value {
-  lower = if has_value quotas AtLeast category place then value.lower else 0;
-  upper = if has_value quotas AtMost category place then value.upper else 999;
+  lower = if names_value quotas AtLeast category place then value.lower else 0;
+  upper = if names_value quotas AtMost category place then value.upper else 999;
 }
 
 abbrev pub only_category : List Quota → ℕ × Category → Category

@@ -13,10 +13,10 @@ use Rattle.define_quotas.specs.declared.Side.{Side}
 use Rattle.define_quotas.specs.declared.Side.TheVariants.{AtLeast, AtMost}
 
 -- volunteer `i` is among those whom a quota counts
-abbrev pub counts : Pool → Counted → ℕ → Bool
-counts pool Everybody i = true
-counts pool (WithValue category value) i = slice_index (volunteer pool.volunteers i).values category == value
-counts pool (OfHousehold member) i = share_household pool.volunteers member i
+abbrev pub is_counted : Pool → Counted → ℕ → Bool
+is_counted pool Everybody i = true
+is_counted pool (WithValue category value) i = slice_index (volunteer pool.volunteers i).values category == value
+is_counted pool (OfHousehold member) i = share_household pool.volunteers member i
 
 -- the category at place `place`; if there is none, one without values
 abbrev pub category_at : Pool → ℕ → Category
@@ -79,7 +79,7 @@ missed AtMost greatest number = number - greatest
 
 -- by how many people a selection misses a quota: how many of those whom the quota counts are wanting, or are too many
 abbrev pub miss : Pool → List ℕ → Quota → ℕ
-miss pool selection quota = missed quota.side (bound pool quota) (count_by (counts pool quota.counted) selection)
+miss pool selection quota = missed quota.side (bound pool quota) (count_by (is_counted pool quota.counted) selection)
 
 -- by how many people a selection misses quotas in all
 abbrev pub misses : Pool → List ℕ → List Quota → ℕ
@@ -112,7 +112,7 @@ names_size quotas = list_any (λ quota. is_everybody quota.counted) quotas
 -- some selection meets all quotas but the one at place `place`, and has the panel's size if no quota is of the size
 pub record IsNeeded (pool : Pool) (quotas : List Quota) (place : ℕ) : Type 0 where
   pub selection : List ℕ
-  pub is : IsTrue (is_selection pool selection)
+  pub keeps : IsTrue (is_selection pool selection)
   pub others : IsTrue (meets pool selection (remove quotas place))
   pub size : IsTrue (names_size quotas || length selection == pool.size)
 

@@ -3,7 +3,7 @@
 
 ghost use Rattle.std.specs.Prelude.{◌≡◌, ◌≤◌, ◌<◌, ◌-◌, ◌*◌, ◌/◌, ℕ, length, nat_le, IfSome, IsTrue};
 ghost use Rattle.std.specs.List.{list_all};
-ghost use Rattle.define_quotas.specs.LeastMisses.{asked as asked_of, given as given_of, given_by as given_by_one, is_side as is_same_side, quotas_of, taken_by as taken_by_one, weighed_bound as weighed_bound_of, weighed_bounds as weighed_bounds_of, weights_for as weights_for_one};
+ghost use Rattle.define_quotas.specs.LeastMisses.{asked as asked_of, given as given_of, given_by as given_by_one, is_side as is_same_side, quotas_of, taken_by_standing as taken_by_one, weighed_bound as weighed_bound_of, weighed_bounds as weighed_bounds_of, weights_for as weights_for_one};
 ghost use Rattle.define_quotas.specs.Quotas.{MissAt};
 
 use crate::quotas::{bound, counts};
@@ -64,7 +64,7 @@ pub fn asked(pool: &Pool, weighted: &[WeightedQuota], standings: &[Standing]) ->
     let mut taken: usize = 0;
     for (i, standing) in standings.iter().enumerate() {
         let most = weights_for(pool, Side::AtMost, weighted, i)?;
-        taken = taken.checked_add(taken_by(*standing, most))?;
+        taken = taken.checked_add(taken_by_standing(*standing, most))?;
     }
     weighed_bounds(pool, Side::AtLeast, weighted)?.checked_add(taken)
 }
@@ -86,7 +86,7 @@ pub fn given(pool: &Pool, weighted: &[WeightedQuota], standings: &[Standing]) ->
 
 /// Returns what a volunteer takes from every selection: `most` if the volunteer is seated, else 0. `most` is the sum of the weights of the
 /// `AtMost` quotas that count the volunteer.
-fn taken_by(standing: Standing, most: usize) -> usize
+fn taken_by_standing(standing: Standing, most: usize) -> usize
     ensures { result ≡ taken_by_one standing most }
 {
     match standing {

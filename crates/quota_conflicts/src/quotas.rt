@@ -4,7 +4,7 @@
 ghost use Rattle.std.specs.Prelude.{◌≡◌, ◌<◌, count_by, length, nat_lt, IsTrue, slice_index};
 ghost use Rattle.std.specs.List.{list_all, list_any, range_with_len};
 ghost use Rattle.define_pools.specs.Pool.{share_household as share_of, volunteer as volunteer_of};
-ghost use Rattle.define_quotas.specs.Quotas.{bound as bound_of, counts as counts_of, is_quota_of as is_of, meets as meets_of, miss as miss_of, side_bound, value_in as value_of};
+ghost use Rattle.define_quotas.specs.Quotas.{bound as bound_of, is_counted as counts_of, is_quota_of as is_of, meets as meets_of, miss as miss_of, side_bound, value_in as value_of};
 
 use define_quotas::{Counted, Quota, Side};
 use pool_model::{BoundedValue, Category, Pool, Volunteer, share_household};

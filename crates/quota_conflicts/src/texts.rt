@@ -4,7 +4,7 @@ ghost use Rattle.std.specs.Prelude.{◌≡◌, ◌<◌, ◌&&◌, ◌++◌, leng
 ghost use Rattle.std.specs.Fmt.{decimal};
 ghost use Rattle.define_pools.specs.Pool.{volunteer};
 ghost use Rattle.define_quotas.specs.ConflictText.{available as available_of, is_available as is_available_one, is_seated as is_seated_one, conflict_text as words_of_conflict, counted_words, miss_line, need_line, quota_line, seated as seated_of, side_words};
-ghost use Rattle.define_quotas.specs.Quotas.{counts as counts_of};
+ghost use Rattle.define_quotas.specs.Quotas.{is_counted as counts_of};
 
 use crate::checks::Conflict;
 use crate::quotas::{bound, counts};
