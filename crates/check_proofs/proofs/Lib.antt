@@ -1,4 +1,3 @@
-pub mod Coefficients
 pub mod KeptRows
 pub mod LeafSteps
 pub mod PathSteps

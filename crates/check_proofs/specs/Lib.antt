@@ -1,4 +1,3 @@
-pub mod Coefficients
 pub mod Kept
 pub mod Paths
 pub mod Steps

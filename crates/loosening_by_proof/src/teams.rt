@@ -30,10 +30,12 @@ fn keep_widest(categories: &[Category], volunteers: &[Volunteer], members: &[usi
     requires { IsTrue (list_all (λ i. nat_lt i (length volunteers.now)) members.now) }
     ensures { result ≡ meets_quotas (map widest_category categories.now) volunteers.now members.now }
 {
-    categories
-        .iter()
-        .enumerate()
-        .all(|(c, category)| few_have_each(category.values(), volunteers, members, c))
+    categories.iter().enumerate().all(|(c, category)| few_have_each(
+        category.values(),
+        volunteers,
+        members,
+        c,
+    ))
 }
 
 /// True if each value of a category has at most 999 members.
@@ -46,10 +48,8 @@ fn few_have_each(
     requires { IsTrue (list_all (λ i. nat_lt i (length volunteers.now)) members.now) }
     ensures { result ≡ list_all (λ (v, value). nat_le (members_with volunteers.now members.now category v) 999) (enumerate_from 0 values.now) }
 {
-    values
-        .iter()
-        .enumerate()
-        .all(|(v, _value)| number_with(volunteers, members, category, v) <= MOST)
+    values.iter().enumerate().all(|(v, _value)| number_with(volunteers, members, category, v)
+        <= MOST)
 }
 
 fn keep_households(volunteers: &[Volunteer], members: &[usize]) -> bool

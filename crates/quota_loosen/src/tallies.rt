@@ -48,10 +48,11 @@ pub(crate) fn hold_few(bounds: &[ValueBounds], held: &[usize]) -> bool
     requires { length bounds.now ≤ 20 }
     ensures { result ≡ list_all (λ (c, values). are_few values held.now c) (enumerate_from 0 bounds.now) }
 {
-    bounds
-        .iter()
-        .enumerate()
-        .all(|(category, values)| hold_few_of(values.as_slice(), held, category))
+    bounds.iter().enumerate().all(|(category, values)| hold_few_of(
+        values.as_slice(),
+        held,
+        category,
+    ))
 }
 
 // True if the number of each value of a category is at most the greatest bound that it may have.
@@ -59,10 +60,8 @@ fn hold_few_of(values: &[Bounds], held: &[usize], category: usize) -> bool
     requires { category < 20 }
     ensures { result ≡ are_few values.now held.now category }
 {
-    values
-        .iter()
-        .enumerate()
-        .all(|(value, _bound)| number_in(held, PLACES * category + value) <= MOST)
+    values.iter().enumerate().all(|(value, _bound)| number_in(held, PLACES * category + value)
+        <= MOST)
 }
 
 // Returns the number in a cell, or 0 if there is no such cell.
