@@ -72,7 +72,7 @@ impl Tally {
     /// Adds `count` members of the next class to what the front takes.
     pub fn take(&mut self, classes: &Classes, front: &[usize], count: usize)
         requires below { length front.now < length classes.now.classes }
-        requires small { taken_by classes.now front.now ≤ 1000 }
+        requires small { taken_by classes.now front.now ≤ 4000 }
         requires few { count ≤ 4000 }
         requires stands { Tracks classes.now front.now (drop (length front.now + 1) classes.now.classes) self.old }
         ensures { Tracks classes.now (front.now ++ count ∷ []) (drop (length front.now + 1) classes.now.classes) self.new }
@@ -183,7 +183,7 @@ impl Tally {
 
     /// True if the front takes at most the size, and the later classes can give the rest.
     pub fn reaches_size(&self, classes: &Classes, front: &[usize]) -> bool
-        requires few { taken_by classes.now front.now ≤ 1000 }
+        requires few { taken_by classes.now front.now ≤ 4000 }
         requires stands { Tracks classes.now front.now (drop (length front.now) classes.now.classes) self.now }
         ensures { result ≡ size_reachable classes.now front.now }
     {
@@ -199,7 +199,7 @@ impl Tally {
         category: usize,
         value: usize,
     ) -> bool
-        requires few { taken_by classes.now front.now ≤ 1000 }
+        requires few { taken_by classes.now front.now ≤ 4000 }
         requires category { category < length classes.now.bounds }
         requires value { value < length (slice_index_or classes.now.bounds category []) }
         requires stands { Tracks classes.now front.now (drop (length front.now) classes.now.classes) self.now }
@@ -213,7 +213,7 @@ impl Tally {
 
     /// True if the front takes at most one member of each household.
     pub fn takes_one_a_household(&self, classes: &Classes, front: &[usize]) -> bool
-        requires few { taken_by classes.now front.now ≤ 1000 }
+        requires few { taken_by classes.now front.now ≤ 4000 }
         requires stands { Tracks classes.now front.now (drop (length front.now) classes.now.classes) self.now }
         ensures { result ≡ takes_one_a_household classes.now.classes front.now }
     {

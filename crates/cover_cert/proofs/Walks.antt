@@ -19,7 +19,7 @@ module _ (all : Classes) (front : List ℕ) (place : ℕ) (below : place < lengt
   next : take (place + 1) front ≡ first ++ count ∷ []
   next = take_more front place 0 below
 
-  pub small : KeepsLimits all → AreWithin all front → taken_by all first ≤ 1000
+  pub small : KeepsLimits all → AreWithin all front → taken_by all first ≤ 4000
   small limits within = omega (arith, within_few all first limits (within_first all front place within (omega arith)))
 
   pub at_first : (tally : FrontTally) (n : ℕ) → n ≡ place → Tracks all (take n front) (drop n all.classes) tally → Tracks all first (drop (length first) all.classes) tally

@@ -89,7 +89,7 @@ impl Tally {
     // Lets the front take `count` of the next class.
     pub(crate) fn take(&mut self, classes: &Classes, front: &[usize], count: usize)
         requires below { length front.now < length classes.now.classes }
-        requires small { taken_by classes.now front.now ≤ 1000 }
+        requires small { taken_by classes.now front.now ≤ 4000 }
         requires few { count ≤ 4000 }
         requires stands { Tracks classes.now front.now (drop (length front.now + 1) classes.now.classes) self.old }
         ensures { Tracks classes.now (front.now ++ count ∷ []) (drop (length front.now + 1) classes.now.classes) self.new }
@@ -144,7 +144,7 @@ impl Tally {
 
     // True if the front is reachable.
     pub(crate) fn is_alive(&self, classes: &Classes, front: &[usize]) -> bool
-        requires small { taken_by classes.now front.now ≤ 1000 }
+        requires small { taken_by classes.now front.now ≤ 4000 }
         requires stands { Tracks classes.now front.now (drop (length front.now) classes.now.classes) self.now }
         ensures { result ≡ is_reachable classes.now front.now }
     {
@@ -153,7 +153,7 @@ impl Tally {
 
     // True if the size and each value's bounds can still be met.
     fn counts_alive(&self, classes: &Classes, front: &[usize]) -> bool
-        requires small { taken_by classes.now front.now ≤ 1000 }
+        requires small { taken_by classes.now front.now ≤ 4000 }
         requires stands { Tracks classes.now front.now (drop (length front.now) classes.now.classes) self.now }
         ensures { result ≡ (size_reachable classes.now front.now && values_reachable classes.now front.now) }
     {
@@ -164,7 +164,7 @@ impl Tally {
 
     // True if at most one is taken of each household.
     fn homes_alive(&self, classes: &Classes, front: &[usize]) -> bool
-        requires small { taken_by classes.now front.now ≤ 1000 }
+        requires small { taken_by classes.now front.now ≤ 4000 }
         requires stands { Tracks classes.now front.now (drop (length front.now) classes.now.classes) self.now }
         ensures { result ≡ takes_one_a_household classes.now.classes front.now }
     {
