@@ -14,7 +14,6 @@ mod reading;
 mod shared;
 mod writing;
 
-pub use crate::Cover;
 pub use covers::Cover;
 pub use fronts::{Cause, FrontLine, Fronts};
 pub use ranges::{is_front_line, value_count};
