@@ -85,13 +85,14 @@ fn sink_of(alloc: Global, line: &str, option: &str, room: usize) -> Result<MemSi
     MemSink::new(alloc, room, &numbers_of(alloc, line, option)?)
 }
 
+/// Returns how many letters the mark `*` stands for.
+fn fill_of(line: &str) -> usize {
+    option_of(line, "fill ").map_or(0, number_of)
+}
+
 /// Returns the links of a call, whose requests are cut.
-fn links_of(
-    alloc: Global,
-    line: &str,
-    fill: usize,
-    cut: usize,
-) -> Result<Vec<MemLink>, AllocError> {
+fn links_of(alloc: Global, line: &str, cut: usize) -> Result<Vec<MemLink>, AllocError> {
+    let fill = fill_of(line);
     let mut links = Vec::new(alloc);
     for part in line.split(" | ") {
         if let Some(request) = part.strip_prefix("link ") {
@@ -118,21 +119,23 @@ fn link_of(
     MemLink::new(alloc, &bytes, ROOM, failing)
 }
 
-/// Makes the call of a line with its text or request cut, and returns what it tells as files of calls spell it.
+/// Returns the text of the call of a line.
+pub(crate) fn text_of(alloc: Global, script: &str, line: &str) -> Result<Vec<u8>, AllocError> {
+    given(alloc, script, call_of(line).1, line, fill_of(line))
+}
+
+/// Makes the call of a line over this text, with its requests cut, and returns what it tells as files of calls spell it.
 pub(crate) fn answer<R: Threads + Sync>(
     rt: &R,
     alloc: Global,
-    script: &str,
     keeper: &mut MapKeeper,
     line: &str,
+    text: &[u8],
     cut: usize,
 ) -> Result<String, AllocError> {
-    let fill = option_of(line, "fill ").map_or(0, number_of);
-    let mut text = given(alloc, script, call_of(line).1, line, fill)?;
-    text.truncate(cut);
-    let links = links_of(alloc, line, fill, cut)?;
+    let links = links_of(alloc, line, cut)?;
     let watch = Holding::of(option_of(line, "held").is_some());
-    let told = called(rt, alloc, line, &text, links, keeper, &watch)?;
+    let told = called(rt, alloc, line, text, links, keeper, &watch)?;
     spelled(alloc, &told, &watch)
 }
 

@@ -13,8 +13,7 @@
 //! the bytes that `out` takes; `link` or `broken` with a request, of which the latter fails at a call: `broken 2` and the request; and `held`: pieces
 //! 0 and 1 of a pricing are held until piece 2 has started.
 
-use crate::holding::Holding;
-use crate::office_calls::answer;
+use crate::office_calls::{answer, text_of};
 use crate::shown::{number_of, numbers_of, option_of};
 use office_keeper::MapKeeper;
 use std::alloc::{AllocError, Global};
@@ -59,9 +58,10 @@ fn compare<R: Threads + Sync>(
     want: &str,
     report: &mut Report,
 ) -> Result<(), AllocError> {
+    let text = text_of(alloc, script, line)?;
     let (from, until) = cuts_of(line);
     for cut in from..until {
-        let told = answer(rt, alloc, script, keeper, line, cut)?;
+        let told = answer(rt, alloc, keeper, line, &text[..cut.min(text.len())], cut)?;
         report.calls = report.calls.saturating_add(1);
         if told.as_str() != want {
             let row = format!(in alloc; "$ {line}\n{told}\n")?;
