@@ -1,3 +1,4 @@
+pub mod Coefficients
 pub mod KeptRows
 pub mod LeafSteps
 pub mod PathSteps

@@ -1,3 +1,4 @@
+pub mod Coefficients
 pub mod Kept
 pub mod Paths
 pub mod Steps

@@ -17,7 +17,7 @@ use std::marker::Model;
 /// What is to be shown: that no panel that meets the constraints weighs more in the stage than its cap.
 #[derive(Drop)]
 pub(crate) struct Problem<'a> {
-    constraints: &'a [Constraint],
+    constraints: &'a [Constraint<'a>],
     stage: &'a Stage,
 }
 
@@ -31,14 +31,14 @@ impl<'a> Model for Problem<'a> {
 
 impl<'a> Problem<'a> {
     /// Returns the problem of a stage.
-    pub(crate) fn new(constraints: &'a [Constraint], stage: &'a Stage) -> Problem<'a>
+    pub(crate) fn new(constraints: &'a [Constraint<'a>], stage: &'a Stage) -> Problem<'a>
         ensures { result ≡ record { constraints = constraints.now; stage = stage.now } }
     {
         Problem { constraints, stage }
     }
 
     /// Returns the constraint of a number.
-    fn constraint(&self, number: usize) -> &Constraint
+    fn constraint(&self, number: usize) -> &Constraint<'a>
         requires { number < length self.now.constraints }
         ensures { result.now ≡ constraint_at self.now.constraints number }
     {
@@ -47,7 +47,7 @@ impl<'a> Problem<'a> {
 }
 
 /// Returns the constraint of a number.
-fn constraint_of(constraints: &[Constraint], number: usize) -> &Constraint
+fn constraint_of<'a, 'b>(constraints: &'b [Constraint<'a>], number: usize) -> &'b Constraint<'a>
     requires { number < length constraints.now }
     ensures { result.now ≡ constraint_at constraints.now number }
 {

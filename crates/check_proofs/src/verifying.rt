@@ -17,7 +17,7 @@ ghost use Rattle.define_pools.specs.Pool.{IsPool, Pool as SeenPool, panels};
 ghost use Rattle.define_proofs.specs.ProofText.{IsLotteryProof};
 ghost use Rattle.check_proofs.specs.Kept.{AreConstraintsOf};
 
-use crate::constraints::Constraints;
+use crate::constraints::{Constraints, shared_households};
 use crate::leaves::Problem;
 use crate::trees::{Fault, tree_fault};
 use check_reasons::{
@@ -84,7 +84,8 @@ fn stages_verdict(
     requires lines { IsTrue (list_all (λ lines. list_all (is_tree_line (length course.pool.volunteers)) lines) trees.now) }
     ensures { IfOk result (λ verdict. verdict ≡ verdict_from course.entry.pool course.entry.lottery [] stages.now first trees.now) }
 {
-    let mut constraints = Constraints::of_first(alloc, course.pool())?;
+    let households = shared_households(alloc, course.pool().volunteers())?;
+    let mut constraints = Constraints::of_first(alloc, course.pool(), &households)?;
     let mut number = first;
     for (k, stage) in stages.iter().enumerate() {
         let lines = trees[k].lines();
@@ -92,7 +93,7 @@ fn stages_verdict(
         if !verdict.is_valid() {
             return Ok(verdict);
         }
-        constraints.pass(alloc, stage)?;
+        constraints.pass(stage)?;
         // one line comes between two trees
         number = lines_after(lines_after(number, lines.len())?, 1)?;
         course.settle();
@@ -104,7 +105,7 @@ fn stages_verdict(
 fn stage_verdict(
     alloc: Global,
     course: &Course<'_>,
-    constraints: &Constraints,
+    constraints: &Constraints<'_>,
     stage: &Stage,
     number: usize,
     lines: &[TreeLine],
@@ -156,7 +157,8 @@ fn of_no_panel(alloc: Global, pool: &Pool, lines: &[TreeLine]) -> Result<Verdict
     requires lines { IsTrue (list_all (is_tree_line (length pool.now.volunteers)) lines.now) }
     ensures { IfOk result (λ verdict. verdict ≡ verdict_of (OfNoPanel pool.now lines.now)) }
 {
-    let constraints = Constraints::of_first(alloc, pool)?;
+    let households = shared_households(alloc, pool.volunteers())?;
+    let constraints = Constraints::of_first(alloc, pool, &households)?;
     let stage = no_panel(alloc, pool)?;
     let before = pool_line_count(pool)?;
     // The 4 further lines are the proof's first, the line `none`, the one that begins the tree, and the tree's first.

@@ -5,3 +5,4 @@ pub mod RuledOut
 pub mod StageTerms
 pub mod Stands
 pub mod Stepping
+pub mod Small

@@ -5,3 +5,4 @@ pub mod Weights
 pub mod Terms
 pub mod Steps
 pub mod Likeness
+pub mod Small

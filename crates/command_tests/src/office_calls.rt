@@ -1,66 +1,40 @@
-//! The one call of `office` that all tests of this crate make: over a source, sinks, a store and a door in memory.
+//! The one call of `office` of this program: over a source, sinks, a store and a door in memory.
 
+use crate::holding::Holding;
+use crate::shown::{add, add_written, given, number_of, numbers_of, option_of};
 use command_office::office;
 use office_keeper::MapKeeper;
-use outside::{MemDoor, MemLink, MemSink, MemSource, Watch};
+use outside::{MemDoor, MemLink, MemSink, MemSource};
 use std::alloc::{AllocError, Global};
-use std::sync::atomic::{AtomicBool, Ordering};
 use std::thread::Threads;
 
-/// One call: its words; the text that the source holds; which reads of the source, which puts of `out`, which puts of `errs` (`lines`) and
-/// which calls of the door fail, counted from 1; and how many bytes `out` takes.
-#[derive(Clone, Copy)]
-pub(crate) struct Call<'a> {
-    pub(crate) words: &'a [&'a str],
-    pub(crate) text: &'a [u8],
-    pub(crate) reads: &'a [u64],
-    pub(crate) puts: &'a [u64],
-    pub(crate) lines: &'a [u64],
-    pub(crate) openings: &'a [u64],
-    pub(crate) room: usize,
-}
-
-impl<'a> Call<'a> {
-    /// Returns a call with these words over an empty text, in which nothing fails.
-    pub(crate) fn new(words: &'a [&'a str]) -> Call<'a> {
-        Call {
-            words,
-            text: &[],
-            reads: &[],
-            puts: &[],
-            lines: &[],
-            openings: &[],
-            room: 1000,
-        }
-    }
-}
+/// The bytes that `out`, `errs` and a link take if nothing else is said.
+const ROOM: usize = 100_000;
 
 /// What a call told: its status, what `out` and `errs` gained, and the door with its links.
 #[derive(Drop)]
-pub(crate) struct Told {
-    pub(crate) status: u8,
-    pub(crate) out: MemSink,
-    pub(crate) errs: MemSink,
-    pub(crate) door: MemDoor,
+struct Told {
+    status: u8,
+    out: MemSink,
+    errs: MemSink,
+    door: MemDoor,
 }
 
-/// Makes a call over the store of `keeper` and a door with these links.
-pub(crate) fn called<R: Threads + Sync>(
+/// Makes the call of a line over this text and these links.
+fn called<R: Threads + Sync>(
     rt: &R,
     alloc: Global,
-    call: &Call<'_>,
-    keeper: &mut MapKeeper,
+    line: &str,
+    text: &[u8],
     links: Vec<MemLink>,
+    keeper: &mut MapKeeper,
     watch: &Holding,
 ) -> Result<Told, AllocError> {
-    let mut words = Vec::new(alloc);
-    for word in call.words {
-        words.push(String::from_str(alloc, word)?)?;
-    }
-    let mut source = MemSource::new(alloc, call.text, call.reads)?;
-    let mut out = MemSink::new(alloc, call.room, call.puts)?;
-    let mut errs = MemSink::new(alloc, 1000, call.lines)?;
-    let mut door = MemDoor::new(alloc, links, call.openings)?;
+    let words = words_of(alloc, line)?;
+    let mut source = MemSource::new(alloc, text, &numbers_of(alloc, line, "reads ")?)?;
+    let mut out = sink_of(alloc, line, "puts ", room_of(line))?;
+    let mut errs = sink_of(alloc, line, "lines ", ROOM)?;
+    let mut door = MemDoor::new(alloc, links, &numbers_of(alloc, line, "door ")?)?;
     let status = office(
         rt,
         alloc,
@@ -80,59 +54,103 @@ pub(crate) fn called<R: Threads + Sync>(
     })
 }
 
-/// How many times a held piece checks whether a piece 2 has started.
-const TURNS: u64 = 1_000_000_000;
-
-/// Holds each piece of a pricing, except piece 2, until a piece 2 has started, for at most `turns` checks. `in_vain` becomes true if some
-/// piece used up its checks.
-#[derive(Drop)]
-pub(crate) struct Holding {
-    turns: u64,
-    started: AtomicBool,
-    in_vain: AtomicBool,
+/// Returns the words of a call. Two quotes stand for an empty word, and `_` for a blank.
+fn words_of(alloc: Global, line: &str) -> Result<Vec<String>, AllocError> {
+    let mut words = Vec::new(alloc);
+    for word in call_of(line).0.split_whitespace() {
+        words.push(word_of(alloc, word)?)?;
+    }
+    Ok(words)
 }
 
-impl Holding {
-    /// Returns a watch that holds nothing.
-    pub(crate) fn none() -> Holding {
-        Holding::for_turns(0)
-    }
-
-    /// Returns a watch that holds pieces 0 and 1 until piece 2 starts.
-    pub(crate) fn pieces() -> Holding {
-        Holding::for_turns(TURNS)
-    }
-
-    fn for_turns(turns: u64) -> Holding {
-        Holding {
-            turns,
-            started: AtomicBool::new(false),
-            in_vain: AtomicBool::new(false),
-        }
-    }
-
-    /// True if a piece 2 has started.
-    pub(crate) fn has_started(&self) -> bool {
-        self.started.load(Ordering::SeqCst)
-    }
-
-    /// True if a piece was held until its checks were used up.
-    pub(crate) fn was_in_vain(&self) -> bool {
-        self.in_vain.load(Ordering::SeqCst)
+fn word_of(alloc: Global, shown: &str) -> Result<String, AllocError> {
+    match shown.split_once('_') {
+        Some((before, after)) => format!(in alloc; "{before} {after}"),
+        None if shown == "''" => Ok(String::new(alloc)),
+        None => String::from_str(alloc, shown),
     }
 }
 
-impl Watch for Holding {
-    fn piece(&self, number: u64) {
-        if number == 2 {
-            self.started.store(true, Ordering::SeqCst);
-            return;
+/// Returns the words of a call and the name of its text.
+fn call_of(line: &str) -> (&str, &str) {
+    let call = line.split_once(" | ").map_or(line, |(call, _)| call);
+    call.split_once("< ").unwrap_or((call, ""))
+}
+
+fn room_of(line: &str) -> usize {
+    option_of(line, "room ").map_or(ROOM, number_of)
+}
+
+fn sink_of(alloc: Global, line: &str, option: &str, room: usize) -> Result<MemSink, AllocError> {
+    MemSink::new(alloc, room, &numbers_of(alloc, line, option)?)
+}
+
+/// Returns how many letters the mark `*` stands for.
+fn fill_of(line: &str) -> usize {
+    option_of(line, "fill ").map_or(0, number_of)
+}
+
+/// Returns the links of a call, whose requests are cut.
+fn links_of(alloc: Global, line: &str, cut: usize) -> Result<Vec<MemLink>, AllocError> {
+    let fill = fill_of(line);
+    let mut links = Vec::new(alloc);
+    for part in line.split(" | ") {
+        if let Some(request) = part.strip_prefix("link ") {
+            links.push(link_of(alloc, request, &[], fill, cut)?)?;
+        } else if let Some(broken) = part.strip_prefix("broken ") {
+            let (call, request) = broken.split_once(' ').unwrap_or((broken, ""));
+            let failing = [number_of(call) as u64];
+            links.push(link_of(alloc, request, &failing, fill, cut)?)?;
         }
-        for _ in 0..self.turns {
-            if self.has_started() {
-                return;
-            }
-        }
-        self.in_vain.store(true, Ordering::SeqCst);
     }
+    Ok(links)
+}
+
+fn link_of(
+    alloc: Global,
+    request: &str,
+    failing: &[u64],
+    fill: usize,
+    cut: usize,
+) -> Result<MemLink, AllocError> {
+    let mut bytes = Vec::new(alloc);
+    add(&mut bytes, request, fill)?;
+    bytes.truncate(cut);
+    MemLink::new(alloc, &bytes, ROOM, failing)
+}
+
+/// Returns the text of the call of a line.
+pub(crate) fn text_of(alloc: Global, script: &str, line: &str) -> Result<Vec<u8>, AllocError> {
+    given(alloc, script, call_of(line).1, line, fill_of(line))
+}
+
+/// Makes the call of a line over this text, with its requests cut, and returns what it tells as files of calls spell it.
+pub(crate) fn answer<R: Threads + Sync>(
+    rt: &R,
+    alloc: Global,
+    keeper: &mut MapKeeper,
+    line: &str,
+    text: &[u8],
+    cut: usize,
+) -> Result<String, AllocError> {
+    let links = links_of(alloc, line, cut)?;
+    let watch = Holding::of(option_of(line, "held").is_some());
+    let told = called(rt, alloc, line, text, links, keeper, &watch)?;
+    spelled(alloc, &told, &watch)
+}
+
+/// Spells what a call told.
+fn spelled(alloc: Global, told: &Told, watch: &Holding) -> Result<String, AllocError> {
+    let mut text = String::new(alloc);
+    add_written(&mut text, told.out.written())?;
+    if !told.errs.written().is_empty() {
+        text.push_str("! ")?;
+        add_written(&mut text, told.errs.written())?;
+    }
+    text.push_str(&format!(in alloc; "= {}{}", told.status, watch.word())?)?;
+    for link in told.door.given_back() {
+        text.push_str("\n> ")?;
+        add_written(&mut text, link.written())?;
+    }
+    Ok(text)
 }

@@ -1,10 +1,8 @@
-//! Doors and their links: in memory, where calls fail as listed, and over a port of this machine, on one thread.
+//! A door over a port of this machine, and its links, on one thread.
 
-ghost use Rattle.std.specs.Prelude.{IfOk};
 ghost use Rattle.engine_tests.specs.Doors.{NoMoreBack};
 
-use outside::{Door, Failed, Link, MemDoor, MemLink, TcpDoor};
-use std::alloc::{AllocError, Global};
+use outside::{Door, Failed, Link, TcpDoor};
 use std::io::{Read, Write};
 use std::net::TcpStream;
 use std::test::Fail;
@@ -35,42 +33,6 @@ fn open<D: Door>(door: &mut D) -> Option<u16> {
         }
     }
     None
-}
-
-/// Returns a door with two links. Its first and fourth call fail, and the second link takes four bytes.
-fn two_links(alloc: Global) -> Result<MemDoor, Fail>
-    ensures { IfOk result (λ door. NoMoreBack (Some door.links)) }
-{
-    let mut links = Vec::new(alloc);
-    links.push(MemLink::new(alloc, b"first", 8, &[])?)?;
-    links.push(MemLink::new(alloc, b"second", 4, &[])?)?;
-    Ok(MemDoor::new(alloc, links, &[1, 4])?)
-}
-
-/// Returns what was written to the links, each followed by a slash.
-fn written_to(alloc: Global, links: &[MemLink]) -> Result<Vec<u8>, AllocError> {
-    let mut written = Vec::new(alloc);
-    for link in links {
-        written.extend_from_slice(link.written())?;
-        written.push(b'/')?;
-    }
-    Ok(written)
-}
-
-/// Tests that links come and go in their order, that a call which fails gives no link, and that a put of more bytes than the link has room
-/// for fails.
-#[test]
-fn links_in_memory_come_and_go(rt: HostRuntime) -> Result<(), Fail> {
-    let mut door = two_links(rt.alloc())?;
-    assert!(rt; door.listen(80).is_err());
-    assert_eq!(rt; echo_next(&mut door).ok(), Some(true));
-    assert_eq!(rt; echo_next(&mut door).ok(), None);
-    assert_eq!(rt; echo_next(&mut door).ok(), None);
-    assert_eq!(rt; echo_next(&mut door).ok(), Some(false));
-    assert_eq!(rt; door.faults(), 2);
-    let written = written_to(rt.alloc(), door.given_back())?;
-    assert_eq!(rt; written.as_slice(), b"first/seco/".as_slice());
-    Ok(())
 }
 
 /// Tests that a port is a door, at one address of this machine alone. The door gives the connection that a client makes. What the client writes can be read, and what is put

@@ -7,7 +7,7 @@ use Rattle.std.proofs.lemmas.List.{length-map}
 use Rattle.define_pools.specs.Lists.{includes_list}
 use Rattle.define_pools.specs.Pool.{BoundedValue, Category, Pool}
 use Rattle.define_pools.specs.Building.{are_known, ids, place_of, places_of, value_names, volunteer_added, volunteer_kind}
-use Rattle.define_pools.specs.declared.Limits.TheVariants.{Usual}
+use Rattle.define_pools.specs.declared.Limits.TheVariants.{Large}
 use Rattle.define_made_pools.specs.MadePools.{ages, areas, genders, made_id}
 use Rattle.define_made_pools.proofs.Volunteers.{id_keeps_limits}
 use Rattle.office_reports.specs.Making.{ArePlaces, made_names, names_of_values, with_values}
@@ -101,12 +101,12 @@ names_have_places categories gender age area e a b c =
 pub made_volunteer_fits : (pool : Pool) (id : List ℕ) (number gender age area : ℕ) (g a r : List ℕ) →
     names_of_values pool.categories ≡ made_names → gender < 2 → age < 3 → area < 2 → g ≡ get_or genders gender [] → a ≡ get_or ages age [] → r ≡ get_or areas area [] →
     id ≡ made_id number → includes_list (ids pool.volunteers) (made_id number) ≡ false → number < 400 → length pool.volunteers < 400 →
-    volunteer_kind Usual pool id (g ∷ a ∷ r ∷ []) ≡ None
+    volunteer_kind Large pool id (g ∷ a ∷ r ∷ []) ≡ None
 made_volunteer_fits pool id number gender age area g a r names ga aa ra ge ae re ide new few room =
     let known = names_are_known pool.categories gender age area names ga aa ra in
     let three : eqb 3 (length pool.categories) ≡ true = eq-eqb 3 (length pool.categories) (sym (ap length names) ∙ length-map pool.categories (λ (c : Category). value_names c.values)) in
     let limits = id_keeps_limits number few in
-    let free : leb 400 (length pool.volunteers) ≡ false = lt-leb 400 (length pool.volunteers) room in
+    let free : leb 4000 (length pool.volunteers) ≡ false = lt-leb 4000 (length pool.volunteers) (omega (arith, room)) in
     rw (ge, ae, re, ide, known, three, new, limits, free) refl
 
 pub made_volunteer_added : (pool : Pool) (id : List ℕ) (number : ℕ) (g a r values : List ℕ) → names_of_values pool.categories ≡ made_names → ArePlaces values →

@@ -106,20 +106,24 @@ pub(crate) const HOUSEHOLDS: &[Row] = &[
     (Asked::Next, Ending::Replies),
 ];
 
-/// The first round of four volunteers, which is open.
+/// The first round of four volunteers, which is open. One withdraws, twice.
 pub(crate) const ENROLLED: &[Row] = &[
     (Asked::Rules, Ending::Replies),
     (Asked::Register(FOUR), Ending::Replies),
     (Asked::Charter, Ending::Replies),
+    (Asked::Withdraw("k4"), Ending::Replies),
+    (Asked::Withdraw("k4"), Ending::Replies),
+    (Asked::Withdraw("k5"), Ending::Refuses),
 ];
 
-/// The same round, which is solved and then sealed.
+/// The same round without a withdrawal, which is solved and then sealed, when nobody may withdraw.
 pub(crate) const SEALED: &[Row] = &[
     (Asked::Rules, Ending::Replies),
     (Asked::Register(FOUR), Ending::Replies),
     (Asked::Charter, Ending::Replies),
     (Asked::Solve(1), Ending::Replies),
     (Asked::Seal, Ending::Replies),
+    (Asked::Withdraw("k4"), Ending::Refuses),
 ];
 
 /// Does a command over a keeper. Returns how it ends, or None if the command can't be made, for want of memory.

@@ -1,5 +1,5 @@
-//! Tests of the keepers over `sqlite`, by public calls alone, and of a visit of the desk over a port. They are in a crate of their own,
-//! since a crate with tests is proved twice, and tests over files in memory take long to prove.
+//! Tests of the keepers over `sqlite`, by public calls alone. They are in a crate of their own, since a crate with tests is proved twice, and
+//! tests over files in memory take long to prove.
 #![tactic(auto)]
 
 #[cfg(test)]
@@ -14,5 +14,3 @@ mod disks;
 mod paths;
 #[cfg(test)]
 mod stops;
-#[cfg(test)]
-mod visits;

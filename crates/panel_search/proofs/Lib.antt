@@ -9,3 +9,4 @@ pub mod Stepping
 pub mod SharedSearches
 pub mod SharedFronts
 pub mod SharedAnswers
+pub mod Small

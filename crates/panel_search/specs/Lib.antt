@@ -10,3 +10,4 @@ pub mod Tallies
 pub mod Terms
 pub mod Units
 pub mod Weights
+pub mod Small

@@ -157,7 +157,8 @@ impl Search {
 fn kept_spans(alloc: Global, program: &Program, kept: &[Kept]) -> Result<Vec<Span>, AllocError>
     ensures { IfOk result (λ spans. length spans.items ≡ length program.now.rows) }
 {
-    let most = MOST.max(program.volunteers() as u32);
+    let volunteers = u32::try_from(program.volunteers()).unwrap_or(MOST);
+    let most = MOST.max(volunteers);
     let mut spans = Vec::new(alloc);
     for row in 0..program.rows().len() {
         spans.push(kept_span(&program.rows()[row], kept, most))?;

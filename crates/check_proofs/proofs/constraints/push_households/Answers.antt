@@ -11,14 +11,11 @@ use Rattle.check_proofs.proofs.constraints.push_households.Goals as goal
 pub returns : goal.returns
 returns c =
     let pool = c.args.pool.now in
-    let households = c.in_ok-households.households.items in
+    let households = c.args.households.now in
     let items = c.deref-number-items.result.now in
     let before = c.args.rows.now.items in
-    let are : households ≡ map (shared_household pool.volunteers) (everybody pool) =
-    c.in_ok-households.ensures ∙ ap (λ (vs : List Volunteer). map (shared_household vs) (range_with_len 0 (length vs))) c.volunteers.ensures in
     let numbers : items ≡ filter (λ i. is_of_household i (get_or households i None)) (range_with_len 0 (length households)) =
-    c.deref-number-items.ensures.value ∙ c.in_ok-first_members.ensures
-    ∙ ap (λ (hs : List (Option ℕ)). filter (λ i. is_of_household i (get_or hs i None)) (range_with_len 0 (length hs))) c.deref.ensures.value in
+    c.deref-number-items.ensures.value ∙ c.in_ok-first_members.ensures in
     c.loop-number.invariant
     ∙ ap (λ those. before ++ map (household_row households) those) (take_all c.loop-number.number-index items c.loop-number-test.false)
-    ∙ ap (λ those. before ++ those) (rows_are pool households are items numbers)
+    ∙ ap (λ those. before ++ those) (rows_are pool households c.requires items numbers)

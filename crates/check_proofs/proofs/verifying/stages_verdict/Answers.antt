@@ -1,15 +1,34 @@
-use Rattle.std.proofs.Common.{◌≡◌, ◌+◌, ◌<◌, true, List, [], ◌∷◌, drop, length, sym, ap, ap₂, ◌∙◌, subst, arith}
+use Rattle.std.proofs.Common.{◌≡◌, ◌+◌, ◌<◌, true, get_or, List, [], ◌∷◌, drop, length, sym, ap, ap₂, ◌∙◌, subst, arith}
 use Rattle.std.specs.List.{list_all}
 use Rattle.std.proofs.lemmas.Bool.{and_from}
 use Rattle.check_reasons.specs.Courses.{Course, passed}
 use Rattle.check_reasons.specs.Sayings.{holds}
+use Rattle.define_pools.proofs.Each.{passes_at}
+use Rattle.define_pools.specs.Pool.{Pool}
+use Rattle.define_proofs.specs.TreeRanges.{is_tree_line}
 use Rattle.define_proofs.specs.LeafSums.{is_stage_in_reach}
 use Rattle.define_proofs.specs.TreeLines.{TreeLine}
 use Rattle.check_proofs.specs.Kept.{AreConstraintsOf}
 use Rattle.define_proofs.specs.ProofSteps.{verdict_from}
-use Rattle.check_proofs.proofs.KeptRows.{kept_on}
+use Rattle.check_proofs.proofs.KeptRows.{kept_on, next_within}
 use Rattle.check_proofs.proofs.Stages.{going_on, of_stage, reaches_so_far, refusing, stages_from}
 use Rattle.check_proofs.proofs.verifying.stages_verdict.Goals as goal
+
+pub stage_verdict-requires-clause-lines : goal.stage_verdict-requires-clause-lines
+stage_verdict-requires-clause-lines c =
+    let trees = c.args.trees.now in
+    let k = c.loop-k.k in
+    let has_tree : k < length trees = omega (arith, c.requires.one_each, c.loop-k-test.true) in
+    let many = length c.args.course.pool.volunteers in
+    let here : list_all (is_tree_line many) (get_or trees k c.index-trees-k.result) ≡ true = passes_at (list_all (is_tree_line many)) trees k c.index-trees-k.result c.requires.lines has_tree in
+    let lines : c.lines-lines.result.now ≡ get_or trees k c.index-trees-k.result = c.lines-lines.ensures ∙ c.index-trees-k.is in
+    ap (λ (pool : Pool). list_all (is_tree_line (length pool.volunteers)) c.lines-lines.result.now) c.loop-k.invariant.pool
+    ∙ ap (list_all (is_tree_line many)) lines ∙ here
+
+pub pass-requires : goal.pass-requires
+pass-requires c =
+    let old = c.loop-k.constraints in
+    next_within c.args.course.pool c.loop-k.course.earlier old.rows.items old.next c.loop-k.invariant.kept
 
 pub returns-then-not-is_valid : goal.returns-then-not-is_valid
 returns-then-not-is_valid c =
