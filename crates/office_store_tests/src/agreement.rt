@@ -1,12 +1,10 @@
 //! Does each command of an assembly over a keeper in memory and over a store. After each command, a new keeper over the store's connection must
 //! load what the keeper in memory holds. At the end the files are closed and opened again, and a keeper over them must load the same.
 
+use crate::assembly::{ENROLLED, HOUSEHOLDS, PLAIN, Row, SEALED, done};
+use crate::disks::{Stored, closed, loaded, nothing, opened, spelled};
 use office_core::Keeper;
 use office_keeper::{MapKeeper, SqliteOver};
-use office_trials::{
-    ENROLLED, HOUSEHOLDS, PLAIN, Row, SEALED, Stored, closed, done, loaded, nothing, opened,
-    spelled,
-};
 use std::alloc::Global;
 use std::process::Abort;
 use std::thread::Threads;

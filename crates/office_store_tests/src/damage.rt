@@ -1,9 +1,10 @@
 //! Stores that were changed by hand. A store is loaded if its rows still make tables of which `IsTables` holds. Over any other store a call
 //! fails, counts one fault and changes nothing.
 
+use crate::assembly::{HOUSEHOLDS, done};
+use crate::disks::{Stored, loaded, nothing, opened, rows_of, spelled};
 use office_core::Keeper;
 use office_keeper::{MapKeeper, SqliteOver};
-use office_trials::{HOUSEHOLDS, Stored, done, loaded, nothing, opened, rows_of, spelled};
 use sqlite::{Connection, params};
 use std::alloc::Global;
 use std::process::Abort;

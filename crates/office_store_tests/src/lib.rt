@@ -5,6 +5,12 @@
 #[cfg(test)]
 mod agreement;
 #[cfg(test)]
+mod assembly;
+#[cfg(test)]
 mod damage;
 #[cfg(test)]
+mod disks;
+#[cfg(test)]
 mod paths;
+#[cfg(test)]
+mod stops;

@@ -1,8 +1,9 @@
 //! Tests of a store in a file.
 
+use crate::assembly::{Asked, ENROLLED, Ending, PLAIN, done};
+use crate::disks::{loaded, spelled};
 use office_core::{Change, Keeper};
 use office_keeper::{MapKeeper, SqliteKeeper};
-use office_trials::{Asked, ENROLLED, Ending, PLAIN, done, loaded, spelled};
 use std::alloc::Global;
 use std::fs;
 use std::process::Abort;

@@ -13,7 +13,7 @@ use std::thread::Threads;
 
 /// A command of the office. The round is round 1 if none is named.
 #[derive(Clone, Copy)]
-pub enum Asked {
+pub(crate) enum Asked {
     Charter,
     Rules,
     Register(&'static [u8]),
@@ -28,14 +28,14 @@ pub enum Asked {
 
 /// How a command ends.
 #[derive(Clone, Copy, PartialEq, Eq)]
-pub enum Ending {
+pub(crate) enum Ending {
     Replies,
     Refuses,
     Stops,
 }
 
 /// A command with its ending.
-pub type Row = (Asked, Ending);
+pub(crate) type Row = (Asked, Ending);
 
 const CHARTER: &[u8] = b"title = \"River\"\nsize = 2\n";
 
@@ -58,7 +58,7 @@ const SEAL: &str = "41f145deb96e63082dd54ce2bcf3dea5bf3bb3cf4f2936371c318b2d1a43
 const HOUSED_SEAL: &str = "2cb82b27c8b4c04f4a46a1fb8c5c4856a2486862f6e8e32bdddb6295cbdb3ab9";
 
 /// An assembly of four volunteers. Some of its commands are given twice, and some are refused.
-pub const PLAIN: &[Row] = &[
+pub(crate) const PLAIN: &[Row] = &[
     (Asked::Solve(1), Ending::Refuses),
     (Asked::Register(FOUR), Ending::Refuses),
     (Asked::Rules, Ending::Replies),
@@ -93,7 +93,7 @@ pub const PLAIN: &[Row] = &[
 ];
 
 /// An assembly of five volunteers, whose commands make a change of each kind. Two volunteers are of one household, and one withdraws.
-pub const HOUSEHOLDS: &[Row] = &[
+pub(crate) const HOUSEHOLDS: &[Row] = &[
     (Asked::Rules, Ending::Replies),
     (Asked::Register(HOUSED), Ending::Replies),
     (Asked::Register(MORE), Ending::Replies),
@@ -107,7 +107,7 @@ pub const HOUSEHOLDS: &[Row] = &[
 ];
 
 /// The first round of four volunteers, which is open. One withdraws, twice.
-pub const ENROLLED: &[Row] = &[
+pub(crate) const ENROLLED: &[Row] = &[
     (Asked::Rules, Ending::Replies),
     (Asked::Register(FOUR), Ending::Replies),
     (Asked::Charter, Ending::Replies),
@@ -117,7 +117,7 @@ pub const ENROLLED: &[Row] = &[
 ];
 
 /// The same round without a withdrawal, which is solved and then sealed, when nobody may withdraw.
-pub const SEALED: &[Row] = &[
+pub(crate) const SEALED: &[Row] = &[
     (Asked::Rules, Ending::Replies),
     (Asked::Register(FOUR), Ending::Replies),
     (Asked::Charter, Ending::Replies),
@@ -127,7 +127,7 @@ pub const SEALED: &[Row] = &[
 ];
 
 /// Does a command over a keeper. Returns how it ends, or None if the command can't be made, for want of memory.
-pub fn done<K: Keeper, R: Threads + Sync>(
+pub(crate) fn done<K: Keeper, R: Threads + Sync>(
     rt: &R,
     alloc: Global,
     keeper: &mut K,
@@ -142,7 +142,7 @@ pub fn done<K: Keeper, R: Threads + Sync>(
 }
 
 /// Returns the command that is asked for.
-pub fn command_of(alloc: Global, asked: Asked) -> Option<Command>
+pub(crate) fn command_of(alloc: Global, asked: Asked) -> Option<Command>
     ensures { IfSome result HasWorkers }
 {
     match asked {

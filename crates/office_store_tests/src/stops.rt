@@ -2,12 +2,12 @@
 //! stored, and while a store of version 1 is brought to version 2. When the store is opened again, it must hold what it held before the
 //! step, or what it holds after it.
 
+use crate::assembly::{Asked, HOUSEHOLDS, command_of, done};
+use crate::disks::{
+    Kept, Stored, bytes_of, changed, closed, files, loaded, nothing, opened, rows_of,
+};
 use office_core::{Change, Keeper, Tables, decide};
 use office_keeper::{MapKeeper, SqliteOver};
-use office_trials::{
-    Asked, HOUSEHOLDS, Kept, Stored, bytes_of, changed, closed, command_of, done, files, loaded,
-    nothing, opened, rows_of,
-};
 use outside::NoWatch;
 use sqlite::{Connection, Files, Options};
 use sqlite_disk::{Crash, Fuse, Memory};

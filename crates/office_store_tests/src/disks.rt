@@ -6,17 +6,17 @@ use sqlite_disk::{Disk, Fuse, Memory};
 use std::alloc::Global;
 
 /// A store over files in memory that do a given number of calls, and then fail each call.
-pub type Stored = FileStore<Fuse<Memory>>;
+pub(crate) type Stored = FileStore<Fuse<Memory>>;
 
 /// The bytes of a store's files.
 #[derive(Drop)]
-pub struct Kept {
-    pub log: Vec<u8>,
-    pub db: Vec<u8>,
+pub(crate) struct Kept {
+    pub(crate) log: Vec<u8>,
+    pub(crate) db: Vec<u8>,
 }
 
 /// Returns files that are empty.
-pub fn nothing(alloc: Global) -> Kept {
+pub(crate) fn nothing(alloc: Global) -> Kept {
     Kept {
         log: Vec::new(alloc),
         db: Vec::new(alloc),
@@ -32,7 +32,7 @@ fn file(alloc: Global, bytes: &[u8], calls: u64) -> Option<Fuse<Memory>> {
 }
 
 /// Returns the files of these bytes. The log does `log_calls` calls and the database `db_calls`, and then each call fails.
-pub fn files(
+pub(crate) fn files(
     alloc: Global,
     kept: &Kept,
     log_calls: u64,
@@ -44,14 +44,14 @@ pub fn files(
 }
 
 /// Returns the bytes of these files.
-pub fn bytes_of(alloc: Global, files: &Files<Fuse<Memory>>) -> Option<Kept> {
+pub(crate) fn bytes_of(alloc: Global, files: &Files<Fuse<Memory>>) -> Option<Kept> {
     let log = Vec::from_slice(alloc, files.log.inner().bytes()).ok()?;
     let db = Vec::from_slice(alloc, files.db.inner().bytes()).ok()?;
     Some(Kept { log, db })
 }
 
 /// Opens a store of these bytes.
-pub fn opened(alloc: Global, kept: &Kept) -> Option<Connection<Stored>> {
+pub(crate) fn opened(alloc: Global, kept: &Kept) -> Option<Connection<Stored>> {
     let files = files(alloc, kept, u64::MAX, u64::MAX)?;
     if !files.may_be_used() {
         return None;
@@ -60,13 +60,13 @@ pub fn opened(alloc: Global, kept: &Kept) -> Option<Connection<Stored>> {
 }
 
 /// Closes a store. Returns the bytes of its files.
-pub fn closed(alloc: Global, connection: Connection<Stored>) -> Option<Kept> {
+pub(crate) fn closed(alloc: Global, connection: Connection<Stored>) -> Option<Kept> {
     let files = connection.close_files().ok()?;
     bytes_of(alloc, &files)
 }
 
 /// Returns the store after these statements.
-pub fn changed(alloc: Global, kept: &Kept, statements: &str) -> Option<Kept> {
+pub(crate) fn changed(alloc: Global, kept: &Kept, statements: &str) -> Option<Kept> {
     let mut connection = opened(alloc, kept)?;
     connection.execute_batch(statements).ok()?;
     closed(alloc, connection)
@@ -85,7 +85,7 @@ const ALL: &[&str] = &[
 ];
 
 /// Returns the rows of all tables, as a text.
-pub fn rows_of(alloc: Global, connection: &mut Connection<Stored>) -> Option<String> {
+pub(crate) fn rows_of(alloc: Global, connection: &mut Connection<Stored>) -> Option<String> {
     let mut all = String::new(alloc);
     for query in ALL {
         let rows = found(alloc, connection, query)?;
@@ -101,13 +101,13 @@ fn found(alloc: Global, connection: &mut Connection<Stored>, query: &str) -> Opt
 }
 
 /// Attaches a keeper, and returns what it loads, as a text.
-pub fn loaded<K: Keeper>(alloc: Global, keeper: &mut K, path: &str) -> Option<String> {
+pub(crate) fn loaded<K: Keeper>(alloc: Global, keeper: &mut K, path: &str) -> Option<String> {
     keeper.attach(alloc, path).ok()?;
     let tables = keeper.load(alloc).ok()?;
     spelled(alloc, &tables)
 }
 
 /// Returns all that tables hold, as a text.
-pub fn spelled(alloc: Global, tables: &Tables) -> Option<String> {
+pub(crate) fn spelled(alloc: Global, tables: &Tables) -> Option<String> {
     format!(in alloc; "{tables:?}").ok()
 }
