@@ -1,6 +1,7 @@
 //! Texts byte for byte, each kind of fault of a pool's text and of a bundle's, and answers that no bundle has.
 
 ghost use Rattle.std.specs.Prelude.{◌≡◌, [], ◌∷◌, ◌++◌, ◌+◌, ◌-◌, ◌^◌, codes, length, Ok, Err, pos, negsuc};
+ghost use Rattle.define_pools.specs.Building.{empty_pool};
 ghost use Rattle.define_pools.specs.WorkedExamples.{four, after_dropout, row, stage};
 ghost use Rattle.define_bundles.specs.PoolText.{spelling};
 ghost use Rattle.define_bundles.specs.PoolReading.{read};
@@ -30,7 +31,7 @@ pub fn housed_texts()
 
 /// Each kind of fault of a pool's text, from 1 to 12.
 pub fn faulty_texts()
-    ensures form { read (codes "pool\t3\n") ≡ Err (record { line = 1; kind = 1 }) }
+    ensures form { read (codes "pool\t4\n") ≡ Err (record { line = 1; kind = 1 }) }
     ensures size { read (codes "pool\t1\nsize\t0\n") ≡ Err (record { line = 2; kind = 2 }) }
     ensures category_repeated { read (head_with_value ++ codes "category\tg\n") ≡ Err (record { line = 5; kind = 3 }) }
     ensures value_repeated { read (head_with_value ++ codes "value\tx\t0\t1\n") ≡ Err (record { line = 5; kind = 4 }) }
@@ -55,11 +56,25 @@ pub fn faulty_households()
     ensures behind_a_standing { read (lines_of_four 2 ++ codes "household\ta\th\ngone\ta\nhousehold\tc\th\n") ≡ Err (record { line = 12; kind = 1 }) }
 {}
 
+/// Faults of texts of version 3. A pool within the usual limits has kind 1 at the first line after its volunteers. The greatest size is 1,000,
+/// and 200 in the other versions. A bundle has a pool of its own version.
+pub fn faulty_large_texts()
+    ensures small { read (lines_of_four 3 ++ codes "end\n") ≡ Err (record { line = 10; kind = 1 }) }
+    ensures small_with_household { read (lines_of_four 3 ++ codes "household\ta\th\nend\n") ≡ Err (record { line = 10; kind = 1 }) }
+    ensures small_with_standing { read (lines_of_four 3 ++ codes "gone\ta\nend\n") ≡ Err (record { line = 10; kind = 1 }) }
+    ensures small_and_cut { read (lines_of_four 3) ≡ Err (record { line = 10; kind = 12 }) }
+    ensures greatest_size { read (codes "pool\t3\nsize\t1000\nend\n") ≡ Ok (empty_pool 1000) }
+    ensures beyond_greatest_size { read (codes "pool\t3\nsize\t1001\n") ≡ Err (record { line = 2; kind = 2 }) }
+    ensures large_in_second { read (codes "pool\t2\nsize\t201\n") ≡ Err (record { line = 2; kind = 2 }) }
+    ensures other_pool { read_bundle (codes "bundle\t3\npool\t2\n") ≡ Err (record { line = 2; kind = 1 }) }
+    ensures small_in_bundle { read_bundle (codes "bundle\t3\n" ++ lines_of_four 3 ++ codes "end\n") ≡ Err (record { line = 11; kind = 1 }) }
+{}
+
 /// Faults of a bundle's text: another version; a pool of another version; a fault in the pool; a total of 0. In place of the first panel:
 /// the end, a panel with a member that the pool doesn't have, a stage. After a panel: a faulty stage. After a stage: a faulty stage, a
 /// panel. Texts that end within the pool, after the total, and before the first line. Bytes after the last line.
 pub fn faulty_bundles()
-    ensures version { read_bundle (codes "bundle\t3\n") ≡ Err (record { line = 1; kind = 13 }) }
+    ensures version { read_bundle (codes "bundle\t4\n") ≡ Err (record { line = 1; kind = 13 }) }
     ensures other_version { read_bundle (codes "bundle\t2\npool\t1\n") ≡ Err (record { line = 2; kind = 1 }) }
     ensures in_the_pool { read_bundle (codes "bundle\t1\n" ++ head ++ codes "category\t\n") ≡ Err (record { line = 4; kind = 10 }) }
     ensures total { read_bundle (single ++ codes "total\t0\n") ≡ Err (record { line = 6; kind = 14 }) }
