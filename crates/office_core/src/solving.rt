@@ -2,7 +2,7 @@
 
 ghost use Rattle.std.specs.Prelude.{◌≡◌, ◌≤◌, true, IfOk};
 ghost use Rattle.define_bundles.specs.Ranges.{IsInRanges};
-ghost use Rattle.define_offices.specs.Deciding.{Finds, answered as answered_so, is_same_pool as are_same, keep_in};
+ghost use Rattle.define_offices.specs.Deciding.{Finds, answered as answered_so, is_same_pool as are_same, keep_in, proof_pool};
 ghost use Rattle.define_offices.specs.Lines.{one_line, solved_line};
 ghost use Rattle.define_offices.specs.Pools.{pool_of as pool_of_round};
 ghost use Rattle.define_offices.specs.Commands.{Solve as SolveCommand};
@@ -84,12 +84,22 @@ pub(crate) fn keep_proof(
     if !verdict.is_valid() {
         return Err(DecideStop::Unproved(verdict));
     }
+    if !is_over(alloc, proof, &pool)? {
+        return Err(DecideStop::Refused(Refusal::OtherPool { round: number }));
+    }
     match proof.parts() {
-        Parts::Lottery(bundle, _) if is_same_pool(alloc, bundle.pool(), &pool)? => {
-            keep_answer(alloc, number, pool, bundle)
-        }
-        Parts::NoPanel(of, _) if is_same_pool(alloc, of, &pool)? => Ok((None, Reply::NoPanel)),
-        _ => Err(DecideStop::Refused(Refusal::OtherPool { round: number })),
+        Parts::Lottery(bundle, _) => keep_answer(alloc, number, pool, bundle),
+        Parts::NoPanel(_, _) => Ok((None, Reply::NoPanel)),
+    }
+}
+
+/// True if the pool of a proof is this one.
+fn is_over(alloc: Global, proof: &Proof, pool: &Pool) -> Result<bool, AllocError>
+    ensures { IfOk result (λ is_over. is_over ≡ are_same (proof_pool proof.now) pool.now) }
+{
+    match proof.parts() {
+        Parts::Lottery(bundle, _) => is_same_pool(alloc, bundle.pool(), pool),
+        Parts::NoPanel(of, _) => is_same_pool(alloc, of, pool),
     }
 }
 
