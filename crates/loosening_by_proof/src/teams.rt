@@ -26,29 +26,31 @@ pub(crate) fn is_team(pool: &Pool, panel: &Panel) -> bool
 }
 
 /// True if for each value the number of members who have it is within the widest bounds of a pool.
+#[tactic(auto, using(crate::proofs::Widest::few_if_widest))]
 fn keep_widest(categories: &[Category], volunteers: &[Volunteer], members: &[usize]) -> bool
     requires { IsTrue (list_all (λ i. nat_lt i (length volunteers.now)) members.now) }
     ensures { result ≡ meets_quotas (map widest_category categories.now) volunteers.now members.now }
 {
+    few_have_any(categories, volunteers, members)
+}
+
+/// True if each value of each category has at most 999 members.
+fn few_have_any(categories: &[Category], volunteers: &[Volunteer], members: &[usize]) -> bool
+    requires { IsTrue (list_all (λ i. nat_lt i (length volunteers.now)) members.now) }
+    ensures { result ≡ list_all (λ (c, category). list_all (λ (v, value). nat_le (members_with volunteers.now members.now c v) 999) (enumerate_from 0 category.values))
+        (enumerate_from 0 categories.now) }
+{
     categories.iter().enumerate().all(|(c, category)| few_have_each(
-        category.values(),
-        volunteers,
-        members,
-        c,
+        category, c, volunteers, members,
     ))
 }
 
 /// True if each value of a category has at most 999 members.
-fn few_have_each(
-    values: &[BoundedValue],
-    volunteers: &[Volunteer],
-    members: &[usize],
-    category: usize,
-) -> bool
+fn few_have_each(category: &Category, c: usize, volunteers: &[Volunteer], members: &[usize]) -> bool
     requires { IsTrue (list_all (λ i. nat_lt i (length volunteers.now)) members.now) }
-    ensures { result ≡ list_all (λ (v, value). nat_le (members_with volunteers.now members.now category v) 999) (enumerate_from 0 values.now) }
+    ensures { result ≡ list_all (λ (v, value). nat_le (members_with volunteers.now members.now c v) 999) (enumerate_from 0 category.now.values) }
 {
-    values.iter().enumerate().all(|(v, _value)| number_with(volunteers, members, category, v)
+    category.values().iter().enumerate().all(|(v, _value)| number_with(volunteers, members, c, v)
         <= MOST)
 }
 
