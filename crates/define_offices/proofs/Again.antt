@@ -296,15 +296,37 @@ pub bounds_again : (tables : Tables) (number : ℕ) (bounds : List Category) (ch
 bounds_again tables number bounds change reply keeps fits (AtOnce h) = bounds_again_by tables number bounds change reply fits.0 (says _ _ h)
 bounds_again tables number bounds change reply keeps fits (ByRun other limits pool ending same needs ends is) = absurd (cc)
 
+-- a reply `same` comes only where the pool has the bounds
+told_same : (tables : Tables) (bounds : List Category) (pool : Pool) (found : Option Round) → bounds_over tables bounds (Ok pool) found ≡ tells (rules_line (codes "same")) → same_rules pool.categories bounds ≡ true
+told_same tables bounds pool None h = absurd (cc)
+told_same tables bounds pool (Some round) h = by (same_rules pool.categories bounds) refl h
+  where
+    by : (same : Bool) → same_rules pool.categories bounds ≡ same → cond same (tells (rules_line (codes "same"))) (bounds_in pool bounds round) ≡ tells (rules_line (codes "same")) → same_rules pool.categories bounds ≡ true
+    by true e k = e
+    by false e k = absurd (bounds_told_in pool bounds _ round k)
+
+pub bounds_hold : (tables : Tables) (number : ℕ) (bounds : List Category) (change : Option Change) (reply : Reply) (pool : Pool) → IsTables tables → IsCommand (SetBounds number bounds) →
+    Comes tables (SetBounds number bounds) (Replies change reply) → pool_of (applied tables change) number ≡ Ok pool → same_rules pool.categories bounds ≡ true
+bounds_hold tables number bounds change reply pool keeps fits comes of =
+    let later = applied tables change in
+    let told = says _ _ (bounds_again tables number bounds change reply keeps fits comes) in
+    told_same later bounds pool (named_round later.rounds number) (subst (λ result. bounds_over later bounds result (named_round later.rounds number) ≡ tells (rules_line (codes "same"))) of told)
+
+-- ---- a draw that is tried
+
+pub tries_are_draws : (tables : Tables) (number : ℕ) (given digits : List ℕ) (outcome : Outcome) → Comes tables (Draw number given digits) outcome → Comes tables (TryDraw number given digits) (without_change outcome)
+tries_are_draws tables number given digits outcome (AtOnce h) = AtOnce (ap (λ o. IsDecided (without_change o)) (says _ _ h))
+tries_are_draws tables number given digits outcome (ByRun other limits pool ending same needs ends is) = absurd (cc)
+
 -- ---- a change that is taken back again
 
 pub none_left : (id : List ℕ) (ids : List (List ℕ)) → includes_list (without_id id ids) id ≡ false
 none_left id [] = refl
-none_left id (other ∷ ids) = by (bytes_eq id other) refl
+none_left id (other ∷ ids) = by (bytes_eq id other) refl (none_left id ids)
   where
-    by : (same : Bool) → bytes_eq id other ≡ same → includes_list (cond (not same) (other ∷ without_id id ids) (without_id id ids)) id ≡ false
-    by true e = none_left id ids
-    by false e = rw e (none_left id ids)
+    by : (same : Bool) → bytes_eq id other ≡ same → includes_list (without_id id ids) id ≡ false → includes_list (cond (not same) (other ∷ without_id id ids) (without_id id ids)) id ≡ false
+    by true e rest = rest
+    by false e rest = rw e rest
 
 -- the dropout of `id` is taken back from the last round
 pub record TakesBack (tables : Tables) (number : ℕ) (id : List ℕ) (dropped : List (List ℕ)) (change : Option Change) : Type 0 where

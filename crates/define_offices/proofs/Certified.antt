@@ -325,8 +325,8 @@ taken_certified rounds (suc place) certified = λ q round bundle at has. certifi
 solving : (answered : Bundle) → IsCertified answered → (old : Round) (bundle : Bundle) → bundle_of (solved_with answered old) ≡ Some bundle → (bundle_of old ≡ Some bundle → IsCertified bundle) → IsCertified bundle
 solving answered certified Open bundle has had = let e : answered ≡ bundle = cc in subst IsCertified e certified
 solving answered certified (Solved other) bundle has had = had has
-solving answered certified (Sealed other) bundle has had = had has
-solving answered certified (Drawn other digits dropped) bundle has had = had has
+solving answered certified (Sealed other tickets) bundle has had = had has
+solving answered certified (Drawn other tickets digits dropped) bundle has had = had has
 
 pushed_certified : (rounds : List Round) → CertifiedRounds rounds → CertifiedRounds (rounds ++ Open ∷ [])
 pushed_certified rounds certified = λ q round bundle at has.

@@ -170,7 +170,7 @@ module _ (tables : Tables) (keeps : IsTables tables) where
   keep_drops_drawing digits Open h = h
   keep_drops_drawing digits (Solved bundle) h = h
   keep_drops_drawing digits (Sealed bundle tickets) h = absurd (false≢true h)
-  keep_drops_drawing digits (Drawn bundle other dropped) h = h
+  keep_drops_drawing digits (Drawn bundle tickets other dropped) h = h
 
   -- if a draw returns a panel, its digits name a ticket
   drawn_named : (bundle : Bundle) (tickets : Option ℕ) (given digits : List ℕ) (drawn : draws.Drawn) → draw (drawn_lottery bundle tickets) (bundle_seal bundle) given digits ≡ Ok drawn →
@@ -189,7 +189,7 @@ module _ (tables : Tables) (keeps : IsTables tables) where
       let sealed = named_keeps number (Sealed bundle tickets) at in
       let kept : KeepsRound tables (Drawn bundle tickets digits []) = (sealed.0, record { in_range = sealed.1; named = drawn_named bundle tickets given digits drawn e; from_panel = refl }) in
       changed_keeps tables keeps (drawn_by digits) (keep_drops_drawing digits) number
-      (λ old there. let same : Sealed bundle ≡ old = cc in subst (λ round. KeepsRound tables (drawn_by digits round)) same kept)
+      (λ old there. let same : Sealed bundle tickets ≡ old = cc in subst (λ round. KeepsRound tables (drawn_by digits round)) same kept)
 
   pub draw_keeps : (number : ℕ) (given digits : List ℕ) (found : Option Round) → named_round tables.rounds number ≡ found → IsKept (draw_in tables number given digits found)
   draw_keeps number given digits None at = keeps

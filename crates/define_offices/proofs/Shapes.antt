@@ -92,25 +92,26 @@ same_shape_on (c ∷ one) (d ∷ next) (e ∷ last) h k =
 
 -- ---- a pool with other bounds
 
+pub bounded_is_pool : (pool : Pool) (bounds : List Category) → IsPool pool → AreRules bounds → same_shape pool.categories bounds ≡ true → IsPool (record pool { categories = bounds })
+bounded_is_pool pool bounds p rules shape = record {
+  size = p.size;
+  few_categories = rules.few;
+  categories = rules.each;
+  different_categories = rules.different;
+  few_volunteers = p.few_volunteers;
+  ids = p.ids;
+  different_ids = p.different_ids;
+  values = all_have_as pool.categories bounds shape pool.volunteers p.values;
+  households = p.households;
+}
+
 pub IsPool-bounds : (pool : Pool) (bounds : Option (List Category)) → IsPool pool → ((categories : List Category) → bounds ≡ Some categories → AreRules categories) → IsPool (with_bounds bounds pool)
 IsPool-bounds pool None p are = p
 IsPool-bounds pool (Some bounds) p are = by (same_shape pool.categories bounds) refl
   where
     by : (same : Bool) → same_shape pool.categories bounds ≡ same → IsPool (cond same (record pool { categories = bounds }) pool)
     by false shape = p
-    by true shape =
-        let rules = are bounds refl in
-        record {
-          size = p.size;
-          few_categories = rules.few;
-          categories = rules.each;
-          different_categories = rules.different;
-          few_volunteers = p.few_volunteers;
-          ids = p.ids;
-          different_ids = p.different_ids;
-          values = all_have_as pool.categories bounds shape pool.volunteers p.values;
-          households = p.households;
-        }
+    by true shape = bounded_is_pool pool bounds p (are bounds refl) shape
 
 pub volunteers-bounds : (pool : Pool) (bounds : Option (List Category)) → (with_bounds bounds pool).volunteers ≡ pool.volunteers
 volunteers-bounds pool None = refl

@@ -186,8 +186,8 @@ module _ (tables : Tables) (keeps : IsTables tables) where
   keep_drops_solving : (bundle : Bundle) (round : Round) → has_drop round ≡ true → has_drop (solved_with bundle round) ≡ true
   keep_drops_solving bundle Open h = absurd (false≢true h)
   keep_drops_solving bundle (Solved other) h = h
-  keep_drops_solving bundle (Sealed other) h = h
-  keep_drops_solving bundle (Drawn other digits dropped) h = h
+  keep_drops_solving bundle (Sealed other tickets) h = h
+  keep_drops_solving bundle (Drawn other tickets digits dropped) h = h
 
   bundle_keeps : (number : ℕ) (pool : Pool) (answer : Answer) → IsOpenRound tables number pool → IsProved pool answer → KeepsBundle tables (record { pool = pool; answer = answer })
   bundle_keeps number pool answer is proved =

@@ -1,12 +1,17 @@
 //! Laws over the office of `define_offices`: what every step keeps, what is true of all tables that a list of commands leaves, and what a
 //! command does when it is given again. The functions have no body: their contracts are the laws, and each is a promise.
-ghost use Rattle.define_offices.specs.Laws.{ChangesChange, CommandsHaveOutcomes, FoldsAreGreatest, FoldsAreTables, FoldsGrow, PoolsArePools, StepsAreFunctions, StepsKeepCertified, StepsKeepTables};
+ghost use Rattle.define_offices.specs.Laws.{BoundedPoolsArePools, BoundsHold, ChangesChange, CommandsHaveOutcomes, FoldsAreGreatest, FoldsAreTables, FoldsGrow, PoolsArePools, StepsAreFunctions, StepsKeepCertified, StepsKeepTables, TriesAreDraws};
 ghost use Rattle.define_offices.specs.Repeats.{BoundsAgain, CharterAgain, RepeatsChangeNothing, ReopenAgain, RulesAgain, SparedRepeatsChangeNothing, UndropAgain};
 ghost use Rattle.define_offices.specs.Versions.{ChangesKeepSecond};
 
 /// If the facts of `IsTables` hold of tables, the pool of each of their rounds satisfies `IsPool`.
 pub fn pools_are_pools()
     ensures { PoolsArePools }
+{}
+
+/// A pool with other bounds of the same categories and values satisfies `IsPool`, if these bounds may be rules.
+pub fn bounded_pools_are_pools()
+    ensures { BoundedPoolsArePools }
 {}
 
 /// If the facts of `IsTables` hold of tables, each command within its limits has exactly one outcome over them.
@@ -69,4 +74,14 @@ pub fn changes_change()
 /// If a store of version 2 can keep tables and a change of them, it can keep the tables after this change.
 pub fn changes_keep_second()
     ensures { ChangesKeepSecond }
+{}
+
+/// If bounds for a round get a reply, the pool of the round has these bounds.
+pub fn bounds_hold()
+    ensures { BoundsHold }
+{}
+
+/// A draw that is tried has the outcome of the draw, without its change.
+pub fn tries_are_draws()
+    ensures { TriesAreDraws }
 {}

@@ -9,6 +9,7 @@ ghost use Rattle.office_tables.specs.Seen.{seen_parts};
 
 use crate::charters::{Charter, Rules};
 use crate::kept_rounds::{Round, copied_rounds};
+use crate::numbers::Tickets;
 use crate::rows::{Entry, copied_entries};
 use crate::tables::{Parts, Tables, copied_charter, copied_rules};
 use bundle_text::Bundle;
@@ -37,7 +38,7 @@ pub enum Change {
         /// The round's number.
         round: usize,
         /// The round number of tickets that is kept with the seal, if one is.
-        tickets: Option<u32>,
+        tickets: Option<Tickets>,
     },
     /// A sealed round was drawn.
     Drawn {

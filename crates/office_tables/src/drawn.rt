@@ -1,13 +1,13 @@
 //! What digits draw from a bundle.
 
 ghost use Rattle.std.specs.Prelude.{◌≡◌, IfOk, IsTrue, length, nat_lt};
-ghost use Rattle.define_offices.specs.Facts.{are_tickets};
 ghost use Rattle.std.specs.List.{list_all};
 ghost use Rattle.define_pools.specs.Lists.{includes_list};
 ghost use Rattle.define_pools.specs.Lottery.{TotalAgrees};
 ghost use Rattle.define_offices.specs.Lines.{member_ids};
 ghost use Rattle.office_tables.specs.Drawn.{IsDrawnBy, IsDrawnFrom};
 
+use crate::numbers::Tickets;
 use bundle_text::Bundle;
 use pool_model::{Name, Panel, Pool};
 use sealed_draw::{Draw, DrawStop, draw};
@@ -19,17 +19,16 @@ use std::alloc::{AllocError, Global};
 pub fn drawn_by(
     alloc: Global,
     bundle: &Bundle,
-    tickets: Option<u32>,
+    tickets: Option<Tickets>,
     digits: &[u8],
 ) -> Result<Option<Draw>, AllocError>
-    requires agrees { TotalAgrees bundle.now.answer.lottery }
-    requires tickets { IsTrue (are_tickets tickets) }
+    requires { TotalAgrees bundle.now.answer.lottery }
     ensures { IfOk result (λ drawn. IsDrawnBy bundle.now tickets digits.now drawn) }
 {
     match tickets {
         None => drawn_from(alloc, bundle, digits),
         Some(tickets) => {
-            let short = short_bundle(alloc, bundle, i128::from(tickets))?;
+            let short = short_bundle(alloc, bundle, i128::from(tickets.count()))?;
             drawn_from(alloc, &short, digits)
         }
     }

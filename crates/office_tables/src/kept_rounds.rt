@@ -7,6 +7,7 @@ ghost use Rattle.define_offices.specs.Tables.{Open, bundle_of, phase_of, tickets
 ghost use Rattle.office_tables.specs.Parts.{digits_of, dropped_of, parts_fit, round_of};
 
 use crate::names::copied_names;
+use crate::numbers::Tickets;
 use bundle_text::Bundle;
 use define_offices::Phase;
 use pool_model::Name;
@@ -19,7 +20,7 @@ use std::marker::Model;
 pub struct Round {
     phase: Phase,
     bundle: Option<Bundle>,
-    tickets: Option<u32>,
+    tickets: Option<Tickets>,
     digits: Vec<u8>,
     dropped: Vec<Name>,
 }
@@ -55,7 +56,7 @@ impl Round {
     pub fn from_parts(
         phase: Phase,
         bundle: Option<Bundle>,
-        tickets: Option<u32>,
+        tickets: Option<Tickets>,
         digits: Vec<u8>,
         dropped: Vec<Name>,
     ) -> Option<Round>
@@ -88,7 +89,7 @@ impl Round {
     }
 
     /// Returns the round number of tickets that was kept with the seal, if there is one.
-    pub fn tickets(&self) -> Option<u32>
+    pub fn tickets(&self) -> Option<Tickets>
         ensures { result ≡ tickets_of self.now }
     {
         self.tickets
@@ -152,7 +153,7 @@ impl Round {
     }
 
     /// Returns the round as sealed with this number of tickets if it is solved, else an equal one.
-    pub(crate) fn copy_sealed(&self, tickets: Option<u32>) -> Result<Round, AllocError>
+    pub(crate) fn copy_sealed(&self, tickets: Option<Tickets>) -> Result<Round, AllocError>
         ensures { IfOk result (λ copied. copied ≡ seal_told tickets self.now) }
     {
         match self.phase {
@@ -245,7 +246,7 @@ fn without(alloc: Global, names: &[Name], id: &Name) -> Result<Vec<Name>, AllocE
 fn fit(
     phase: Phase,
     bundle: &Option<Bundle>,
-    tickets: Option<u32>,
+    tickets: Option<Tickets>,
     digits: &[u8],
     dropped: &[Name],
 ) -> bool

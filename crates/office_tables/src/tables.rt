@@ -154,7 +154,6 @@ pub(crate) fn copied_rules(rules: &Option<Rules>) -> Result<Option<Rules>, Alloc
 /// - At least one round; each but the last is drawn and has a dropout.
 /// - If a round is past `Open`, there are charter and rules; the weights of its bundle sum to the total, and the ids of the bundle's pool
 ///   are those of the register, in order.
-/// - A number of tickets that is kept with a seal is from 1 to 1,000,000,000.
 /// - The digits of a round that was drawn name a ticket, and its dropouts are from the panel of that ticket.
 pub fn tables_of(alloc: Global, parts: Parts) -> Result<Option<Tables>, AllocError>
     ensures { TellsTables (seen_parts parts) result }
