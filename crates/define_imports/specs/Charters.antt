@@ -1,5 +1,6 @@
 -- How a file is read as a charter: a document of TOML with a string `title` and a whole number `size`, and, if the register takes another
--- number of rows than 400, a whole number `volunteers`. Further keys are passed over. Builds on the reading of TOML that the toolchain's `toml` defines, and on Cells for faults.
+-- number of rows than 400, a whole number `volunteers`. Further keys are passed over. Builds on the reading of TOML that the toolchain's
+-- `toml` defines, and on Cells for faults.
 use Rattle.std.specs.Prelude.{ℕ, ℤ, pos, negsuc, if◌then◌else◌, not, ◌&&◌, List, codes, Option, Some, None, Result, Ok, Err, option_and_then, option_map, unwrap_or}
 use Rattle.std.specs.Str.{is_utf8}
 use Rattle.toml.specs.Data.{Data, Members, as_integer, as_str, get_member}

@@ -84,10 +84,10 @@ module _ (number : ℕ) (id : List ℕ) where
   has_changed : (change : Round → Round) (m : ℕ) → (m ≡ number → KeepsOut change) → (rounds : List Round) → HasDropped rounds number id → HasDropped (changed_named change rounds m) number id
   has_changed change m keeps rounds has =
       elim (named_changed change rounds m number (Drawn has.bundle has.tickets has.digits has.dropped) has.there) [
-        inl same ↦ record { bundle = has.bundle; tickets = has.tickets; digits = has.digits; dropped = has.dropped; there = same; member = has.member; dropped_out = has.dropped_out }
+        | inl same ↦ record { bundle = has.bundle; tickets = has.tickets; digits = has.digits; dropped = has.dropped; there = same; member = has.member; dropped_out = has.dropped_out }
         | inr changed ↦
-          let still = keeps changed.0 has.bundle has.tickets has.digits has.dropped has.dropped_out in
-          record { bundle = has.bundle; tickets = has.tickets; digits = has.digits; dropped = still.other; there = changed.1 ∙ ap Some still.is; member = has.member; dropped_out = still.out }
+            let still = keeps changed.0 has.bundle has.tickets has.digits has.dropped has.dropped_out in
+            record { bundle = has.bundle; tickets = has.tickets; digits = has.digits; dropped = still.other; there = changed.1 ∙ ap Some still.is; member = has.member; dropped_out = still.out }
       ]
 
   has_taken : (rounds : List Round) (m : ℕ) → HasDropped rounds number id → HasDropped (taken_named rounds m) number id
@@ -189,10 +189,10 @@ module _ (after : ℕ) where
   begun_taken rounds zero spares far = far
   begun_taken rounds (suc place) spares far =
       elim (one_less rounds place) [
-        inl same ↦ subst (λ n. after + 1 ≤ n) (sym same) far
+        | inl same ↦ subst (λ n. after + 1 ≤ n) (sym same) far
         | inr less ↦
-          let last : after + 1 ≤ suc place = subst (λ n. after + 1 ≤ n) less.0 far in
-          subst (λ n. after + 1 ≤ n) (sym less.1) (below (after + 1) place last (λ same. false≢true (sym spares ∙ (Decides-eqb (after + 1) (suc place)).1 same)))
+            let last : after + 1 ≤ suc place = subst (λ n. after + 1 ≤ n) less.0 far in
+            subst (λ n. after + 1 ≤ n) (sym less.1) (below (after + 1) place last (λ same. false≢true (sym spares ∙ (Decides-eqb (after + 1) (suc place)).1 same)))
       ]
 
   abbrev pub IsThere : Tables → Type 0

@@ -229,7 +229,6 @@ module _ (tables : Tables) (keeps : IsTables tables) where
   at_once_keeps (NextRound after) outcome is h = decided _ outcome (next_keeps tables keeps after (named_round tables.rounds after) refl) h
   at_once_keeps (Show number) outcome is h = decided _ outcome (show_keeps tables keeps (named_round tables.rounds number)) h
   at_once_keeps (Withdraw key) outcome is h = decided _ outcome (withdraw_keeps tables keeps (place_of_hash tables.register (seal_of key) 0)) h
-
   at_once_keeps (SetBounds number bounds) outcome is h = decided _ outcome (bounds_keep tables keeps bounds is.1 (pool_of tables number) (named_round tables.rounds number)) h
   at_once_keeps (TryDraw number given digits) outcome is h = decided _ outcome (tried_keeps tables keeps (draw_in tables number given digits (named_round tables.rounds number))) h
   at_once_keeps (Undrop number id) outcome is h = decided _ outcome (undrop_keeps tables keeps number id (named_round tables.rounds number) refl) h

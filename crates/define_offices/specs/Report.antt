@@ -1,6 +1,7 @@
 -- The report of a round: its title, phase and pool. Once the round is solved, also its lottery with each volunteer's chance; once it is
--- sealed, also the seal, with the round number of tickets if one was kept with it; and once it is drawn, also the draw. Builds on Pools and Lines of `define_offices`, Draw of `define_draws`, and
--- Summary of `define_made_pools`. `office_reports` writes it, and the meaning of `report` in `command_stores` cites it.
+-- sealed, also the seal, with the round number of tickets if one was kept with it; and once it is drawn, also the draw. Builds on Pools and
+-- Lines of `define_offices`, Draw of `define_draws`, and Summary of `define_made_pools`. `office_reports` writes it, and the meaning of
+-- `report` in `command_stores` cites it.
 use Rattle.std.specs.Prelude.{ℕ, true, List, [], ◌∷◌, ◌++◌, codes, filter, length, map, Option, Some, None, Result, Ok, Err}
 use Rattle.std.specs.Fmt.{decimal}
 use Rattle.std.specs.List.{enumerate_from, flat_map}

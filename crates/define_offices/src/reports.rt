@@ -18,7 +18,8 @@ pub fn reports_need_pools()
     ensures refused { (tables : Tables) (number : ℕ) (refusal : Refusal) → pool_of tables number ≡ Err refusal → report_of tables number ≡ Err refusal }
 {}
 
-/// The reports of a round in which the digits `0` drew a panel, of one in which the digit 7 drew a panel in 10 tickets, and of an open round with two volunteers, of whom one has withdrawn.
+/// The reports of a round in which the digits `0` drew a panel, of one in which the digit 7 drew a panel in 10 tickets, and of an open
+/// round with two volunteers, of whom one has withdrawn.
 pub fn worked_reports()
     ensures drawn { report_of drawn_tables 1 ≡ Ok drawn_report }
     ensures tickets { report_of tickets_tables 1 ≡ Ok tickets_report }

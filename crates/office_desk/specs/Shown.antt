@@ -13,7 +13,7 @@ use Rattle.office_desk.specs.declared.published.Published.TheVariants.{Nothing, 
 abbrev pub seen_published : Published → views.Published
 seen_published Nothing = views.Nothing
 seen_published (TheBundle bundle) = views.TheBundle bundle.now
-seen_published (TheDraw bundle digits) = views.TheDraw bundle.now digits.now
+seen_published (TheDraw bundle tickets digits) = views.TheDraw bundle.now digits.now
 
 -- the weights of the bundle sum to its total, and the digits name a ticket
 pub record CanBeDrawn (bundle : Bundle) (digits : List ℕ) : Type 0 where
@@ -24,7 +24,7 @@ pub record CanBeDrawn (bundle : Bundle) (digits : List ℕ) : Type 0 where
 abbrev pub IsSound : views.Published → Type 0
 IsSound views.Nothing = ⊤
 IsSound (views.TheBundle bundle) = TotalAgrees bundle.answer.lottery
-IsSound (views.TheDraw bundle digits) = CanBeDrawn bundle digits
+IsSound (views.TheDraw bundle tickets digits) = CanBeDrawn bundle digits
 
 -- ---- what is shown to the volunteer of a row
 

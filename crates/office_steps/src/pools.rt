@@ -51,8 +51,9 @@ impl From<AllocError> for PoolStop {
 
 /// Returns the pool of a round. While round 1 is open, its pool has the charter's size, the categories of the rules, and the rows of the
 /// register as volunteers: gone if they withdrew, else open. While a later round is open, its pool is what the draw and the dropouts of the
-/// round before leave, and whoever is open there but withdrew is gone; if other bounds were set for it, it has these. Once a round is solved, its pool is that of its bundle. Fails if
-/// there is no round of this number, else if there is no charter, else if there are no rules. Running out of memory is allowed at any time.
+/// round before leave, and whoever is open there but withdrew is gone; if other bounds were set for it, it has these. Once a round is
+/// solved, its pool is that of its bundle. Fails if there is no round of this number, else if there is no charter, else if there are no
+/// rules. Running out of memory is allowed at any time.
 pub fn pool_of(alloc: Global, tables: &Tables, round: usize) -> Result<Pool, PoolStop>
     ensures { TellsPool (pool_of_round tables.now round) result }
 {

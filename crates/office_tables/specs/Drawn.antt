@@ -1,5 +1,5 @@
--- What digits draw from a lottery, and in a round with a bundle. The promise of `drawn_by` cites it, and so do contracts of `office_desk` and
--- `office_reports`.
+-- What digits draw from a lottery, and in a round with a bundle. The promise of `drawn_by` cites it, and so do contracts of `office_desk`
+-- and `office_reports`.
 use Rattle.std.specs.Prelude.{◌≡◌, ◌≤ℤ◌, ℕ, nat_lt, pos, unsigned_abs, IsTrue, List, length, Option, Some, None, is_ok, true, false}
 use Rattle.std.specs.List.{list_all}
 use Rattle.define_pools.specs.Lottery.{Lottery}

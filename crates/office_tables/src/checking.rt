@@ -57,8 +57,8 @@ fn charter_and_rules_keep(parts: &Parts)
     }
 }
 
-/// True if there are at most as many rows as the charter says, their ids and households are names, each fits `rules`, and their ids and digests are all different.
-/// Compares each id and each digest with all those after it.
+/// True if there are at most as many rows as the charter says, their ids and households are names, each fits `rules`, and their ids and
+/// digests are all different. Compares each id and each digest with all those after it.
 fn is_register(charter: &Option<Charter>, register: &[Entry], rules: &Option<Rules>) -> bool
     ensures { result ≡ (nat_le (length register.now) (rows_at_most charter.now) && list_all keeps_limits register.now && all_fit rules.now register.now
         && all_different (entry_ids register.now) && all_different (entry_hashes register.now)) }

@@ -149,8 +149,8 @@ pub(crate) fn copied_rules(rules: &Option<Rules>) -> Result<Option<Rules>, Alloc
 
 /// Returns the tables of these parts, or None exactly if one of these facts doesn't hold of them:
 ///
-/// - At most as many rows as the charter says, or 400 without a charter, whose ids and households are names. Ids are different, and so are the digests of keys. If there are rows, there are
-///   rules, and each row has the name of one value of each category.
+/// - At most as many rows as the charter says, or 400 without a charter, whose ids and households are names. Ids are different, and so are
+///   the digests of keys. If there are rows, there are rules, and each row has the name of one value of each category.
 /// - At least one round; each but the last is drawn and has a dropout.
 /// - If a round is past `Open`, there are charter and rules; the weights of its bundle sum to the total, and the ids of the bundle's pool
 ///   are those of the register, in order.

@@ -40,7 +40,8 @@ fn without_withdrawn(alloc: Global, mut pool: Pool, register: &[Entry]) -> Resul
     Ok(pool)
 }
 
-/// Returns the pool after the digits drew a panel in a round with this bundle, from its lottery or shortened to `tickets` tickets, and the volunteers of these ids dropped out.
+/// Returns the pool after the digits drew a panel in a round with this bundle, from its lottery or shortened to `tickets` tickets, and the
+/// volunteers of these ids dropped out.
 fn next_pool(
     alloc: Global,
     bundle: &Bundle,
