@@ -65,10 +65,10 @@ bundle_reply request Nothing = not_found
 bundle_reply request (TheBundle bundle) = if_by (codes "GET") request (told_text (bundle_spelling bundle))
 bundle_reply request (TheDraw bundle tickets digits) = if_by (codes "GET") request (told_text (bundle_spelling bundle))
 
--- the further key of a draw in a round number of tickets, if one was kept with the seal
-abbrev pub tickets_part : Option ℕ → List ℕ
-tickets_part None = []
-tickets_part (Some tickets) = codes ",\"tickets\":" ++ quoted (decimal tickets)
+-- the end of the body for a draw, with the round number of tickets if one was kept with the seal
+abbrev pub draw_end : Option ℕ → List ℕ
+draw_end None = codes "}"
+draw_end (Some tickets) = codes ",\"tickets\":" ++ quoted (decimal tickets) ++ codes "}"
 
 abbrev pub draw_body : Bundle → Option ℕ → List ℕ → List ℕ
 draw_body bundle tickets digits =
@@ -76,8 +76,7 @@ draw_body bundle tickets digits =
     ++ codes ",\"panel\":" ++ texts (drawn_ids bundle tickets digits)
     ++ codes ",\"seal\":" ++ quoted (bundle_seal bundle)
     ++ codes ",\"ticket\":" ++ quoted (decimal (drawn_of bundle tickets digits).ticket)
-    ++ tickets_part tickets
-    ++ codes "}"
+    ++ draw_end tickets
 
 abbrev pub draw_reply : Request → Published → Reply
 draw_reply request Nothing = not_found
