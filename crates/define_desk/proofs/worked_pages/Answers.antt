@@ -32,7 +32,3 @@ returns-clause-drawn c = refl
 pub returns-clause-tickets : goal.returns-clause-tickets
 unfolding digits sha256 hash_after compress rounds schedule first_words digest_bytes encode_with escape_byte
 returns-clause-tickets c = refl
-
-pub returns-clause-own_of_ten : goal.returns-clause-own_of_ten
-unfolding digits sha256 hash_after compress rounds schedule first_words digest_bytes encode_with escape_byte
-returns-clause-own_of_ten c = refl
