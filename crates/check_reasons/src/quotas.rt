@@ -7,7 +7,7 @@ ghost use Rattle.define_pools.specs.Lists.{includes};
 ghost use Rattle.define_pools.specs.Pool.{allows, is_of_size, is_quota_panel, is_within, keeps_standings, meets_quotas, members_with, share_household as share};
 ghost use Rattle.check_reasons.specs.Households.{household_number as number_of, household_numbers as numbers_of, none_twice};
 
-use pool_model::{BoundedValue, Category, Panel, Pool, Standing, Volunteer, share_household};
+use pool_model::{BoundedValue, Category, Panel, Pool, Volunteer, share_household};
 use std::alloc::{AllocError, Global};
 
 /// Returns each volunteer's household number: the number of the household's first member, or the volunteer's own if there is no household.
@@ -83,26 +83,15 @@ fn keep_standings(
 fn permit(volunteers: &[Volunteer], is_in: &[bool]) -> bool
     ensures { result ≡ list_all (λ (i, volunteer). allows volunteer.standing (slice_index_or is_in.now i false)) (enumerate_from 0 volunteers.now) }
 {
-    volunteers.iter().enumerate().all(|(i, volunteer)| permits(
-        volunteer.standing(),
-        is_marked(is_in, i),
-    ))
+    volunteers.iter().enumerate().all(|(i, volunteer)| volunteer
+        .standing()
+        .permits(is_marked(is_in, i)))
 }
 
 fn is_marked(marks: &[bool], i: usize) -> bool
     ensures { result ≡ slice_index_or marks.now i false }
 {
     marks.get(i).copied().unwrap_or(false)
-}
-
-fn permits(standing: Standing, is_in: bool) -> bool
-    ensures { result ≡ allows standing is_in }
-{
-    match standing {
-        Standing::Open => true,
-        Standing::Seated => is_in,
-        Standing::Gone => !is_in,
-    }
 }
 
 /// Returns a mark for each number below `count`: true if it is a member's number.

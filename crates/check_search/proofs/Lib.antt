@@ -5,4 +5,3 @@ pub mod RuledOut
 pub mod StageTerms
 pub mod Stands
 pub mod Stepping
-pub mod Small

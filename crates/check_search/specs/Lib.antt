@@ -5,4 +5,3 @@ pub mod Weights
 pub mod Terms
 pub mod Steps
 pub mod Likeness
-pub mod Small

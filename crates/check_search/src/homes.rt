@@ -2,13 +2,12 @@
 
 ghost use Rattle.std.specs.Prelude.{◌≡◌, ◌≤◌, length};
 ghost use Rattle.define_searches.specs.Classes.{IsKnownHousehold};
-ghost use Rattle.define_searches.specs.Homes.{HasMoreAt, CanGiveAt, has_room};
-ghost use Rattle.check_search.specs.Small.{AreSmall};
+ghost use Rattle.define_searches.specs.Homes.{AreFew, HasMoreAt, CanGiveAt, has_room};
 
 // Adds `count` to the counter of a household, if there is one.
 pub(crate) fn add_at(homes: &mut [usize], household: Option<usize>, count: usize)
     requires known { IsKnownHousehold (length homes.old) household }
-    requires small { AreSmall homes.old }
+    requires small { AreFew homes.old }
     requires count { count ≤ 4000 }
     ensures { HasMoreAt household count homes.old homes.new }
 {
@@ -31,7 +30,7 @@ pub(crate) fn take_at(homes: &mut [usize], household: Option<usize>, count: usiz
 // True if at most one member of the household is taken after `count` more are taken, or if there is no household.
 pub(crate) fn has_room(homes: &[usize], household: Option<usize>, count: usize) -> bool
     requires known { IsKnownHousehold (length homes.now) household }
-    requires small { AreSmall homes.now }
+    requires small { AreFew homes.now }
     requires count { count ≤ 4000 }
     ensures { result ≡ has_room homes.now household count }
 {

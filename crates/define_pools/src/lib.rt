@@ -12,7 +12,7 @@ pub mod leximin;
 
 ghost use Rattle.std.specs.Prelude.{◌≡◌, ◌↔◌, ◌*◌, [], ◌∷◌, List, ℕ, Contains, IsTrue, sum};
 ghost use Rattle.std.specs.List.{list_all};
-ghost use Rattle.define_pools.specs.Pool.{is_of_size, is_quota_panel, Pool, IsPool, panels, limits_for, most_members, most_volunteers};
+ghost use Rattle.define_pools.specs.Pool.{allows, is_of_size, is_quota_panel, Pool, IsPool, panels, limits_for, most_members, most_volunteers};
 ghost use Rattle.define_pools.specs.Lottery.{Lottery, IsLottery, TotalAgrees, LeximinGreatest, counts};
 ghost use Rattle.define_pools.specs.Certificate.{Stage, Certifies};
 
@@ -25,6 +25,19 @@ pub enum Standing {
     Seated,
     /// Can't be chosen any more.
     Gone,
+}
+
+impl Standing {
+    /// True if a panel may have a volunteer of this standing as a member, or, where `is_in` is false, may be without them.
+    pub fn permits(self, is_in: bool) -> bool
+        ensures { result ≡ allows self is_in }
+    {
+        match self {
+            Standing::Open => true,
+            Standing::Seated => is_in,
+            Standing::Gone => !is_in,
+        }
+    }
 }
 
 /// The limits of a pool's size.

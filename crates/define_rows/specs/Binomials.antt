@@ -1,5 +1,4 @@
 -- In how many ways some of `n` things can be chosen, and how many bases a simplex table could have. Builds on nothing of this repository.
--- `define_legs`, `define_legs` and `exact_table` use it.
 use Rattle.std.specs.Prelude.{ℕ, zero, suc, ◌+◌}
 
 -- the binomial coefficient: the number of ways to choose `size` of `n` things. Those ways that choose the first thing, and those that don't

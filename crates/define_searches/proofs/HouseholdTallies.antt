@@ -18,7 +18,7 @@ household_known all i class n limits stands e household same =
     let known = All-get_or (λ (class : Class). IsKnownHousehold (volunteer_count all) class.household) all.classes i class stands.below limits.households in
     subst (λ m. IsKnownHousehold m household) (sym e) (subst (IsKnownHousehold (volunteer_count all)) (sym (same ∙ ap (λ (class : Class). class.household) stands.is)) known)
 
-pub small_homes : (all : Classes) (front : List ℕ) (rest : List Class) (tally : FrontTally) → taken_by all front ≤ 1000 → Tracks all front rest tally → AreFew tally.homes
+pub small_homes : (all : Classes) (front : List ℕ) (rest : List Class) (tally : FrontTally) → taken_by all front ≤ 4000 → Tracks all front rest tally → AreFew tally.homes
 small_homes all front rest tally small tracks = λ h l.
     omega (arith, tracks.homes h (omega (arith, tracks.homes_cells)), taken_within_all (λ class. is_of_household h class.household) all.classes front)
 

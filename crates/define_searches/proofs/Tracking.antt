@@ -205,7 +205,7 @@ starts all cells tally e none room f gives n count homes = record {
 pub few_later : (all : Classes) (front : List ℕ) (i n : ℕ) (tally : FrontTally) → KeepsLimits all → n ≡ length all.bounds → Tracks all front (drop i all.classes) tally → AreAtMost 1000000 n tally.later
 few_later all front i n tally limits e tracks = λ c v a b. omega (arith, tracks.later c v (omega arith) b, most_small all i (has_value c v) limits)
 
-pub small_held : (all : Classes) (front : List ℕ) (rest : List Class) (n : ℕ) (tally : FrontTally) → n ≡ length all.bounds → taken_by all front ≤ 1000 → Tracks all front rest tally → AreAtMost 1000000 n tally.held
+pub small_held : (all : Classes) (front : List ℕ) (rest : List Class) (n : ℕ) (tally : FrontTally) → n ≡ length all.bounds → taken_by all front ≤ 4000 → Tracks all front rest tally → AreAtMost 1000000 n tally.held
 small_held all front rest n tally e small tracks = λ c v a b. omega (arith, tracks.held c v (omega arith) b, taken_within_all (has_value c v) all.classes front)
 
 pub few_held : (all : Classes) (front : List ℕ) (rest : List Class) (n : ℕ) (tally : FrontTally) → KeepsLimits all → n ≡ length all.bounds → is_reachable all front ≡ true → Tracks all front rest tally → AreAtMost 1000000 n tally.held

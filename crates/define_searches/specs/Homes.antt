@@ -2,9 +2,9 @@
 use Rattle.std.specs.Prelude.{◌≡◌, ℕ, ◌+◌, ◌≤◌, ◌<◌, nat_le, if◌then◌else◌, Bool, true, List, length, slice_index, Option, Some, None}
 use Rattle.define_searches.specs.Compositions.{is_of_household}
 
--- each counter is at most 1000, so that sums stay small
+-- each counter is at most 4000, so that sums stay small: a front may take each volunteer, also where no panel has so many
 abbrev pub AreFew : List ℕ → Type 0
-AreFew homes = (h : ℕ) → h < length homes → slice_index homes h ≤ 1000
+AreFew homes = (h : ℕ) → h < length homes → slice_index homes h ≤ 4000
 
 -- how many of `count` members are of household `h`: all if `household` is `h`, else 0
 abbrev pub added_to : Option ℕ → ℕ → ℕ → ℕ

@@ -9,4 +9,3 @@ pub mod Stepping
 pub mod SharedSearches
 pub mod SharedFronts
 pub mod SharedAnswers
-pub mod Small

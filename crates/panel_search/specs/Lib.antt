@@ -10,4 +10,3 @@ pub mod Tallies
 pub mod Terms
 pub mod Units
 pub mod Weights
-pub mod Small

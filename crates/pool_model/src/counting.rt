@@ -1,5 +1,4 @@
-//! The count of each volunteer: how much of a lottery's weight is on panels with the volunteer. `check_reasons`, `bundle_page`,
-//! `office_reports`, `office_reports` and `office_desk` call it.
+//! The count of each volunteer: how much of a lottery's weight is on panels with the volunteer.
 
 ghost use Rattle.std.specs.Prelude.{◌≡◌, ◌<◌, ℕ, map, length, pos, ◌+ℤ◌, IfOk, IsTrue, FitsSigned, if◌then◌else◌, slice_index_or};
 ghost use Rattle.std.specs.Int.{w128};

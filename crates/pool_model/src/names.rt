@@ -1,5 +1,5 @@
 //! Tests of the names and values that the builder is given. They search the lists from the front, which is fast enough: a pool has at most
-//! 400 volunteers, 20 categories and 50 values a category. Only `bytes_of`, `places` and `places_named` allocate.
+//! 4,000 volunteers, 20 categories and 50 values a category. Only `bytes_of`, `places` and `places_named` allocate.
 
 ghost use Rattle.std.specs.Prelude.{◌≡◌, ◌==◌, nat_le, not, ◌&&◌, map, IfOk};
 ghost use Rattle.std.specs.List.{list_all};

@@ -1,15 +1,14 @@
-//! Tests whether a panel is a quota panel of a pool. `quota_conflicts` and tests call `fits`; the checks have a faster test of their own.
+//! Tests whether a panel is a quota panel of a pool. The checks have a faster test of their own.
 
 ghost use Rattle.std.specs.Prelude.{◌≡◌, IsTrue, nat_lt, count_by, length};
 ghost use Rattle.std.specs.List.{list_all, enumerate_from};
 ghost use Rattle.define_pools.specs.Lists.{includes};
-ghost use Rattle.define_pools.specs.Pool.{members_with, allows, is_within, meets_quotas, keeps_standings, keeps_households, share_household as share, is_quota_panel};
+ghost use Rattle.define_pools.specs.Pool.{members_with, is_within, meets_quotas, keeps_standings, keeps_households, share_household as share, is_quota_panel};
 
 use crate::households::share_household;
 use crate::panels::Panel;
 use crate::parts::{BoundedValue, Category, Volunteer};
 use crate::pools::Pool;
-use define_pools::Standing;
 
 /// True if the panel is a quota panel of the pool: it has the pool's size, its members are volunteers, it has everyone who is seated and
 /// no one who is gone, it meets each bound, and no two members share a household.
@@ -33,26 +32,15 @@ fn are_below(members: &[usize], count: usize) -> bool
 fn keep_standings(volunteers: &[Volunteer], members: &[usize]) -> bool
     ensures { result ≡ keeps_standings volunteers.now members.now }
 {
-    volunteers.iter().enumerate().all(|(i, volunteer)| permits(
-        volunteer.standing(),
-        is_member(members, i),
-    ))
+    volunteers.iter().enumerate().all(|(i, volunteer)| volunteer
+        .standing()
+        .permits(is_member(members, i)))
 }
 
 fn is_member(members: &[usize], i: usize) -> bool
     ensures { result ≡ includes members.now i }
 {
     members.iter().any(|member| *member == i)
-}
-
-fn permits(standing: Standing, is_in: bool) -> bool
-    ensures { result ≡ allows standing is_in }
-{
-    match standing {
-        Standing::Open => true,
-        Standing::Seated => is_in,
-        Standing::Gone => !is_in,
-    }
 }
 
 fn meet_quotas(categories: &[Category], volunteers: &[Volunteer], members: &[usize]) -> bool

@@ -4,10 +4,10 @@ ghost use Rattle.std.specs.Bool.{OnTrue};
 ghost use Rattle.std.specs.Prelude.{◌≡◌, length, nat_lt, IsTrue};
 ghost use Rattle.std.specs.List.{list_all};
 ghost use Rattle.define_pools.specs.Lists.{includes};
-ghost use Rattle.define_pools.specs.Pool.{allows, keeps_standings};
+ghost use Rattle.define_pools.specs.Pool.{keeps_standings};
 ghost use Rattle.define_quotas.specs.Quotas.{is_selection as is_selection_of};
 
-use pool_model::{Panel, Pool, Standing, Volunteer};
+use pool_model::{Panel, Pool, Volunteer};
 
 /// True if an increasing list of numbers is a selection of the pool.
 pub(crate) fn is_selection(pool: &Pool, panel: &Panel) -> bool
@@ -29,24 +29,13 @@ pub fn are_below(members: &[usize], count: usize) -> bool
 pub fn keep_standings(volunteers: &[Volunteer], members: &[usize]) -> bool
     ensures { result ≡ keeps_standings volunteers.now members.now }
 {
-    volunteers.iter().enumerate().all(|(i, volunteer)| permits(
-        volunteer.standing(),
-        is_member(members, i),
-    ))
+    volunteers.iter().enumerate().all(|(i, volunteer)| volunteer
+        .standing()
+        .permits(is_member(members, i)))
 }
 
 fn is_member(members: &[usize], i: usize) -> bool
     ensures { result ≡ includes members.now i }
 {
     members.iter().any(|member| *member == i)
-}
-
-fn permits(standing: Standing, is_in: bool) -> bool
-    ensures { result ≡ allows standing is_in }
-{
-    match standing {
-        Standing::Open => true,
-        Standing::Seated => is_in,
-        Standing::Gone => !is_in,
-    }
 }

@@ -3,13 +3,12 @@ use Rattle.std.proofs.lemmas.Bool.{and_parts}
 use Rattle.define_searches.specs.Compositions.{takes_one_a_household}
 use Rattle.define_searches.specs.Fronts.{size_reachable, values_reachable}
 use Rattle.define_searches.specs.Homes.{has_room}
-use Rattle.define_searches.proofs.HouseholdTallies.{child_households, few_homes}
-use Rattle.check_search.proofs.Small.{few_are_small, homes_same}
+use Rattle.define_searches.proofs.HouseholdTallies.{child_households, few_homes, few_same}
 use Rattle.check_search.proofs.tally.Tally.allows.Goals as goal
 
 pub has_room-requires-clause-small : goal.has_room-requires-clause-small
 has_room-requires-clause-small c =
-    homes_same _ c.args.self.now.homes.items c.deref.ensures.value (few_are_small _ (few_homes c.args.classes.now c.args.front.now _ _ c.class_at-class.ensures.limits c.requires.live c.requires.stands))
+    few_same _ c.args.self.now.homes.items c.deref.ensures.value (few_homes c.args.classes.now c.args.front.now _ _ c.class_at-class.ensures.limits c.requires.live c.requires.stands)
 
 pub returns-then-counts_allow : goal.returns-then-counts_allow
 returns-then-counts_allow c =

@@ -1,7 +1,6 @@
 use Rattle.std.proofs.Common.{◌+◌, ◌&&◌, leb, length, refl, sym, ap, ◌∙◌, arith, true}
-use Rattle.define_searches.proofs.Tracking.{fit_same, fit_cells, small_same, few_later, most_small, each_same, some_same}
+use Rattle.define_searches.proofs.Tracking.{fit_same, fit_cells, small_same, few_later, small_held, most_small, each_same, some_same}
 use Rattle.define_searches.proofs.Liveness.{front_live, front_dead}
-use Rattle.panel_search.proofs.Small.{small_held}
 use Rattle.panel_search.proofs.tally.Tally.counts_alive.Goals as goal
 
 pub size_allows-requires : goal.size_allows-requires

@@ -4,14 +4,13 @@ use Rattle.define_searches.specs.Classes.{Class}
 use Rattle.define_searches.specs.Compositions.{takes_one_of}
 use Rattle.define_searches.specs.Homes.{has_room}
 use Rattle.define_searches.proofs.Beside.{each_next, each_passes}
-use Rattle.define_searches.proofs.HouseholdTallies.{home_alive}
+use Rattle.define_searches.proofs.HouseholdTallies.{few_same, home_alive, small_homes}
 use Rattle.define_searches.proofs.Tracking.{stands_there}
-use Rattle.panel_search.proofs.Small.{small_homes, homes_same}
 use Rattle.panel_search.proofs.tally.Tally.homes_alive.Goals as goal
 
 pub has_one-requires-clause-small : goal.has_one-requires-clause-small
 has_one-requires-clause-small c =
-    homes_same _ c.args.self.now.homes.items c.deref.ensures.value (small_homes c.args.classes.now c.args.front.now _ _ c.requires.small c.requires.stands)
+    few_same _ c.args.self.now.homes.items c.deref.ensures.value (small_homes c.args.classes.now c.args.front.now _ _ c.requires.small c.requires.stands)
 
 pub loop-class-preserved : goal.loop-class-preserved
 loop-class-preserved c =

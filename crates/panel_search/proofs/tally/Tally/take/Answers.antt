@@ -1,8 +1,7 @@
 use Rattle.std.proofs.Common.{◌+◌, drop, length, refl, sym, ap, ◌∙◌, arith}
 use Rattle.std.proofs.lemmas.List.{with_items_is}
-use Rattle.define_searches.proofs.HouseholdTallies.{home_same}
-use Rattle.define_searches.proofs.Tracking.{cells_of_class, cells_same, small_same, more_same, taken_on}
-use Rattle.panel_search.proofs.Small.{small_homes, homes_same, small_held}
+use Rattle.define_searches.proofs.HouseholdTallies.{small_homes, few_same, home_same}
+use Rattle.define_searches.proofs.Tracking.{cells_of_class, cells_same, small_same, more_same, small_held, taken_on}
 use Rattle.panel_search.proofs.tally.Tally.take.Goals as goal
 
 pub add_to-requires-clause-cells : goal.add_to-requires-clause-cells
@@ -17,7 +16,7 @@ add_to-requires-clause-small c =
 
 pub add_at-requires-clause-small : goal.add_at-requires-clause-small
 add_at-requires-clause-small c =
-    homes_same _ c.args.self.now.homes.items c.deref_mut-2.ensures.value (small_homes c.args.classes.now c.args.front.now _ _ c.requires.small c.requires.stands)
+    few_same _ c.args.self.now.homes.items c.deref_mut-2.ensures.value (small_homes c.args.classes.now c.args.front.now _ _ c.requires.small c.requires.stands)
 
 pub overflow_add-self : goal.overflow_add-self
 overflow_add-self c =

@@ -12,11 +12,11 @@ add_to-requires-clause-cells c =
 pub add_to-requires-clause-small : goal.add_to-requires-clause-small
 add_to-requires-clause-small c =
     let all = c.args.classes.now in let front = c.args.front.now in let class = c.class_at-class.result.now in
-    small_same _ _ _ c.args.self.now.held.items (ap length c.values.ensures) c.deref_mut.ensures.value (small_held all front _ (length class.values) _ c.class_at-class.ensures.places.one_each c.requires.small c.requires.stands)
+    small_same _ _ _ c.args.self.now.held.items (ap length c.values.ensures) c.deref_mut.ensures.value (small_held all front _ (length class.values) _ c.class_at-class.ensures.places.one_each (omega (arith, c.requires.small)) c.requires.stands)
 
 pub add_at-requires-clause-small : goal.add_at-requires-clause-small
 add_at-requires-clause-small c =
-    few_same _ c.args.self.now.homes.items c.deref_mut-2.ensures.value (small_homes c.args.classes.now c.args.front.now _ _ c.requires.small c.requires.stands)
+    few_same _ c.args.self.now.homes.items c.deref_mut-2.ensures.value (small_homes c.args.classes.now c.args.front.now _ _ (omega (arith, c.requires.small)) c.requires.stands)
 
 pub overflow_add-self : goal.overflow_add-self
 overflow_add-self c =
