@@ -11,7 +11,7 @@ ghost use Rattle.define_checks.specs.Reasons.{Refusal, Refused};
 ghost use Rattle.define_runs.specs.Run.{Ending};
 ghost use Rattle.command_meanings.specs.Check.{refused_line as words_of_refused};
 ghost use Rattle.command_shell.specs.declared.status.Printed.TheVariants as printed;
-ghost use Rattle.office_core.specs.Deciding.{IsEnding};
+ghost use Rattle.office_core.specs.Deciding.{IsEnding, IsSolve};
 
 use crate::calling::{answer_or_want, load_at, tell_settled};
 use crate::refusals::refusal_answer;
@@ -96,16 +96,18 @@ pub(crate) fn settle_over<R: Threads + Sync, W: Watch + Sync, K: Keeper>(
 
 /// Returns the answer to a run that stops. Only a solve makes a run.
 fn run_answer(alloc: Global, command: &Command, stop: &Stop) -> Result<Answer, AllocError>
+    requires { IsSolve (seen_command command.now) }
     ensures { (ending : Ending) → IsEnding stop.now ending → IfOk result (λ answer. TellsStop (seen_command command.now) ending (saying answer)) }
 {
     match command {
         Command::Solve { limits, .. } => stop_answer(alloc, *limits, stop),
-        _ => Err(AllocError),
+        _ => unreachable!(),
     }
 }
 
 /// Returns the answer to a proof that is refused.
 fn verdict_answer(alloc: Global, verdict: &Verdict) -> Result<Answer, AllocError>
+    requires { (refusal : Refusal) × (verdict.now ≡ Refused refusal) }
     ensures { (refusal : Refusal) → verdict.now ≡ Refused refusal → IfOk result (λ answer. saying answer ≡ Prints printed.Refused (words_of_refused refusal)) }
 {
     match verdict.refusal() {
@@ -113,6 +115,6 @@ fn verdict_answer(alloc: Global, verdict: &Verdict) -> Result<Answer, AllocError
             printed: Printed::Refused,
             text: refused_line(alloc, refusal)?,
         }),
-        None => Err(AllocError),
+        None => unreachable!(),
     }
 }

@@ -9,8 +9,8 @@ use Rattle.define_offices.specs.Tables.{Tables}
 use Rattle.define_offices.proofs.Steps.{comes_keeps, folds_grow}
 use Rattle.office_steps.specs.Replies.{seen_refusal, seen_reply}
 use Rattle.office_steps.specs.declared.replies.Reply.{Reply}
-use Rattle.office_core.specs.Acting.{ActsOn, ActsOver, FailsAtStore, FailsInOrder, FailsInOrderOver, GoesOn, HasFault, HasOutcome, HasOutcomeOver, IsDone, IsLoaded, stop_of_decision, stop_of_keeper}
-use Rattle.office_core.specs.Deciding.{Decides}
+use Rattle.office_core.specs.Acting.{ActsOn, ActsOver, FailsAtStore, FailsInOrder, FailsInOrderOver, GoesOn, HasFault, HasOutcome, HasOutcomeOver, IsDone, IsLoaded, StopsOnlyIf, stop_of_decision, stop_of_keeper}
+use Rattle.office_core.specs.Deciding.{Decides, RunsOnlyIf}
 use Rattle.office_core.specs.Keeping.{Course, HasCause, Load, StoresIt, changed, with_call}
 use Rattle.office_core.specs.declared.keeper.KeeperStop.{KeeperStop}
 use Rattle.office_core.specs.declared.keeper.KeeperStop.TheVariants as keeper
@@ -122,6 +122,12 @@ no_store tables command (decide.Refused refusal) course = tt
 no_store tables command (decide.Solve stopped) course = tt
 no_store tables command (decide.Unproved verdict) course = tt
 no_store tables command decide.OutOfMemory course = tt
+
+pub stopped_only_if : (may : Type 0) (stop : DecideStop) → RunsOnlyIf may (Err stop) → StopsOnlyIf may (Err (stop_of_decision stop))
+stopped_only_if may (decide.Refused refusal) runs = tt
+stopped_only_if may (decide.Solve stopped) runs = runs
+stopped_only_if may (decide.Unproved verdict) runs = tt
+stopped_only_if may decide.OutOfMemory runs = tt
 
 -- a call that loads the tables first fails in its order, if it did so over the tables that were loaded
 pub loaded_first : (told : Option Tables) (tables : Tables) (command : Command) (result : Result Reply ActStop) (before loaded after : Course) → IsLoaded told tables →

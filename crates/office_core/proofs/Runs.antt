@@ -14,7 +14,7 @@ use Rattle.define_offices.specs.Steps.{AtOnce, ByRun, Comes}
 use Rattle.define_offices.specs.Tables.{Round, Open, Solved, Sealed, Drawn, Tables, bundle_of, named_round}
 use Rattle.office_tables.specs.declared.changes.Change.{Change}
 use Rattle.office_steps.specs.declared.replies.Reply.{Reply}
-use Rattle.office_core.specs.Deciding.{Decides, Says, stop_of_run}
+use Rattle.office_core.specs.Deciding.{Decides, RunsOnlyIf, Says, stop_of_run}
 use Rattle.office_core.specs.declared.stops.DecideStop.{DecideStop}
 use Rattle.office_core.specs.declared.stops.DecideStop.TheVariants as decide
 
@@ -65,3 +65,18 @@ stop_decides tables number limits pool (stop.NodesSpent place) needs ends = reco
   says = (run.NodesSpent (stood place), refl, refl);
 }
 stop_decides tables number limits pool stop.OutOfMemory needs ends = tt
+
+-- what no run stopped is stopped by a run only if anything holds
+pub no_run : (may : Type 0) (result : Result (Option Change × Reply) DecideStop) → RunsOnlyIf ⊥ result → RunsOnlyIf may result
+no_run may (Ok decided) none = tt
+no_run may (Err (decide.Refused refusal)) none = tt
+no_run may (Err (decide.Solve stopped)) none = absurd none
+no_run may (Err (decide.Unproved verdict)) none = tt
+no_run may (Err decide.OutOfMemory) none = tt
+
+pub may_run : (may : Type 0) (result : Result (Option Change × Reply) DecideStop) → may → RunsOnlyIf may result
+may_run may (Ok decided) is = tt
+may_run may (Err (decide.Refused refusal)) is = tt
+may_run may (Err (decide.Solve stopped)) is = is
+may_run may (Err (decide.Unproved verdict)) is = tt
+may_run may (Err decide.OutOfMemory) is = tt

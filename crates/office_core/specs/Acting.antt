@@ -102,6 +102,15 @@ FailsInOrder told command (Err KeeperFault) before after =
     (after ≡ with_call before (Load (Some keeper.Failed))) ⊎ ((tables : Tables) × IsLoaded told tables × FailsAtStore tables command (with_call before (Load None)) after)
 FailsInOrder told command (Err OutOfMemory) before after = ⊤
 
+-- if a run stopped the call, `may` holds
+abbrev pub StopsOnlyIf : Type 0 → Result Reply ActStop → Type 0
+StopsOnlyIf may (Ok reply) = ⊤
+StopsOnlyIf may (Err (Refused refusal)) = ⊤
+StopsOnlyIf may (Err (Solve stopped)) = may
+StopsOnlyIf may (Err (Unproved verdict)) = ⊤
+StopsOnlyIf may (Err KeeperFault) = ⊤
+StopsOnlyIf may (Err OutOfMemory) = ⊤
+
 -- the keeper counted a fault exactly if the call stopped because of one
 abbrev pub HasFault : ℕ → ℕ → Result Reply ActStop → Type 0
 HasFault before now (Ok reply) = now ≡ before

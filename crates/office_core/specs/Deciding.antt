@@ -50,6 +50,19 @@ Decides tables command (Err OutOfMemory) = ⊤
 Decides tables command (Err stopped) = IsDecision tables command (Err stopped)
 Decides tables command (Ok decided) = IsDecision tables command (Ok decided)
 
+-- the command is a solve. Only a solve makes a run
+abbrev pub IsSolve : office.Command → Type 0
+IsSolve (office.Solve round limits) = ⊤
+IsSolve other = ⊥
+
+-- if a run stopped the decision, `may` holds
+abbrev pub RunsOnlyIf : Type 0 → Result (Option Change × Reply) DecideStop → Type 0
+RunsOnlyIf may (Ok decided) = ⊤
+RunsOnlyIf may (Err (Refused refusal)) = ⊤
+RunsOnlyIf may (Err (Solve stopped)) = may
+RunsOnlyIf may (Err (Unproved verdict)) = ⊤
+RunsOnlyIf may (Err OutOfMemory) = ⊤
+
 abbrev pub stop_of_office : OfficeStop → DecideStop
 stop_of_office (office_stop.Refused refusal) = Refused refusal
 stop_of_office office_stop.OutOfMemory = OutOfMemory

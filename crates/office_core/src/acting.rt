@@ -4,8 +4,9 @@ ghost use Rattle.std.specs.Prelude.{◌≡◌, IfSome, OnErr, OnOk, option_map};
 ghost use Rattle.define_offices.specs.Facts.{IsTables};
 ghost use Rattle.define_offices.specs.Steps.{applied};
 ghost use Rattle.office_tables.specs.Changes.{seen_change};
-ghost use Rattle.office_core.specs.Acting.{ActsOn, ActsOver, FailsInOrder, FailsInOrderOver, GoesOn, HasFault, stop_of_decision};
+ghost use Rattle.office_core.specs.Acting.{ActsOn, ActsOver, FailsInOrder, FailsInOrderOver, GoesOn, HasFault, StopsOnlyIf, stop_of_decision};
 ghost use Rattle.office_core.specs.Commands.{HasWorkers, seen_command};
+ghost use Rattle.office_core.specs.Deciding.{IsSolve};
 ghost use Rattle.office_core.specs.Keeping.{HasCause, StoresIt, changed};
 
 use crate::commands::Command;
@@ -56,6 +57,7 @@ pub fn act_over<K: Keeper, R: Threads + Sync, W: Watch + Sync>(
     ensures place { (K.course keeper.new).place ≡ (K.course keeper.old).place }
     ensures fault { HasFault (K.faults keeper.old) (K.faults keeper.new) result }
     ensures order { FailsInOrderOver tables.now (seen_command command.now) result (K.course keeper.old) (K.course keeper.new) }
+    ensures runs { StopsOnlyIf (IsSolve (seen_command command.now)) result }
 {
     tables.facts();
     acted_over(rt, alloc, keeper, tables, command, watch)
@@ -76,6 +78,7 @@ fn acted_over<K: Keeper, R: Threads + Sync, W: Watch + Sync>(
     ensures place { (K.course keeper.new).place ≡ (K.course keeper.old).place }
     ensures fault { HasFault (K.faults keeper.old) (K.faults keeper.new) result }
     ensures order { FailsInOrderOver tables.now (seen_command command.now) result (K.course keeper.old) (K.course keeper.new) }
+    ensures runs { StopsOnlyIf (IsSolve (seen_command command.now)) result }
 {
     command.facts();
     tables.facts();

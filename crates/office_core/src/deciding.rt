@@ -4,7 +4,7 @@ ghost use Rattle.std.specs.Prelude.{◌≡◌};
 ghost use Rattle.office_core.specs.Commands.{HasWorkers, seen_command};
 ghost use Rattle.define_offices.specs.Commands.{Outcome};
 ghost use Rattle.office_steps.specs.Steps.{Says as StepSays};
-ghost use Rattle.office_core.specs.Deciding.{Decides, Says};
+ghost use Rattle.office_core.specs.Deciding.{Decides, IsSolve, RunsOnlyIf, Says};
 
 use crate::commands::Command;
 use crate::solving::{keep_proof, solve_round};
@@ -28,7 +28,8 @@ pub fn decide<R: Threads + Sync, W: Watch + Sync>(
     watch: &W,
 ) -> Result<(Option<Change>, Reply), DecideStop>
     requires { HasWorkers command.now }
-    ensures { Decides tables.now (seen_command command.now) result }
+    ensures decides { Decides tables.now (seen_command command.now) result }
+    ensures runs { RunsOnlyIf (IsSolve (seen_command command.now)) result }
 {
     match command {
         Command::Charter(charter) => stepped(set_charter(alloc, tables, charter)),
@@ -57,7 +58,8 @@ pub fn decide<R: Threads + Sync, W: Watch + Sync>(
 fn stepped(
     decided: Result<(Option<Change>, Reply), OfficeStop>,
 ) -> Result<(Option<Change>, Reply), DecideStop>
-    ensures { (outcome : Outcome) → StepSays outcome decided → Says outcome result }
+    ensures says { (outcome : Outcome) → StepSays outcome decided → Says outcome result }
+    ensures no_run { RunsOnlyIf ⊥ result }
 {
     match decided {
         Ok(decided) => Ok(decided),

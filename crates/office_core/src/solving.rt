@@ -7,7 +7,7 @@ ghost use Rattle.define_offices.specs.Lines.{one_line, solved_line};
 ghost use Rattle.define_offices.specs.Pools.{pool_of as pool_of_round};
 ghost use Rattle.define_offices.specs.Commands.{Solve as SolveCommand};
 ghost use Rattle.define_offices.specs.Tables.{named_round};
-ghost use Rattle.office_core.specs.Deciding.{Decides, Says, TellsPool, stop_of_run};
+ghost use Rattle.office_core.specs.Deciding.{Decides, RunsOnlyIf, Says, TellsPool, stop_of_run};
 ghost use Rattle.office_steps.specs.Replies.{seen_reply};
 
 use crate::stops::DecideStop;
@@ -71,7 +71,8 @@ pub(crate) fn keep_proof(
     number: usize,
     proof: &Proof,
 ) -> Result<(Option<Change>, Reply), DecideStop>
-    ensures { Says (keep_in tables.now number proof.now (named_round tables.now.rounds number)) result }
+    ensures says { Says (keep_in tables.now number proof.now (named_round tables.now.rounds number)) result }
+    ensures no_run { RunsOnlyIf ⊥ result }
 {
     let Some(round) = round_named(tables, number) else {
         return Err(DecideStop::Refused(no_round(tables)));
@@ -112,7 +113,8 @@ fn keep_answer(
     bundle: &Bundle,
 ) -> Result<(Option<Change>, Reply), DecideStop>
     requires { are_same bundle.now.pool pool ≡ true }
-    ensures { Says (answered_so number pool (Finds bundle.now.answer)) result }
+    ensures says { Says (answered_so number pool (Finds bundle.now.answer)) result }
+    ensures no_run { RunsOnlyIf ⊥ result }
 {
     bundle.facts();
     pool.facts();
@@ -142,7 +144,8 @@ fn answered(
     answer: Answer,
 ) -> Result<(Option<Change>, Reply), DecideStop>
     requires { IsInRanges pool answer }
-    ensures { Says (answered_so number pool (Finds answer)) result }
+    ensures says { Says (answered_so number pool (Finds answer)) result }
+    ensures no_run { RunsOnlyIf ⊥ result }
 {
     match Bundle::new(pool, answer) {
         Some(bundle) => {

@@ -6,7 +6,7 @@ ghost use Rattle.define_pools.specs.Building.{ids};
 ghost use Rattle.define_pools.specs.Lists.{all_different, includes_list};
 ghost use Rattle.define_pools.specs.Lottery.{TotalAgrees};
 ghost use Rattle.define_pools.specs.Pool.{Category as SeenCategory};
-ghost use Rattle.define_offices.specs.Deciding.{fits_rules};
+ghost use Rattle.define_offices.specs.Deciding.{fits_rules as row_fits};
 ghost use Rattle.define_offices.specs.Facts.{AreRules, IsTables, KeepsBundle, KeepsDraw, KeepsRound, closed_but_last as each_is_closed_but_last, entry_hashes, entry_ids, has_drop, is_charter, is_entry as keeps_limits, rows_fit as all_fit};
 ghost use Rattle.define_offices.specs.Lines.{member_ids};
 ghost use Rattle.define_offices.specs.Tables.{Charter as SeenCharter};
@@ -90,15 +90,16 @@ fn rows_fit(rules: &Option<Rules>, register: &[Entry]) -> bool
 
 /// True if each row has exactly one value of each category.
 fn have_values(categories: &[Category], register: &[Entry]) -> bool
-    ensures { result ≡ list_all (λ entry. fits_rules categories.now entry.values) register.now }
+    ensures { result ≡ list_all (λ entry. row_fits categories.now entry.values) register.now }
 {
     register
         .iter()
-        .all(|entry| are_values(categories, entry.values()))
+        .all(|entry| fits_rules(categories, entry.values()))
 }
 
-fn are_values(categories: &[Category], values: &[Name]) -> bool
-    ensures { result ≡ fits_rules categories.now values.now }
+/// True if `values` has one name for each category, in the order of the categories, and each names a value of its category.
+pub fn fits_rules(categories: &[Category], values: &[Name]) -> bool
+    ensures { result ≡ row_fits categories.now values.now }
 {
     values.len() == categories.len() && are_named(categories, values)
 }

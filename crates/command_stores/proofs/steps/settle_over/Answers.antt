@@ -39,3 +39,12 @@ returns-in-Err-KeeperFault-clause-settles g c =
     faulty (seen_command c.args.command.now) c.args.tables.now (g.K.Keeper.tables c.args.keeper.now) (g.K.Keeper.tables c.act_over.new.keeper)
     (g.K.Keeper.faults c.args.keeper.now) (g.K.Keeper.faults c.act_over.new.keeper) (g.K.Keeper.course c.args.keeper.now) (g.K.Keeper.course c.act_over.new.keeper) c.facts.ensures rose
     (rw c.in-Err-KeeperFault.field-0-is at c.in-Err-KeeperFault.ensures.step) (rw c.in-Err-KeeperFault.field-0-is at c.in-Err-KeeperFault.ensures.order)
+
+pub run_answer-requires : goal.run_answer-requires
+run_answer-requires g c =
+    rw c.in-Err-Solve.field-0-is at c.in-Err-Solve.ensures.runs
+
+pub verdict_answer-requires : goal.verdict_answer-requires
+verdict_answer-requires g c =
+    let (refusal, is, has) = rw c.in-Err-Unproved.field-0-is at c.in-Err-Unproved.ensures.step in
+    (refusal, is)

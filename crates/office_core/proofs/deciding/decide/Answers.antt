@@ -3,56 +3,102 @@ use Rattle.define_draws.specs.Seal.{seal_of}
 use Rattle.define_offices.specs.Commands.{SetCharter, SetRules, Register, Keep, Seal, Draw, Drop, NextRound, Show, Withdraw}
 use Rattle.define_offices.specs.Deciding.{decide_charter, decide_register, decide_rules, draw_in, drop_in, keep_in, next_in, place_of_hash, seal_in, show_in, withdraw_at}
 use Rattle.define_offices.specs.Tables.{named_round}
-use Rattle.office_core.proofs.Runs.{at_once}
+use Rattle.office_core.specs.Commands.{seen_command}
+use Rattle.office_core.specs.Deciding.{IsSolve}
+use Rattle.office_core.proofs.Runs.{at_once, may_run, no_run}
 use Rattle.office_core.proofs.deciding.decide.Goals as goal
 
-pub returns-in-Charter : goal.returns-in-Charter
-returns-in-Charter g c =
+pub returns-in-Charter-clause-decides : goal.returns-in-Charter-clause-decides
+returns-in-Charter-clause-decides g c =
     let tables = c.args.tables.now in
-    rw c.in-Charter.is (at_once tables (SetCharter c.in-Charter.charter) (decide_charter tables c.in-Charter.charter) c.stepped.result refl (c.stepped.ensures _ c.set_charter.ensures))
+    rw c.in-Charter.is (at_once tables (SetCharter c.in-Charter.charter) (decide_charter tables c.in-Charter.charter) c.stepped.result refl (c.stepped.ensures.says _ c.set_charter.ensures))
 
-pub returns-in-Rules : goal.returns-in-Rules
-returns-in-Rules g c =
+pub returns-in-Rules-clause-decides : goal.returns-in-Rules-clause-decides
+returns-in-Rules-clause-decides g c =
     let tables = c.args.tables.now in
-    rw c.in-Rules.is (at_once tables (SetRules c.in-Rules.rules) (decide_rules tables c.in-Rules.rules) c.stepped-in-Rules.result refl (c.stepped-in-Rules.ensures _ c.set_rules.ensures))
+    rw c.in-Rules.is (at_once tables (SetRules c.in-Rules.rules) (decide_rules tables c.in-Rules.rules) c.stepped-in-Rules.result refl (c.stepped-in-Rules.ensures.says _ c.set_rules.ensures))
 
-pub returns-in-Register : goal.returns-in-Register
-returns-in-Register g c =
+pub returns-in-Register-clause-decides : goal.returns-in-Register-clause-decides
+returns-in-Register-clause-decides g c =
     let tables = c.args.tables.now in
-    rw c.in-Register.is (at_once tables (Register c.in-Register.rows) (decide_register tables c.in-Register.rows) c.stepped-in-Register.result refl (c.stepped-in-Register.ensures _ c.register.ensures))
+    rw c.in-Register.is (at_once tables (Register c.in-Register.rows) (decide_register tables c.in-Register.rows) c.stepped-in-Register.result refl (c.stepped-in-Register.ensures.says _ c.register.ensures))
 
-pub returns-in-Seal : goal.returns-in-Seal
-returns-in-Seal g c =
+pub returns-in-Seal-clause-decides : goal.returns-in-Seal-clause-decides
+returns-in-Seal-clause-decides g c =
     let tables = c.args.tables.now in
-    rw c.in-Seal.is (at_once tables (Seal c.in-Seal.round) (seal_in tables c.in-Seal.round (named_round tables.rounds c.in-Seal.round)) c.stepped-in-Seal.result refl (c.stepped-in-Seal.ensures _ c.seal_round.ensures))
+    rw c.in-Seal.is (at_once tables (Seal c.in-Seal.round) (seal_in tables c.in-Seal.round (named_round tables.rounds c.in-Seal.round)) c.stepped-in-Seal.result refl (c.stepped-in-Seal.ensures.says _ c.seal_round.ensures))
 
-pub returns-in-Draw : goal.returns-in-Draw
-returns-in-Draw g c =
+pub returns-in-Draw-clause-decides : goal.returns-in-Draw-clause-decides
+returns-in-Draw-clause-decides g c =
     let tables = c.args.tables.now in
-    rw c.in-Draw.is (at_once tables (Draw c.in-Draw.round c.in-Draw.seal c.in-Draw.digits.items) (draw_in tables c.in-Draw.round c.in-Draw.seal c.in-Draw.digits.items (named_round tables.rounds c.in-Draw.round)) c.stepped-in-Draw.result refl (c.stepped-in-Draw.ensures _ (rw (c.as_str.ensures, c.deref.ensures.value) at c.draw_round.ensures)))
+    rw c.in-Draw.is (at_once tables (Draw c.in-Draw.round c.in-Draw.seal c.in-Draw.digits.items) (draw_in tables c.in-Draw.round c.in-Draw.seal c.in-Draw.digits.items (named_round tables.rounds c.in-Draw.round)) c.stepped-in-Draw.result refl (c.stepped-in-Draw.ensures.says _ (rw (c.as_str.ensures, c.deref.ensures.value) at c.draw_round.ensures)))
 
-pub returns-in-Drop : goal.returns-in-Drop
-returns-in-Drop g c =
+pub returns-in-Drop-clause-decides : goal.returns-in-Drop-clause-decides
+returns-in-Drop-clause-decides g c =
     let tables = c.args.tables.now in
-    rw c.in-Drop.is (at_once tables (Drop c.in-Drop.round c.in-Drop.id) (drop_in tables c.in-Drop.round c.in-Drop.id (named_round tables.rounds c.in-Drop.round)) c.stepped-in-Drop.result refl (c.stepped-in-Drop.ensures _ c.drop_member.ensures))
+    rw c.in-Drop.is (at_once tables (Drop c.in-Drop.round c.in-Drop.id) (drop_in tables c.in-Drop.round c.in-Drop.id (named_round tables.rounds c.in-Drop.round)) c.stepped-in-Drop.result refl (c.stepped-in-Drop.ensures.says _ c.drop_member.ensures))
 
-pub returns-in-NextRound : goal.returns-in-NextRound
-returns-in-NextRound g c =
+pub returns-in-NextRound-clause-decides : goal.returns-in-NextRound-clause-decides
+returns-in-NextRound-clause-decides g c =
     let tables = c.args.tables.now in
-    rw c.in-NextRound.is (at_once tables (NextRound c.in-NextRound.after) (next_in tables c.in-NextRound.after (named_round tables.rounds c.in-NextRound.after)) c.stepped-in-NextRound.result refl (c.stepped-in-NextRound.ensures _ c.next_round.ensures))
+    rw c.in-NextRound.is (at_once tables (NextRound c.in-NextRound.after) (next_in tables c.in-NextRound.after (named_round tables.rounds c.in-NextRound.after)) c.stepped-in-NextRound.result refl (c.stepped-in-NextRound.ensures.says _ c.next_round.ensures))
 
-pub returns-in-Show : goal.returns-in-Show
-returns-in-Show g c =
+pub returns-in-Show-clause-decides : goal.returns-in-Show-clause-decides
+returns-in-Show-clause-decides g c =
     let tables = c.args.tables.now in
-    rw c.in-Show.is (at_once tables (Show c.in-Show.round) (show_in tables (named_round tables.rounds c.in-Show.round)) c.stepped-in-Show.result refl (c.stepped-in-Show.ensures _ c.show_round.ensures))
+    rw c.in-Show.is (at_once tables (Show c.in-Show.round) (show_in tables (named_round tables.rounds c.in-Show.round)) c.stepped-in-Show.result refl (c.stepped-in-Show.ensures.says _ c.show_round.ensures))
 
-pub returns-in-Withdraw : goal.returns-in-Withdraw
-returns-in-Withdraw g c =
+pub returns-in-Withdraw-clause-decides : goal.returns-in-Withdraw-clause-decides
+returns-in-Withdraw-clause-decides g c =
     let tables = c.args.tables.now in
-    rw c.in-Withdraw.is (at_once tables (Withdraw c.in-Withdraw.key.items) (withdraw_at tables (place_of_hash tables.register (seal_of c.in-Withdraw.key.items) 0)) c.stepped-in-Withdraw.result refl (c.stepped-in-Withdraw.ensures _ (rw c.deref-in-Withdraw.ensures.value at c.withdraw.ensures)))
+    rw c.in-Withdraw.is (at_once tables (Withdraw c.in-Withdraw.key.items) (withdraw_at tables (place_of_hash tables.register (seal_of c.in-Withdraw.key.items) 0)) c.stepped-in-Withdraw.result refl (c.stepped-in-Withdraw.ensures.says _ (rw c.deref-in-Withdraw.ensures.value at c.withdraw.ensures)))
 
-pub returns-in-Keep : goal.returns-in-Keep
-returns-in-Keep g c =
+pub returns-in-Keep-clause-decides : goal.returns-in-Keep-clause-decides
+returns-in-Keep-clause-decides g c =
     let tables = c.args.tables.now in
     let round = c.in-Keep.round in
-    rw c.in-Keep.is (at_once tables (Keep round c.in-Keep.proof) (keep_in tables round c.in-Keep.proof (named_round tables.rounds round)) c.keep_proof.result refl c.keep_proof.ensures)
+    rw c.in-Keep.is (at_once tables (Keep round c.in-Keep.proof) (keep_in tables round c.in-Keep.proof (named_round tables.rounds round)) c.keep_proof.result refl c.keep_proof.ensures.says)
+
+pub returns-in-Charter-clause-runs : goal.returns-in-Charter-clause-runs
+returns-in-Charter-clause-runs g c =
+    no_run (IsSolve (seen_command c.args.command.now)) c.stepped.result c.stepped.ensures.no_run
+
+pub returns-in-Rules-clause-runs : goal.returns-in-Rules-clause-runs
+returns-in-Rules-clause-runs g c =
+    no_run (IsSolve (seen_command c.args.command.now)) c.stepped-in-Rules.result c.stepped-in-Rules.ensures.no_run
+
+pub returns-in-Register-clause-runs : goal.returns-in-Register-clause-runs
+returns-in-Register-clause-runs g c =
+    no_run (IsSolve (seen_command c.args.command.now)) c.stepped-in-Register.result c.stepped-in-Register.ensures.no_run
+
+pub returns-in-Seal-clause-runs : goal.returns-in-Seal-clause-runs
+returns-in-Seal-clause-runs g c =
+    no_run (IsSolve (seen_command c.args.command.now)) c.stepped-in-Seal.result c.stepped-in-Seal.ensures.no_run
+
+pub returns-in-Draw-clause-runs : goal.returns-in-Draw-clause-runs
+returns-in-Draw-clause-runs g c =
+    no_run (IsSolve (seen_command c.args.command.now)) c.stepped-in-Draw.result c.stepped-in-Draw.ensures.no_run
+
+pub returns-in-Drop-clause-runs : goal.returns-in-Drop-clause-runs
+returns-in-Drop-clause-runs g c =
+    no_run (IsSolve (seen_command c.args.command.now)) c.stepped-in-Drop.result c.stepped-in-Drop.ensures.no_run
+
+pub returns-in-NextRound-clause-runs : goal.returns-in-NextRound-clause-runs
+returns-in-NextRound-clause-runs g c =
+    no_run (IsSolve (seen_command c.args.command.now)) c.stepped-in-NextRound.result c.stepped-in-NextRound.ensures.no_run
+
+pub returns-in-Show-clause-runs : goal.returns-in-Show-clause-runs
+returns-in-Show-clause-runs g c =
+    no_run (IsSolve (seen_command c.args.command.now)) c.stepped-in-Show.result c.stepped-in-Show.ensures.no_run
+
+pub returns-in-Withdraw-clause-runs : goal.returns-in-Withdraw-clause-runs
+returns-in-Withdraw-clause-runs g c =
+    no_run (IsSolve (seen_command c.args.command.now)) c.stepped-in-Withdraw.result c.stepped-in-Withdraw.ensures.no_run
+
+pub returns-in-Keep-clause-runs : goal.returns-in-Keep-clause-runs
+returns-in-Keep-clause-runs g c =
+    no_run (IsSolve (seen_command c.args.command.now)) c.keep_proof.result c.keep_proof.ensures.no_run
+
+pub returns-in-Solve-clause-runs : goal.returns-in-Solve-clause-runs
+returns-in-Solve-clause-runs g c =
+    may_run (IsSolve (seen_command c.args.command.now)) c.solve_round.result (rw c.in-Solve.is tt)

@@ -12,7 +12,7 @@ returns-in-Ok-Found g c =
     let pool = c.in_ok-pool.pool in
     let needs = needs_run tables c.args.number c.args.limits pool c.in-Some.round.now (sym c.in-Some.ensures) (sym c.bundle.ensures ∙ c.in_default-bundle.is) c.in_ok-pool.ensures in
     let found : RunFinds pool c.args.limits c.in-Ok-Found.answer = rw c.in-Ok-Found.field-0-is at c.in-Ok-Found.ensures.run in
-    decides_so tables (Solve c.args.number c.args.limits) _ c.answered.result (run_comes tables c.args.number c.args.limits pool (run.Found found.0 c.in-Ok-Found.answer) needs found.1) c.answered.ensures
+    decides_so tables (Solve c.args.number c.args.limits) _ c.answered.result (run_comes tables c.args.number c.args.limits pool (run.Found found.0 c.in-Ok-Found.answer) needs found.1) c.answered.ensures.says
 
 pub returns-in-Ok-NoPanel : goal.returns-in-Ok-NoPanel
 returns-in-Ok-NoPanel g c =
