@@ -1,10 +1,7 @@
 use Rattle.prove_table.specs.Sizes.{SameSizes}
 use Rattle.prove_peeling.specs.Shapes.{IsPanelMix}
 use Rattle.prove_limits.specs.Budgets.{SpendsOn}
-use Rattle.prove_peeling.proofs.tails.tail_of.Given as goal
-
-abbrev pub invariant-loop-number : goal.invariant-loop-number
-invariant-loop-number l = IsPanelMix l.mix
+use Rattle.prove_peeling.proofs.tails.tail_by.Given as goal
 
 abbrev pub invariant-steps : goal.invariant-steps
 invariant-steps l = record {
