@@ -24,7 +24,8 @@ const TOO_FEW: &[u8] = b"pool\t1\nsize\t2\ncategory\tone\nvalue\tx\t2\t2\nvalue\
 volunteer\tv0\tx\nvolunteer\tv1\ty\nvolunteer\tv2\ty\nend\n";
 
 /// One of two with different values. `peeling` uses this too.
-pub(crate) const ONE_OF_TWO: &[u8] = b"pool\t1\nsize\t1\ncategory\tone\nvalue\tx\t0\t1\nvalue\ty\t0\t1\n\
+pub(crate) const ONE_OF_TWO: &[u8] =
+    b"pool\t1\nsize\t1\ncategory\tone\nvalue\tx\t0\t1\nvalue\ty\t0\t1\n\
 volunteer\tv0\tx\nvolunteer\tv1\ty\nend\n";
 
 /// Pools, with the chance of each value's volunteers, a numerator and a denominator; none if no point meets the quotas.
