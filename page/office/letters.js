@@ -3,14 +3,15 @@
 // Letters of an earlier call: who has which id and key. Reads a file of letters, and finds the people of a later list in it. It finds whom
 // `tools/letters.py` finds, by the rule that is written there, and says what that says.
 //
-// A letter has the number of its row, an id, a key and its cells. An entry is a row of the list or of the letters as the two are compared: its number,
-// and what it says in the columns that both have, folded and as it is spelled.
+// A letter has the number of its row, an id, a key and its cells. An entry is a row of the list or of the letters as the two are compared:
+// its number, and what it says in the columns that both have, folded and as it is spelled.
 
 // ---- reading
 
 // Why a file can't be the letters of an office.
 function letterFaults(table, letters) {
-  const faults = letters.filter(({ id, key }) => whyNotAName(id) || !/^[!-~]{1,200}$/.test(key)).map(({ row }) => `${table.name} row ${row}: it has no id, or no key`);
+  const isWrong = ({ id, key }) => whyNotAName(id) || !/^[!-~]{1,200}$/.test(key);
+  const faults = letters.filter(isWrong).map(({ row }) => `${table.name} row ${row}: it has no id, or no key`);
   for (const what of ['id', 'key']) {
     for (const [said, its] of grouped(letters, letter => letter[what])) {
       if (its.length > 1) faults.push(`${table.name} rows ${listed(its.map(letter => String(letter.row)))}: the same ${what} ${quoted(said)}`);
@@ -33,8 +34,8 @@ function isOnce(heading, name) {
   return heading.filter(other => other === name).length === 1;
 }
 
-// The place of the letters' column with the codes of households, or null. `columns` are those of the list: one of these may be called `household` too,
-// and is called `household (people)` in letters that have codes.
+// The place of the letters' column with the codes of households, or null. `columns` are those of the list: one of these may be called
+// `household` too, and is called `household (people)` in letters that have codes.
 function householdPlace({ heading }, columns) {
   const isOfList = columns.includes('household') && !heading.includes('household (people)');
   return isOfList || !isOnce(heading, 'household') ? null : heading.indexOf('household');
@@ -47,8 +48,8 @@ function nameInLetters(name, own) {
   return own.includes(name) ? `${name} (people)` : name;
 }
 
-// The columns that a list and the letters both have, once each: their names, their places in either file, and which of them are those of a name, of an
-// address, of an e-mail and of answers. Each of these is empty if one of its columns isn't in both files.
+// The columns that a list and the letters both have, once each: their names, their places in either file, and which of them are those of a
+// name, of an address, of an e-mail and of answers. Each of these is empty if one of its columns isn't in both files.
 function sharedColumns(table, letters, uses) {
   const own = ['id', 'key', ...(householdPlace(letters.table, table.heading) === null ? [] : ['household'])];
   const there = letters.table.heading;
@@ -170,9 +171,9 @@ function lookForCorrected(listName, fresh, letters, shared, kept, remarks) {
 // Where there are no old letters.
 const NOBODY = { name: '', letters: [], kept: new Map(), gone: [], codes: new Map(), columns: new Map() };
 
-// What the old letters hold: the name of the file; its rows; those of people who are in the list, by the row of the list, and the others; the codes of
-// households by id; and the places of the list's columns in it. Names who may be in them, and who isn't in the list any more. Without an address the
-// columns that look like one are the address.
+// What the old letters hold: the name of the file; its rows; those of people who are in the list, by the row of the list, and the others;
+// the codes of households by id; and the places of the list's columns in it. Names who may be in them, and who isn't in the list any more.
+// Without an address the columns that look like one are the address.
 function beforeOf(file, table, people, categories, uses, same, remarks) {
   if (!file) return NOBODY;
   const old = readLetters(file, remarks);
@@ -196,11 +197,12 @@ function beforeOf(file, table, people, categories, uses, same, remarks) {
 function lookForChanges(people, uses, before, owns, remarks) {
   const isChanged = (person, letter) => {
     const cellOf = place => letter.cells[before.columns.get(place)];
-    const hasOthers = uses.answers.some((place, number) => before.columns.has(place) && guarded(stripped(cellOf(place))) !== guarded(person.answers[number]));
-    return hasOthers || before.codes.get(letter.id) !== owns.get(person.row).household;
+    const isOther = (place, number) => before.columns.has(place) && guarded(stripped(cellOf(place))) !== guarded(person.answers[number]);
+    return uses.answers.some(isOther) || before.codes.get(letter.id) !== owns.get(person.row).household;
   };
-  const changed = people.filter(person => before.kept.has(person.row) && isChanged(person, before.kept.get(person.row))).map(person => before.kept.get(person.row).id);
+  const kept = people.filter(person => before.kept.has(person.row)).map(person => [person, before.kept.get(person.row)]);
+  const changed = kept.filter(([person, letter]) => isChanged(person, letter)).map(([, letter]) => letter.id).sort(byLetters);
   if (!changed.length) return;
-  remarks.say(`${before.name}: ${listed(changed.sort(byLetters))} had another answer or household, so a store that was filled before refuses the new register: `
+  remarks.say(`${before.name}: ${listed(changed)} had another answer or household, so a store that was filled before refuses the new register: `
     + 'fill a new one. Ids and keys stay');
 }

@@ -19,7 +19,8 @@ function lettersTexts(table, people, owns, hasHouseholds, before) {
   const heading = [...own, ...table.heading.map(name => nameInLetters(name, own))];
   const rowOf = person => [...own.map(name => owns.get(person.row)[name]), ...person.cells.slice(0, table.heading.length)];
   const cellOf = (letter, place) => before.columns.has(place) ? letter.cells[before.columns.get(place)] : '';
-  const gone = before.gone.map(letter => [letter.id, letter.key, ...(hasHouseholds ? [before.codes.get(letter.id)] : []), ...table.heading.map((_, place) => cellOf(letter, place))]);
+  const ownOf = ({ id, key }) => [id, key, ...(hasHouseholds ? [before.codes.get(id)] : [])];
+  const gone = before.gone.map(letter => [...ownOf(letter), ...table.heading.map((_, place) => cellOf(letter, place))]);
   const text = rows => listText([heading, ...rows], table.mark, table.delimiter);
   const texts = { 'letters.csv': text([...people.map(rowOf), ...gone]) };
   if (before.letters.length) texts['letters-new.csv'] = text(people.filter(person => !before.kept.has(person.row)).map(rowOf));
