@@ -62,7 +62,7 @@ function openedAssembly(call, text) {
     try {
       checkRound(call, assembly, round, place);
     } catch (error) {
-      throw at(error.message);
+      throw error instanceof WantOfMemory ? error : at(error.message);
     }
   });
   return assembly;

@@ -23,11 +23,6 @@ async function findLottery() {
   }
 }
 
-function tellFailed(place, error) {
-  if (error instanceof Stopped) say(place, 'Stopped', ['Nothing was lost. You can begin again.']);
-  else say(place, 'It failed', [error.message]);
-}
-
 // Takes what `prove` answered.
 async function takeProof(round, text, seconds) {
   const call = await checker;
@@ -58,6 +53,7 @@ async function showLottery() {
   part('find').disabled = round.isPublished;
   part('frame').srcdoc = textTold(call, 'tell_page', bundle);
   const name = `round-${assembly.rounds.length}`;
+  const files = { [`${name}.bundle`]: () => bundle, [`${name}.proof`]: () => round.proof, [`${name}.html`]: () => textTold(call, 'tell_page', bundle) };
   const ticks = ALL_PUBLISHED.map(words => {
     const box = element('input', '', { type: 'checkbox', checked: round.isPublished, disabled: round.isPublished });
     return element('label', [box, ` ${words}`], { className: 'tick' });
@@ -76,8 +72,7 @@ async function showLottery() {
     element('h3', 'What to publish, before the dice are thrown'),
     element('p', 'The seal:'),
     element('p', [element('code', seal, { id: 'seal' })]),
-    element('p', [saveButton(`${name}.bundle`, () => bundle), saveButton(`${name}.proof`, () => round.proof), saveButton(`${name}.html`, () => textTold(call, 'tell_page', bundle))],
-      { className: 'buttons' }),
+    saveButtons(Object.keys(files), file => files[file]()),
     element('div', ticks),
     publish,
     element('div', '', { id: 'published', role: 'status' }),
