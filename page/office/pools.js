@@ -1,6 +1,6 @@
 'use strict';
 
-// The texts of pools: of the first round, and with other bounds. docs/FORMATS.md has the form. The proved code reads
+// The texts of pools: of a first round that is too large for an office, and with other bounds. docs/FORMATS.md has the form. The proved code reads
 // each text, and refuses one that is no pool.
 
 // The lines of a text, in fields.

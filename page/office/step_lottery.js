@@ -136,8 +136,18 @@ function showLoosened(round, text) {
   }
 }
 
+// The pool and the files of the office with other bounds. Those of the first round are made anew.
+function withBounds(call, round, bounds) {
+  const pool = poolWithBounds(round.pool, bounds);
+  const { rounds, people, size, texts } = assembly;
+  if (rounds.length > 1) return { pool, texts };
+  const rules = poolIn(pool).categories.flatMap(({ name, values }) => values.map(value => [name, value.name, value.least, value.most]));
+  const others = { ...texts, 'rules.csv': csvText([['category', 'name', 'min', 'max'], ...rules]) };
+  return { pool: isForOffice(people.length, size) ? poolOfFiles(call, others) : pool, texts: others };
+}
+
 // Takes the bounds of the form.
-function takeBounds() {
+async function takeBounds() {
   const round = lastRound();
   const bounds = boundsGiven();
   const areBounds = ([least, most]) => Number.isInteger(least) && Number.isInteger(most) && 0 <= least && least <= most && most <= MOST_BOUND;
@@ -146,11 +156,9 @@ function takeBounds() {
     say(part('none-state'), 'These bounds can’t be', wrong);
     return;
   }
-  round.pool = poolWithBounds(round.pool, bounds);
-  if (assembly.rounds.length === 1) {
-    const rules = poolIn(round.pool).categories.flatMap(({ name, values }) => values.map(value => [name, value.name, value.least, value.most]));
-    assembly.texts['rules.csv'] = csvText([['category', 'name', 'min', 'max'], ...rules]);
-  }
+  const { pool, texts } = withBounds(await checker, round, bounds);
+  round.pool = pool;
+  assembly.texts = texts;
   setChanged();
   hideSections('none');
   part('lottery-state').replaceChildren(element('p', 'The bounds are changed. Look for the lottery again.'));

@@ -182,15 +182,16 @@ function askedByForm() {
   return { missing, asked: { household, name: [], email: [], same: sameTold, title, size: Number(size), most: MOST_PEOPLE_OF_TEXTS } };
 }
 
-// The assembly of what was made, with its first round.
-function assemblyOf(made, { title, size }) {
+// The assembly of what was made, with its first round. The pool that an office can have is made of its files; a larger one is written here.
+function assemblyOf(call, made, { title, size }) {
   const { table: { name, mark, delimiter, heading }, people, owns, texts } = made;
   const members = people.map(person => ({ ...owns.get(person.row), cells: person.cells.slice(0, heading.length) }));
-  return { ...newAssembly(), title, size, table: { name, mark, delimiter, heading }, people: members, texts, rounds: [newRound(firstPool(made, size))] };
+  const pool = isForOffice(people.length, size) ? poolOfFiles(call, texts) : firstPool(made, size);
+  return { ...newAssembly(), title, size, table: { name, mark, delimiter, heading }, people: members, texts, rounds: [newRound(pool)] };
 }
 
 // Makes the files of the office, and the first round. What is published stays as it is.
-function makeFiles() {
+async function makeFiles() {
   if (assembly.rounds.some(round => round.isPublished)) {
     say(part('remarks'), 'This assembly is published', ['It stays as it is. Save it as a file, and open this page anew for another one.']);
     return;
@@ -205,7 +206,7 @@ function makeFiles() {
   const made = prepared(given, asked, secureBytes);
   showRemarks(made);
   showSame(made.remarks.said);
-  if (made.isMade) setAssembly(assemblyOf(made, asked));
+  if (made.isMade) await setAssembly(assemblyOf(await checker, made, asked));
 }
 
 // Saves the letters. From now on whoever is in them keeps id and key, also if the tables are given anew.
