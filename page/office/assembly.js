@@ -31,6 +31,13 @@ function textTold(call, name, ...parts) {
   return new TextDecoder().decode(call(name, ...bytes));
 }
 
+// The pool of the first round that the proved code makes of the office's files. Throws if they make none.
+function poolOfFiles(call, texts) {
+  const pool = textTold(call, 'tell_first_pool', texts['charter.toml'], texts['rules.csv'], texts['register.csv']);
+  if (!pool.startsWith('pool\t')) throw new Error(`the files of the office make no pool: ${pool.trimEnd()}`);
+  return pool;
+}
+
 // What follows from the proof of a round: its bundle and seal. Throws if the proof is not valid, or is of another pool.
 function sealedBy(call, round) {
   const verdict = textTold(call, 'tell_verify', round.proof).trimEnd();
@@ -62,7 +69,7 @@ function openedAssembly(call, text) {
     try {
       checkRound(call, assembly, round, place);
     } catch (error) {
-      throw at(error.message);
+      throw error instanceof WantOfMemory ? error : at(error.message);
     }
   });
   return assembly;
@@ -76,6 +83,7 @@ function checkRound(call, assembly, round, place) {
   const isOfPeople = assembly.people.length === ids.length && assembly.people.every(person => ids.includes(person.id));
   if (!isOfPeople) throw new Error('the pool has other people than the letters');
   if (place > 0) checkFollows(call, assembly.rounds[place - 1], round);
+  else if (isForOffice(ids.length, assembly.size) && poolOfFiles(call, assembly.texts) !== round.pool) throw new Error('the pool isn’t that of the office’s files');
   if (!round.proof) {
     if (round.isDrawn || round.isPublished) throw new Error('it is drawn or published, and has no proof');
     return;

@@ -26,7 +26,8 @@ function longCall(module, name, parts, tick) {
     };
     worker.onmessage = ({ data }) => {
       end();
-      if (data.failed) fail(new Error(data.failed));
+      if (data.isMemory) fail(new WantOfMemory(data.failed));
+      else if ('failed' in data) fail(new Error(data.failed));
       else done({ text: new TextDecoder().decode(data.text), seconds: (Date.now() - began) / 1000 });
     };
     worker.onerror = event => {

@@ -2,8 +2,6 @@
 
 // The page as a whole: the assembly that it holds, and which steps are open.
 
-const MOST_MEMBERS = 200;                    // of a panel
-
 // The bytes of the module, and the call of checker.js in this page. Long calls go to a worker.
 const moduleBytes = Promise.resolve().then(() => Uint8Array.from(atob(part('module').textContent), it => it.charCodeAt(0)));
 const checker = moduleBytes.then(loadedChecker);
@@ -17,6 +15,7 @@ const lastRound = () => assembly.rounds[assembly.rounds.length - 1];
 
 function setChanged() {
   isChanged = true;
+  part('trouble').replaceChildren();
   part('keep-state').textContent = 'Not saved yet.';
 }
 
@@ -54,9 +53,11 @@ async function openFile(file) {
     const opened = openedAssembly(await checker, await file.text());
     await setAssembly(opened);
     isChanged = false;
+    setLetters(lettersOf(opened));
     say(part('keep-state'), 'Opened', [`${file.name} fits itself: each proof was checked, each seal computed and each draw drawn again.`], true);
   } catch (error) {
-    say(part('keep-state'), 'The file is refused', [`${file.name}: ${error.message}.`]);
+    if (wantsMemory(error)) tellFailed(part('keep-state'), error);
+    else say(part('keep-state'), 'The file is refused', [`${file.name}: ${error.message}.`]);
   }
 }
 
@@ -74,7 +75,15 @@ async function takeDropped(files) {
   }
 }
 
+// Says what nothing else says. The assembly stays as it is, and can be saved.
+function tellTrouble(event) {
+  event.preventDefault();
+  tellFailed(part('trouble'), event.reason ?? event.error ?? event);
+}
+
 function beginOffice() {
+  addEventListener('unhandledrejection', tellTrouble);
+  addEventListener('error', tellTrouble);
   beginPeople();
   beginLottery();
   beginDraw();

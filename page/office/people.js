@@ -134,11 +134,11 @@ function withoutRepeats(table, people, uses, remarks) {
   return kept;
 }
 
-// The people who go into the register: at least one, and as many as the office takes.
-function keptPeople(table, categories, uses, remarks) {
+// The people who go into the register: at least one, and at most `most`.
+function keptPeople(table, categories, uses, most, remarks) {
   const people = withoutRepeats(table, peopleOf(table, categories, uses.answers, remarks), uses, remarks);
-  if (people.length < 1 || people.length > MOST_PEOPLE) {
-    throw new Hopeless(`${table.name}: ${people.length} people are left, and the register takes 1 to ${MOST_PEOPLE}`);
+  if (people.length < 1 || people.length > most) {
+    throw new Hopeless(`${table.name}: ${people.length} people are left, and the register takes 1 to ${most}`);
   }
   return people;
 }

@@ -12,12 +12,29 @@ function registerText(people, categories, owns, hasHouseholds) {
   return csvText([['id', 'key', ...categories.keys(), ...(hasHouseholds ? ['household'] : [])], ...rows]);
 }
 
-// The text of letters.csv, in the order of the people.
-function lettersText(table, people, owns, hasHouseholds) {
+// The texts of letters.csv, in the order of the people and with those behind who aren't in the list any more; and of letters-new.csv, which is made where
+// there are old letters.
+function lettersTexts(table, people, owns, hasHouseholds, before) {
   const own = ['id', 'key', ...(hasHouseholds ? ['household'] : [])];
-  const heading = [...own, ...table.heading.map(name => own.includes(name) ? `${name} (people)` : name)];
-  const rows = people.map(person => [...own.map(name => owns.get(person.row)[name]), ...person.cells.slice(0, table.heading.length)]);
-  return listText([heading, ...rows], table.mark, table.delimiter);
+  const heading = [...own, ...table.heading.map(name => nameInLetters(name, own))];
+  const rowOf = person => [...own.map(name => owns.get(person.row)[name]), ...person.cells.slice(0, table.heading.length)];
+  const cellOf = (letter, place) => before.columns.has(place) ? letter.cells[before.columns.get(place)] : '';
+  const ownOf = ({ id, key }) => [id, key, ...(hasHouseholds ? [before.codes.get(id)] : [])];
+  const gone = before.gone.map(letter => [...ownOf(letter), ...table.heading.map((_, place) => cellOf(letter, place))]);
+  const text = rows => listText([heading, ...rows], table.mark, table.delimiter);
+  const texts = { 'letters.csv': text([...people.map(rowOf), ...gone]) };
+  if (before.letters.length) texts['letters-new.csv'] = text(people.filter(person => !before.kept.has(person.row)).map(rowOf));
+  return texts;
+}
+
+// What the letters hold, a line each.
+function linesAboutLetters(people, before) {
+  const lines = ['letters.csv: who has which id and key; keep it in the drawer'];
+  if (!before.letters.length) return lines;
+  const fresh = people.length - before.kept.size;
+  lines.push(`letters.csv: kept ${before.kept.size}, new ${fresh}, not in the list any more ${before.gone.length}`);
+  lines.push(`letters-new.csv: people ${fresh}; write letters to these alone`);
+  return lines;
 }
 
 // The text of charter.toml, or null if not all of it is given.
@@ -29,9 +46,10 @@ function charterText({ title, size }, remarks) {
   return null;
 }
 
-// Makes the files of the people and the quotas, each a name with bytes. `asked` has the columns of an address, of a name and of an e-mail, a title and
-// a size; lists may be empty, and title and size null. Throws Hopeless if nothing can be made. Returns the texts by name, a line for each that says
-// what it has, and what else the page shows: the table of the people, the people and what the office gave them.
+// Makes the files of the people, the quotas and the letters of an earlier call, each a name with bytes; the letters may be null. `asked` has the columns
+// of an address, of a name and of an e-mail, which rows have which ids of the letters, a title, a size and the most people; lists may be empty, and title
+// and size null. Throws Hopeless if nothing can be made. Returns the texts by name, a line for each that says what it has, and what else the page shows:
+// the table of the people, the people and what the office gave them.
 function madeFiles(files, asked, remarks, bytes) {
   const whyNot = asked.title === null ? null : whyNotAName(asked.title);
   if (whyNot) throw new Hopeless(`the title can't be taken: ${whyNot}`);
@@ -43,21 +61,23 @@ function madeFiles(files, asked, remarks, bytes) {
   }
   const uses = usesOf(table, categories, asked);
   lookForAddresses(table, categories, uses.address, remarks);
-  const people = keptPeople(table, categories, uses, remarks);
+  const people = keptPeople(table, categories, uses, asked.most ?? MOST_PEOPLE, remarks);
   lookAtQuotas(quotas.name, categories, people, asked.size, remarks);
-  const owns = ownsOf(table, people, uses.address, remarks, bytes);
+  const before = beforeOf(files.letters, table, people, categories, uses, asked.same ?? [], remarks);
+  const owns = ownsOf(table, people, uses.address, before, remarks, bytes);
+  lookForChanges(people, uses, before, owns, remarks);
   const rules = [...categories].flatMap(([category, values]) => [...values].map(([value, bounds]) => [category, value, ...bounds]));
   const hasHouseholds = uses.address.length > 0;
   const texts = {
     'rules.csv': csvText([['category', 'name', 'min', 'max'], ...rules]),
     'register.csv': registerText(people, categories, owns, hasHouseholds),
-    'letters.csv': lettersText(table, people, owns, hasHouseholds),
+    ...lettersTexts(table, people, owns, hasHouseholds, before),
   };
   const households = new Set([...owns.values()].map(own => own.household).filter(code => code !== ''));
   const lines = [
     `rules.csv: categories ${categories.size}, values ${rules.length}`,
     `register.csv: people ${people.length} of ${table.rows.length}, households ${households.size}`,
-    'letters.csv: who has which id and key; keep it in the drawer',
+    ...linesAboutLetters(people, before),
   ];
   const charter = charterText(asked, remarks);
   if (charter !== null) {

@@ -23,9 +23,12 @@ function tableOf(heading, rows) {
   return element('table', [head, body]);
 }
 
-// Shows a title with sentences below it, in good or bad colours.
+// Shows a title with sentences below it, in good or bad colours. If the part that had the focus goes, the title has it.
 function say(place, title, sentences = [], isGood = false, ...more) {
-  place.replaceChildren(element('p', title, { className: isGood ? 'title good' : 'title bad' }), ...sentences.map(it => element('p', it)), ...more);
+  const hadFocus = place.contains(document.activeElement);
+  const heading = element('p', title, { className: isGood ? 'title good' : 'title bad', tabIndex: -1 });
+  place.replaceChildren(heading, ...sentences.map(it => element('p', it)), ...more);
+  if (hadFocus) heading.focus();
 }
 
 // Hands a text to the browser as a file to save.
@@ -38,19 +41,19 @@ function save(name, text, kind = 'text/plain') {
   setTimeout(() => URL.revokeObjectURL(place), 10000);
 }
 
-// Makes a button that saves a file. `textOf` returns its text; `after` is called then.
-function saveButton(name, textOf, after = () => {}) {
+// Makes a button that saves a file. `saveIt` does it.
+function saveButton(name, saveIt) {
   const button = element('button', `Save ${name}`, { type: 'button' });
   button.addEventListener('click', () => {
-    save(name, textOf());
+    saveIt();
     button.classList.add('saved');
-    after();
   });
   return button;
 }
 
+// Makes buttons that save files. `textOf` returns the text of a file.
 function saveButtons(names, textOf) {
-  return element('p', names.map(name => saveButton(name, () => textOf(name))), { className: 'buttons' });
+  return element('p', names.map(name => saveButton(name, () => save(name, textOf(name)))), { className: 'buttons' });
 }
 
 // Shows a section, and goes to its heading if it was hidden.
@@ -67,13 +70,30 @@ function hideSections(...ids) {
   for (const id of ids) part(id).hidden = true;
 }
 
-// Shows how a long call goes on: the seconds, and a button that stops it.
+// Shows how a long call goes on: the seconds, which aren't read aloud, and a button that stops it.
 function showRunning(place, what) {
-  const seconds = element('span', '0 seconds');
+  const seconds = element('span', '0 seconds', { role: 'timer', ariaLive: 'off' });
   const stop = element('button', 'Stop', { type: 'button' });
   stop.addEventListener('click', stopLongCall);
   place.replaceChildren(element('p', [element('span', '', { className: 'turning', ariaHidden: 'true' }), ` ${what} … `, seconds]), element('p', [stop]));
   return it => {
     seconds.textContent = it === 1 ? '1 second' : `${it} seconds`;
   };
+}
+
+// ---- trouble
+
+const OF_MEMORY = ['Nothing was lost. Save the assembly as a file, close other pages and programs, open this page again, and open the file.',
+  'If that doesn’t help, take a computer with more memory.'];
+
+// True if an error says that memory is wanting, in the words of any browser.
+function wantsMemory(error) {
+  return error instanceof WantOfMemory || error instanceof RangeError || /memory/i.test(error?.message ?? '');
+}
+
+// Says what went wrong at a place of the page.
+function tellFailed(place, error) {
+  if (error instanceof Stopped) say(place, 'Stopped', ['Nothing was lost. You can begin again.']);
+  else if (wantsMemory(error)) say(place, 'There is too little memory', OF_MEMORY);
+  else say(place, 'It failed', [`This browser reports: ${error?.message ?? error}`, 'Nothing was lost. You can save the assembly as a file.']);
 }

@@ -11,8 +11,8 @@ async function openDraw() {
   drawing = { ...sealedBy(call, round), dice: 0 };
   openSection('draw');
   setDice(call, round);
-  for (const input of document.querySelectorAll('input[name=tickets]')) input.checked = Number(input.value) === round.tickets;
-  await showDigits();
+  showTickets(round);
+  showDigits(call, round, drawnBy(call, drawing, round));
 }
 
 // Asks how many dice are thrown at once.
@@ -23,37 +23,47 @@ function setDice(call, round) {
   part('how-many').textContent = `There are ${tickets[1]} tickets. Throw ${drawing.dice} ${drawing.dice === 1 ? 'die' : 'dice'} with ten sides, and type their digits in the order that was announced.`;
 }
 
+// Ticks the number of tickets that the round has.
+function showTickets({ tickets }) {
+  for (const input of document.querySelectorAll('input[name=tickets]')) input.checked = Number(input.value) === tickets;
+}
+
 async function chooseTickets(tickets) {
   const round = lastRound();
   if (round.digits !== '') return;
-  round.tickets = tickets;
-  setDice(await checker, round);
+  try {
+    setDice(await checker, { ...round, tickets });
+    round.tickets = tickets;
+    setChanged();
+  } finally {
+    showTickets(round);
+  }
+}
+
+// Changes the digits of the open draw by a function, and shows what they draw. If memory is wanting, they stay.
+async function changeDigits(change) {
+  const call = await checker;
+  const round = lastRound();
+  if (!drawing || round.isDrawn) return;
+  const digits = change(round.digits);
+  if (digits === round.digits) return;
+  const drawn = drawnBy(call, drawing, { ...round, digits });
+  round.digits = digits;
   setChanged();
+  showDigits(call, round, drawn);
 }
 
 // Adds a digit, as long as no ticket is drawn.
-async function addDigit(digit) {
-  const round = lastRound();
-  if (!drawing || round.isDrawn) return;
-  if (drawnBy(await checker, drawing, round).panel) return;
-  round.digits += digit;
-  setChanged();
-  await showDigits();
+function addDigit(digit) {
+  return changeDigits(digits => part('count').hidden ? digits + digit : digits);
 }
 
-async function takeBackDigit() {
-  const round = lastRound();
-  if (!drawing || round.isDrawn) return;
-  round.digits = round.digits.slice(0, -1);
-  setChanged();
-  await showDigits();
+function takeBackDigit() {
+  return changeDigits(digits => digits.slice(0, -1));
 }
 
-// Shows the digits in groups of a throw, and what they draw.
-async function showDigits() {
-  const round = lastRound();
-  const call = await checker;
-  const { fields, panel, text } = drawnBy(call, drawing, round);
+// Shows the digits in groups of a throw, and what they draw. The last digit is said with the state, which is read aloud.
+function showDigits(call, round, { fields, panel, text }) {
   const groups = round.digits.match(new RegExp(`.{1,${drawing.dice}}`, 'g')) ?? [];
   part('digits').textContent = groups.join(' ') || '–';
   for (const input of document.querySelectorAll('input[name=tickets]')) input.disabled = round.digits !== '';
@@ -64,17 +74,20 @@ async function showDigits() {
   if (panel) say(part('draw-state'), `Ticket ${fields[1]}`, [round.isDrawn ? 'This panel is drawn.' : 'Read the digits aloud once more. Then let them count.'], true);
   else if (fields[1] !== 'MoreDigits') say(part('draw-state'), 'No draw', [text]);
   else if (round.digits && rest === 0) say(part('draw-state'), 'Throw all dice again', ['This throw names no ticket, so that each ticket has the same chance.']);
-  else part('draw-state').replaceChildren(element('p', rest ? `${drawing.dice - rest} more of this throw.` : ''));
+  else part('draw-state').replaceChildren(element('p', rest ? `${round.digits.slice(-1)}. ${drawing.dice - rest} more of this throw.` : ''));
   if (panel && round.isDrawn) showPanel(call, round, panel);
   else part('panel').replaceChildren();
 }
 
 // The drawn panel counts from now on.
 async function countDraw() {
+  const call = await checker;
   const round = lastRound();
+  const drawn = drawnBy(call, drawing, round);
+  if (!drawn.panel) return;
   round.isDrawn = true;
   setChanged();
-  await showDigits();
+  showDigits(call, round, drawn);
   openSection('next');
   showNext();
 }
@@ -114,7 +127,8 @@ function showNext() {
   const round = lastRound();
   checker.then(call => {
     const { panel } = drawnBy(call, sealedBy(call, round), round);
-    const box = person => element('input', '', { type: 'checkbox', value: person.id, checked: round.dropped.includes(person.id), ariaLabel: `${person.id} can’t come` });
+    const words = person => [person.id, ...person.cells.filter(cell => cell !== '').slice(0, 2)].join(' ');
+    const box = person => element('input', '', { type: 'checkbox', value: person.id, checked: round.dropped.includes(person.id), ariaLabel: `${words(person)} can’t come` });
     part('members').replaceChildren(element('div', [tableOf(['can’t come', 'id', ...assembly.table.heading], peopleWith(panel).map(person => [box(person), person.id, ...person.cells]))], { className: 'wide' }));
   });
 }
@@ -127,9 +141,10 @@ async function beginNextRound() {
     return;
   }
   const call = await checker;
-  round.dropped = dropped;
   const { panel } = drawnBy(call, sealedBy(call, round), round);
-  assembly.rounds.push(newRound(nextPool(call, round.pool, panel, dropped)));
+  const next = newRound(nextPool(call, round.pool, panel, dropped));
+  round.dropped = dropped;
+  assembly.rounds.push(next);
   await setAssembly(assembly);
 }
 
@@ -141,7 +156,9 @@ function beginDraw() {
   }));
   part('back').addEventListener('click', takeBackDigit);
   part('count').addEventListener('click', countDraw);
-  part('hall').addEventListener('click', () => part('draw').classList.toggle('hall'));
+  part('hall').addEventListener('click', () => {
+    part('hall').ariaPressed = String(part('draw').classList.toggle('hall'));
+  });
   for (const input of document.querySelectorAll('input[name=tickets]')) input.addEventListener('change', () => chooseTickets(Number(input.value)));
   part('begin-next').addEventListener('click', beginNextRound);
   part('draw').addEventListener('keydown', event => {

@@ -23,11 +23,6 @@ async function findLottery() {
   }
 }
 
-function tellFailed(place, error) {
-  if (error instanceof Stopped) say(place, 'Stopped', ['Nothing was lost. You can begin again.']);
-  else say(place, 'It failed', [error.message]);
-}
-
 // Takes what `prove` answered.
 async function takeProof(round, text, seconds) {
   const call = await checker;
@@ -58,6 +53,7 @@ async function showLottery() {
   part('find').disabled = round.isPublished;
   part('frame').srcdoc = textTold(call, 'tell_page', bundle);
   const name = `round-${assembly.rounds.length}`;
+  const files = { [`${name}.bundle`]: () => bundle, [`${name}.proof`]: () => round.proof, [`${name}.html`]: () => textTold(call, 'tell_page', bundle) };
   const ticks = ALL_PUBLISHED.map(words => {
     const box = element('input', '', { type: 'checkbox', checked: round.isPublished, disabled: round.isPublished });
     return element('label', [box, ` ${words}`], { className: 'tick' });
@@ -76,8 +72,7 @@ async function showLottery() {
     element('h3', 'What to publish, before the dice are thrown'),
     element('p', 'The seal:'),
     element('p', [element('code', seal, { id: 'seal' })]),
-    element('p', [saveButton(`${name}.bundle`, () => bundle), saveButton(`${name}.proof`, () => round.proof), saveButton(`${name}.html`, () => textTold(call, 'tell_page', bundle))],
-      { className: 'buttons' }),
+    saveButtons(Object.keys(files), file => files[file]()),
     element('div', ticks),
     publish,
     element('div', '', { id: 'published', role: 'status' }),
@@ -141,8 +136,18 @@ function showLoosened(round, text) {
   }
 }
 
+// The pool and the files of the office with other bounds. Those of the first round are made anew.
+function withBounds(call, round, bounds) {
+  const pool = poolWithBounds(round.pool, bounds);
+  const { rounds, people, size, texts } = assembly;
+  if (rounds.length > 1) return { pool, texts };
+  const rules = poolIn(pool).categories.flatMap(({ name, values }) => values.map(value => [name, value.name, value.least, value.most]));
+  const others = { ...texts, 'rules.csv': csvText([['category', 'name', 'min', 'max'], ...rules]) };
+  return { pool: isForOffice(people.length, size) ? poolOfFiles(call, others) : pool, texts: others };
+}
+
 // Takes the bounds of the form.
-function takeBounds() {
+async function takeBounds() {
   const round = lastRound();
   const bounds = boundsGiven();
   const areBounds = ([least, most]) => Number.isInteger(least) && Number.isInteger(most) && 0 <= least && least <= most && most <= MOST_BOUND;
@@ -151,11 +156,9 @@ function takeBounds() {
     say(part('none-state'), 'These bounds can’t be', wrong);
     return;
   }
-  round.pool = poolWithBounds(round.pool, bounds);
-  if (assembly.rounds.length === 1) {
-    const rules = poolIn(round.pool).categories.flatMap(({ name, values }) => values.map(value => [name, value.name, value.least, value.most]));
-    assembly.texts['rules.csv'] = csvText([['category', 'name', 'min', 'max'], ...rules]);
-  }
+  const { pool, texts } = withBounds(await checker, round, bounds);
+  round.pool = pool;
+  assembly.texts = texts;
   setChanged();
   hideSections('none');
   part('lottery-state').replaceChildren(element('p', 'The bounds are changed. Look for the lottery again.'));

@@ -1,9 +1,12 @@
 'use strict';
 
-// The first step: the two tables of the city, the title and the size; what is odd in them; and the files of the office.
+// The first step: the two tables of the city, the letters of before, the title and the size; what is odd in them; and the files of the office.
 
-// The files that were given, each with a name and bytes.
-const given = { people: null, quotas: null };
+// The files that were given, each with a name and bytes. The letters may be those that were saved in this page.
+const given = { people: null, quotas: null, letters: null };
+
+// Which rows of the people are whom of the letters, as the form has it: a number of a row and an id each.
+let sameTold = [];
 
 const RANDOM_AT_ONCE = 65536;
 
@@ -44,18 +47,67 @@ function areQuotas(file) {
   }
 }
 
+// True if the heading is that of letters.
+function areLetters(file) {
+  const heading = tableIfRead(file)?.heading ?? [];
+  return heading.includes('id') && heading.includes('key');
+}
+
 async function fileWithBytes(file) {
   return { name: file.name, bytes: new Uint8Array(await file.arrayBuffer()) };
 }
 
-// Takes a file that was chosen or dropped. `kind` is people or quotas, or null: then its heading decides.
+// Takes a file that was chosen or dropped. `kind` is people, quotas or letters, or null: then its heading decides.
 async function takeFile(file, kind) {
   const read = await fileWithBytes(file);
-  const its = kind ?? (areQuotas(read) ? 'quotas' : 'people');
-  given[its] = read;
+  const its = kind ?? (areQuotas(read) ? 'quotas' : areLetters(read) ? 'letters' : 'people');
+  if (its === 'letters') setLetters(read);
+  else given[its] = read;
   part(`${its}-name`).textContent = `${read.name}, ${read.bytes.length.toLocaleString('en')} bytes`;
   showColumns();
+  forgetSame();
   forgetMade();
+}
+
+// Takes letters of before, or null for none.
+function setLetters(letters) {
+  given.letters = letters;
+  part('letters-none').hidden = !letters;
+  part('letters-name').textContent = letters ? 'letters.csv, as it was saved with this assembly' : '';
+}
+
+// The letters of an assembly as a file, or null if it has none.
+function lettersOf({ texts }) {
+  const text = texts['letters.csv'];
+  return text ? { name: 'letters.csv', bytes: new TextEncoder().encode(text) } : null;
+}
+
+// Takes off whom of the letters rows are: the rows may be others now.
+function forgetSame() {
+  sameTold = [];
+  showSame([]);
+}
+
+// The rows that may be somebody of the letters, by what is said of them: the number of the row, the id, and in which columns they differ.
+function likelyPairs(said) {
+  return said.flatMap(text => {
+    const found = text.match(/ row (\d+): new, though it may be .*? of [^:]*?(?:: (.*))?\. If so, give (.*)$/s);
+    if (!found) return [];
+    const [, row, apart, words] = found;
+    return words.slice('--same '.length).split(' or --same ').map(word => ({ row: Number(row), id: word.slice(row.length + 1), apart: apart ?? '' }));
+  });
+}
+
+// Shows which rows may be whom of the letters, to be ticked: those that are said, behind those that are ticked already.
+function showSame(said) {
+  const likely = [...sameTold.map(([row, id]) => ({ row, id, apart: '', isTold: true })), ...likelyPairs(said)];
+  part('same').hidden = !likely.length;
+  part('same-list').replaceChildren(...likely.map(({ row, id, apart, isTold = false }) => {
+    const box = element('input', '', { type: 'checkbox', checked: isTold });
+    box.dataset.row = row;
+    box.dataset.id = id;
+    return element('label', [box, ` Row ${row} is ${id}${apart ? `: ${apart}` : ''}`], { className: 'tick' });
+  }));
 }
 
 // Shows the columns of the people's table, those ticked that look like an address.
@@ -87,6 +139,8 @@ function inWordsOfPage(text) {
     .replace(/ To mend this, give --household ".*"$/, ' To mend this, tick them')
     .replace(/and --household doesn't name (it|them): so/, 'and isn’t ticked: so')
     .replace('if it says who lives together, give --household household', 'if it says who lives together, tick it')
+    .replace(/ If so, give --same .*$/s, ' If so, tick it above')
+    .replace(/^--same (\d+)=(.*?): /s, 'That row $1 is $2: ')
     .replace('; see --name and --email', '');
 }
 
@@ -119,20 +173,25 @@ function askedByForm() {
   const title = part('title').value.trim();
   if (!title) missing.push('Give the assembly a title.');
   const size = part('size').value.trim();
-  if (!/^[0-9]{1,3}$/.test(size) || Number(size) < 1 || Number(size) > MOST_MEMBERS) missing.push(`Give the number of members of the panel, from 1 to ${MOST_MEMBERS}.`);
+  const isSize = /^[0-9]{1,4}$/.test(size) && Number(size) >= 1 && Number(size) <= MOST_MEMBERS_OF_TEXTS;
+  if (!isSize) missing.push(`Give the number of members of the panel, from 1 to ${MOST_MEMBERS_OF_TEXTS}.`);
+  const rights = { 'people-file': given.people, 'quotas-file': given.quotas, title, size: isSize };
+  for (const [id, isRight] of Object.entries(rights)) part(id).setAttribute('aria-invalid', String(!isRight));
   const household = [...part('column-list').querySelectorAll('input:checked')].map(box => box.value);
-  return { missing, asked: { household, name: [], email: [], title, size: Number(size) } };
+  sameTold = [...part('same-list').querySelectorAll('input:checked')].map(box => [Number(box.dataset.row), box.dataset.id]);
+  return { missing, asked: { household, name: [], email: [], same: sameTold, title, size: Number(size), most: MOST_PEOPLE_OF_TEXTS } };
 }
 
-// The assembly of what was made, with its first round.
-function assemblyOf(made, { title, size }) {
+// The assembly of what was made, with its first round. The pool that an office can have is made of its files; a larger one is written here.
+function assemblyOf(call, made, { title, size }) {
   const { table: { name, mark, delimiter, heading }, people, owns, texts } = made;
   const members = people.map(person => ({ ...owns.get(person.row), cells: person.cells.slice(0, heading.length) }));
-  return { ...newAssembly(), title, size, table: { name, mark, delimiter, heading }, people: members, texts, rounds: [newRound(firstPool(made, size))] };
+  const pool = isForOffice(people.length, size) ? poolOfFiles(call, texts) : firstPool(made, size);
+  return { ...newAssembly(), title, size, table: { name, mark, delimiter, heading }, people: members, texts, rounds: [newRound(pool)] };
 }
 
 // Makes the files of the office, and the first round. What is published stays as it is.
-function makeFiles() {
+async function makeFiles() {
   if (assembly.rounds.some(round => round.isPublished)) {
     say(part('remarks'), 'This assembly is published', ['It stays as it is. Save it as a file, and open this page anew for another one.']);
     return;
@@ -141,29 +200,51 @@ function makeFiles() {
   part('made').replaceChildren();
   if (missing.length) {
     say(part('remarks'), 'Something is missing', missing);
+    part('people-form').querySelector('[aria-invalid=true]').focus();
     return;
   }
   const made = prepared(given, asked, secureBytes);
   showRemarks(made);
-  if (made.isMade) setAssembly(assemblyOf(made, asked));
+  showSame(made.remarks.said);
+  if (made.isMade) await setAssembly(assemblyOf(await checker, made, asked));
+}
+
+// Saves the letters. From now on whoever is in them keeps id and key, also if the tables are given anew.
+function saveLetters() {
+  save('letters.csv', assembly.texts['letters.csv']);
+  setLetters(lettersOf(assembly));
 }
 
 // Shows what was made: how many people, and the files to save.
 function showMade() {
   if (!assembly.rounds.length) return;
-  const names = ['letters.csv', 'register.csv', 'rules.csv', 'charter.toml'];
+  const { texts, people, size } = assembly;
+  const letters = saveButton('letters.csv', saveLetters);
+  const others = isForOffice(people.length, size) ? ['register.csv', 'rules.csv', 'charter.toml'] : [];
+  const fresh = texts['letters-new.csv'] ? ['letters-new.csv'] : [];
+  const words = fresh.map(() => 'letters-new.csv has those who are new: write letters to these alone.');
+  words.push(others.length ? 'The other files are for the program at a desk.'
+    : 'A store of the program takes at most 400 people and a panel of 200, so this assembly is kept in this page and its file alone.');
+  const buttons = [letters, ...[...fresh, ...others].map(name => saveButton(name, () => save(name, texts[name])))];
   part('made').replaceChildren(
-    element('p', `${assembly.title}: ${assembly.people.length} people, a panel of ${assembly.size}.`),
-    element('p', 'letters.csv says who has which id and key. Write the letters of it, and keep it in the drawer. The other files are for the program at a desk.'),
-    saveButtons(names, name => assembly.texts[name]),
+    element('p', `${assembly.title}: ${people.length} people, a panel of ${size}.`),
+    element('p', `letters.csv says who has which id and key. Write the letters of it, and keep it in the drawer. ${words.join(' ')}`),
+    element('p', buttons, { className: 'buttons' }),
   );
 }
 
 function beginPeople() {
-  for (const kind of ['people', 'quotas']) {
+  for (const kind of ['people', 'quotas', 'letters']) {
     const input = part(`${kind}-file`);
     input.addEventListener('change', () => input.files.length && takeFile(input.files[0], kind));
   }
+  part('letters-none').addEventListener('click', () => {
+    setLetters(null);
+    part('letters-file').value = '';
+    part('letters-file').focus();
+    forgetSame();
+    forgetMade();
+  });
   for (const id of ['title', 'size']) part(id).addEventListener('input', forgetMade);
   part('people-form').addEventListener('submit', event => {
     event.preventDefault();

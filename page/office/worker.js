@@ -8,6 +8,6 @@ onmessage = async ({ data: { module, name, parts } }) => {
     const text = call(name, ...parts);
     postMessage({ text });
   } catch (error) {
-    postMessage({ failed: error instanceof WantOfMemory || error instanceof RangeError ? 'There is too little memory.' : `This browser reports: ${error.message}` });
+    postMessage({ failed: error.message, isMemory: error instanceof WantOfMemory || error instanceof RangeError });
   }
 };

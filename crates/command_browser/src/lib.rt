@@ -3,10 +3,11 @@
 //! of its name answers for the same bytes and arguments, whether the program prints it to `out` or to `errs`. The page lends the bytes and
 //! the room for the text.
 //!
-//! Promises: the eight calls of `calls` and the twelve of `selection`. None has a `requires`, so the page can't break one.
+//! Promises: the eight calls of `calls` and the thirteen of `selection`. None has a `requires`, so the page can't break one.
 #![tactic(auto)]
 
 mod calls;
+mod first_pools;
 mod next_pools;
 mod proving;
 mod room;

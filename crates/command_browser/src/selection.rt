@@ -1,6 +1,6 @@
-//! The exported calls for a page that makes a selection: the lottery of a pool, what to do if there is no panel, the draw in a round number
-//! of tickets, and the pool of the next round. They are as the calls of `calls`, but of an empty text nothing is put, and the result is 0.
-//! No command answers with an empty text; that isn't proved.
+//! The exported calls for a page that makes a selection: the pool of the first round, the lottery of a pool, what to do if there is no
+//! panel, the draw in a round number of tickets, and the pool of the next round. They are as the calls of `calls`, but of an empty text
+//! nothing is put, and the result is 0. No command answers with an empty text; that isn't proved.
 
 ghost use Rattle.std.specs.Prelude.{IsUtf8, Some};
 ghost use Rattle.command_shell.specs.Answers.{IsRight};
@@ -17,10 +17,12 @@ ghost use Rattle.command_questions.specs.Questions.{question_text};
 ghost use Rattle.command_questions.specs.declared.questions.Question.TheVariants as question;
 ghost use Rattle.command_questions.specs.declared.short.InTickets.TheVariants.{Dice, Panels, Ranges};
 ghost use Rattle.command_quotas.specs.PoolsAndProofs.{pool_in, pool_or_proof_format};
+ghost use Rattle.command_browser.specs.FirstPools.{TellsFirstPool};
 ghost use Rattle.command_browser.specs.NextPools.{IsNextPool};
 ghost use Rattle.command_browser.specs.Proving.{ProvesByEngine};
 ghost use Rattle.command_browser.specs.Told.{TextAbout, TextOf, Told, WithTickets, WithWords};
 
+use crate::first_pools::text_of_first_pool;
 use crate::next_pools::NextPool;
 use crate::proving::ProveByEngine;
 use crate::room::tell_if_any;
@@ -29,6 +31,21 @@ use command_explain::Explain;
 use command_questions::{InTickets, Question};
 use command_quotas::{LoosenByProof, Why};
 use std::alloc::Global;
+
+/// Puts into `room` the text of the pool of round 1 after this charter, these rules and this register were imported into an empty office;
+/// or the line of the first of these files that is faulty, or the line that an import is refused.
+#[unsafe(no_mangle)]
+pub extern "C" fn tell_first_pool(
+    alloc: Global,
+    charter: &[u8],
+    rules: &[u8],
+    register: &[u8],
+    room: &mut [u8],
+) -> usize
+    ensures { Told (TellsFirstPool charter.now rules.now register.now) room.old room.new result }
+{
+    tell_if_any(text_of_first_pool(alloc, charter, rules, register), room)
+}
 
 /// Puts into `room` the text that `prove` answers about a pool if its engine makes a proof within these limits, or the line that it makes
 /// none.

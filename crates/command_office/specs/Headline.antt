@@ -2,8 +2,8 @@
 -- to read the signs, are in docs/PROMISES.md. The law `headline` (src/promises.rt) derives it from the exact contract, `OfficeIsRight`; `OfSeveralCalls`, at the end, is a law there too.
 -- `Headline` and `Keeps`, below, say what is promised; what stands before them are the words that they use.
 --
--- One step behind this page: pools, quota panels, lotteries and certificates (define_pools); what leximin greatest says part by part (define_pools); when a proof or a cover is
--- valid (define_proofs, define_covers); the stated run (define_runs; with `--share` define_runs); what the words ask for (`asked`); how an answer is told (`Outcomes`); each command's
+-- One step behind this page: pools, quota panels, lotteries and certificates, and what leximin greatest says part by part (define_pools); when a proof or a cover is valid
+-- (define_proofs, define_covers); the stated run, also with `--share` (define_runs); what the words ask for (`asked`); how an answer is told (`Outcomes`); each command's
 -- meaning, status by status (`TextMeans`, `ProvesWithin`, `LotteryMeans`, `SharedLotteryMeans`, `LegsMeans`, `MakeMeans`; over a store `StepMeans`, `ImportMeans`, `ProvesRound`).
 -- `told` is what the call did: its status, and its source, out, errs and keeper before and after it. Lotteries have whole weights, and are compared with such alone. What a clause says of
 -- bytes or tables it says of an object that tells them, as one in memory does: of a terminal, a file, a pipe or a store on disk it is true of some bytes and tables, and no contract can

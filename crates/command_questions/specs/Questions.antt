@@ -1,4 +1,4 @@
--- The text of each question about a bundle, which is made of the bundle alone. Each further question adds a line to `question_text`. Builds
+-- The text of each question about a bundle, which is made of the bundle alone (CONTRIBUTING says how a further question is added). Builds
 -- on Dice, Tickets, Chances and Short.
 use Rattle.std.specs.Prelude.{ℕ, List}
 use Rattle.define_bundles.specs.BundleText.{Bundle}

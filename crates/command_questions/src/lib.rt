@@ -3,8 +3,8 @@
 //! `--tickets`. The command `page` answers with the page of a bundle, or of a draw from it.
 //!
 //! Promises: `Question`, whose answers are those of `specs/Questions.antt`, `Page` and `DrawnPage`, and the laws that each question and
-//! each page has at most one answer. To add a question, add a variant, a line of `question_text` with its definition, and an arm of
-//! `text_about` with its function.
+//! each page has at most one answer.
+//! What a further question touches: "A further command" in CONTRIBUTING.md.
 #![tactic(auto)]
 
 mod chances;

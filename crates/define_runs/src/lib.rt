@@ -1,6 +1,6 @@
-//! The run that finds the lottery: the opening search, then stage by stage pivots, pricing and closing, and how the run ends. At the end
-//! compositions with fractions are spread over panels (`spreads`). Runs whose workers share a bound are in `sharing`. The definitions are
-//! in `specs/`.
+//! The stated run, by which `lottery` finds a lottery: the opening search, then stage by stage pivots, pricing and closing, and how the run
+//! ends. At the end compositions with fractions are spread over panels (`spreads`). Runs whose workers share a bound are in `sharing`. The
+//! definitions are in `specs/`.
 //!
 //! The functions without a body are the promises: laws over the definitions, and worked examples. Those that matter most of spreading are
 //! `spread_is_lottery` and `spread_has_even_chances`.

@@ -1,4 +1,4 @@
-//! Laws of the run: what its endings show about the pool.
+//! Laws of the stated run, that of `lottery`: what its endings show about the pool.
 //!
 //! The functions have no body. Their contracts are the laws, and the promises of this crate.
 #![tactic(auto)]

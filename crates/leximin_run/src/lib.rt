@@ -1,5 +1,5 @@
-//! The run that finds the lottery. It begins with the opening search. Then, stage by stage, it makes pivots of the exact table, prices
-//! compositions and closes the stage, until everybody is settled. At the end the columns of positive value are spread over panels.
+//! The stated run, by which `lottery` finds a lottery (`prove` has an engine of its own). It begins with the opening search. Then, stage by
+//! stage, it makes pivots, prices compositions and closes the stage, until everybody is settled, and spreads what it found over panels.
 //!
 //! Promises: `solve`, `solve_sharing`, `solve_sized` and `solve_traced`. All else is a helper.
 #![tactic(auto)]

@@ -1,5 +1,5 @@
-//! Mixes: a point as a sum of columns, which are compositions, times weights of at least 0. A program in fixed point finds weights
-//! (`masters`) and its duals as whole numbers (`exact`); whole weights are solved over a basis with a small determinant (`wholes`).
+//! Mixes, for the engine of `prove`: a point as a sum of columns, which are compositions, times weights of at least 0. In fixed point
+//! `masters` finds weights, and `exact` their duals as whole numbers; `wholes` solves whole weights over a basis with a small determinant.
 //! Promises: each call is safe and ends, and gives nothing of the budget back. What is found is advice, since `check_proofs` tests each
 //! proof.
 #![tactic(auto)]
