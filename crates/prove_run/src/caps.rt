@@ -321,8 +321,8 @@ impl<'a> CapSearch<'a> {
         }
     }
 
-    /// Adds the rows of earlier stages to `few` until no panel is above a cap there. False if a panel that weighs exactly all earlier caps is
-    /// above it.
+    /// Adds the rows of earlier stages to `few` until no panel is above a cap there. False if a panel that weighs exactly all earlier caps
+    /// is above it.
     fn lend_needed(
         &self,
         few: &mut CapSearch<'_>,
