@@ -1,16 +1,16 @@
 #!/usr/bin/env python3
-"""The level of the first stage of a pool, by a linear program of its own: with no panel's chance below it, how high can the least chance be?
+"""The level of the first stage of a pool, by `glpsol` of Debian's glpk-utils: with no chance below it, how high can the least chance be?
 
 first_level.py POOL [CHANCES]   prints the level as a decimal; with the output of `chances`, also the least chance there, and whether they agree
 
-The program has a chance for each class of alike volunteers. It keeps the quotas and the households on the average alone, so its level is never
-below that of a lottery over panels. It shares no code and no method with the program: a simplex in floating point, by a full table, with rows
-for households and for chances above 1 added where they are broken.
+The program for `glpsol` has a chance for each class of alike volunteers. It keeps the quotas and the households on the average alone, so its
+level is never below that of a lottery over panels. It shares no code and no method with the program.
 """
+import os
+import subprocess
 import sys
+import tempfile
 from fractions import Fraction
-
-SMALL = 1e-9
 
 
 def read(path):
@@ -50,119 +50,44 @@ def classes(people):
     return list(found.items())
 
 
-def solve(rows, least, greatest, aim):
-    """Maximizes the last variable over variables of at least 0 with `least <= row <= greatest`; returns the variables."""
-    count, width = len(rows), len(rows[0])
-    # columns: the variables, a slack for each row with a bound, an artificial variable for each row
-    upper = [float('inf')] * width + [g - l for l, g in zip(least, greatest)] + [float('inf')] * count
-    table = []
-    for i, row in enumerate(rows):
-        sign = 1.0 if least[i] >= 0 else -1.0
-        table.append([sign * x for x in row] + [-sign if j == i else 0.0 for j in range(count)]
-                     + [1.0 if j == i else 0.0 for j in range(count)])
-    right = [abs(l) for l in least]
-    basis = [width + count + i for i in range(count)]
-    high = [False] * len(upper)
-
-    def run(costs, allowed):
-        line = costs[:]
-        for i, b in enumerate(basis):
-            if costs[b]:
-                line = [x - costs[b] * y for x, y in zip(line, table[i])]
-        for step in range(20000):
-            best, at = SMALL, None
-            for j in range(allowed):
-                gain = -line[j] if high[j] else line[j]
-                if gain > best:
-                    best, at = gain, j
-                    if step > 5000:
-                        break
-            if at is None:
-                return
-            way = -1.0 if high[at] else 1.0
-            limit, leaves, ends = upper[at], None, False
-            for i in range(count):
-                change = way * table[i][at]
-                if change > SMALL:
-                    room, end = right[i] / change, False
-                elif change < -SMALL and upper[basis[i]] < float('inf'):
-                    room, end = (upper[basis[i]] - right[i]) / -change, True
-                else:
-                    continue
-                if room < limit - 1e-12 or (leaves is not None and room < limit + 1e-12 and abs(table[i][at]) > abs(table[leaves][at])):
-                    limit, leaves, ends = max(room, 0.0), i, end
-            for i in range(count):
-                right[i] -= way * table[i][at] * limit
-            if leaves is None:
-                if limit == float('inf'):
-                    sys.exit('the program has no end')
-                high[at] = not high[at]
-                continue
-            out = basis[leaves]
-            right[leaves] = upper[at] - limit if high[at] else limit
-            high[at], high[out] = False, ends
-            basis[leaves] = at
-            lead = table[leaves][at]
-            table[leaves] = [x / lead for x in table[leaves]]
-            top = table[leaves]
-            for i in range(count):
-                if i != leaves and table[i][at]:
-                    by = table[i][at]
-                    table[i] = [x - by * y for x, y in zip(table[i], top)]
-            if line[at]:
-                by = line[at]
-                line = [x - by * y for x, y in zip(line, top)]
-        sys.exit('too many steps')
-
-    run([0.0] * (width + count) + [-1.0] * count, width + count)
-    if sum(right[i] for i in range(count) if basis[i] >= width + count) > 1e-6:
-        return None
-    for j in range(width + count, len(upper)):
-        upper[j] = 0.0
-    run([1.0 if j == aim else 0.0 for j in range(len(upper))], width + count)
-    values = [upper[j] if high[j] else 0.0 for j in range(len(upper))]
-    for i, b in enumerate(basis):
-        values[b] = right[i]
-    return values[:width]
-
-
-def level_of(path):
-    """The level, or None if the quotas can't even be kept on the average."""
+def program_of(path):
+    """The program: the greatest `level` that no chance `c0`, `c1` .. is below."""
     size, bounds, people = read(path)
     kinds = classes(people)
-    seated = [p for p in people if p['standing'] == 'seated']
-    rows, least, greatest = [], [], []
+    seated = [person for person in people if person['standing'] == 'seated']
+    lines = ['Maximize', ' aim: level', 'Subject To']
 
     def add(belongs, low, top):
-        row = [n if belongs(key) else 0 for key, n in kinds]
-        rows.append([float(x) for x in row] + [float(sum(row))])
-        least.append(float(low))
-        greatest.append(float(top))
+        terms = [f'+ {count} c{i}' for i, (key, count) in enumerate(kinds) if belongs(key)]
+        if terms:
+            lines.extend([' ' + '\n  '.join(terms) + f' >= {low}', ' ' + '\n  '.join(terms) + f' <= {top}'])
 
     add(lambda key: True, size - len(seated), size - len(seated))
     for place, values in enumerate(bounds):
         for name, (low, top) in values.items():
-            fixed = sum(p['values'][place] == name for p in seated)
-            add(lambda key: key[0][place] == name, max(low - fixed, 0), top - fixed)
-    homes = {key[1] for key, _ in kinds if key[1] is not None}
-    taken = {p['home'] for p in seated}
-    while True:
-        found = solve(rows, least, greatest, len(kinds))
-        if found is None:
-            return None
-        level, broken = found[-1], False
-        chances = [x + level for x in found[:-1]]
-        for home in homes:
-            top = 0 if home in taken else 1
-            if sum(c for (key, _), c in zip(kinds, chances) if key[1] == home) > top + 1e-7:
-                add(lambda key: key[1] == home, 0, top)
-                broken = True
-        for i, chance in enumerate(chances):
-            if chance > 1 + 1e-7:
-                add(lambda key: key is kinds[i][0], 0, kinds[i][1])
-                broken = True
-        if not broken:
-            return level
+            fixed = sum(person['values'][place] == name for person in seated)
+            add(lambda key: key[0][place] == name, low - fixed, top - fixed)
+    taken = {person['home'] for person in seated}
+    for home in {key[1] for key, _ in kinds if key[1] is not None}:
+        add(lambda key: key[1] == home, 0, 0 if home in taken else 1)
+    lines += [f' c{i} - level >= 0' for i in range(len(kinds))]
+    lines += ['Bounds'] + [f' 0 <= c{i} <= 1' for i in range(len(kinds))] + ['End', '']
+    return '\n'.join(lines)
+
+
+def level_of(path):
+    """The level, or None if the quotas can't even be kept on the average."""
+    with tempfile.TemporaryDirectory() as folder:
+        program, answer = os.path.join(folder, 'program'), os.path.join(folder, 'answer')
+        with open(program, 'w', encoding='utf-8') as file:
+            file.write(program_of(path))
+        subprocess.run(['glpsol', '--lp', program, '--write', answer], check=True, stdout=subprocess.DEVNULL)
+        for line in open(answer, encoding='utf-8'):
+            words = line.split()
+            # (a basic solution: rows, columns, how it stands by the program and by its dual, and the aim)
+            if words[:2] == ['s', 'bas']:
+                return float(words[6]) if words[4] == 'f' and words[5] == 'f' else None
+    return None
 
 
 def main():

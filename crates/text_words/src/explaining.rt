@@ -43,7 +43,7 @@ pub fn words_about(
     say! { &mut text;
         first: Number(first), kind: Number(usize::from(kind)), returns: Number(returns), tabs: Number(tabs), told: Number(told),
         form: Words(reading.form.spelling);
-        told == 0 => "line {first}: the line has a fault of kind {kind}: docs/CLERK.md says what each kind means.";
+        told == 0 => "line {first}: the line has a fault of kind {kind}: docs/FORMATS.md says what each kind means.";
         1 < returns => "{returns} lines end with a carriage return.";
         1 < tabs => "{tabs} lines end with a TAB.";
         1 < told => "{told} lines of this {form} are faulty.";

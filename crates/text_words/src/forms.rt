@@ -152,7 +152,7 @@ pub(crate) static FORMS: [LineForm; 22] = forms! {
         "a scale after it, and pairs of a constraint and a multiplier"
     Close "close" Trees-Trees > Nothing [] [] "no field after it"
     Cover "cover" FirstLine-FirstLine > SecondOfProof [ONE] [] "one field after it, the version"
-    Front "front" Trees-Trees > Trees [TEXT, ("number", 0, 1800, 9000, "a number from 0 to 1800, or to 9000 with more than 400 volunteers")]
+    Front "front" Trees-Trees > Trees [TEXT, ("number", 0, MOST_WEIGHT, MOST_WEIGHT, "the number of an earlier stage or of a value, or 0")]
         [("count", 0, 400, 4000, "a number from 0 to 400, or to 4000 with more than 400 volunteers")]
         "a cause after it (size, value, house, closed or cap), a number, and counts"
 };

@@ -236,7 +236,12 @@ impl<'a> Reading<'a> {
             standing,
         };
         let is_early = self.volunteers.is_empty();
-        let known = place_of(&self.volunteers, name);
+        let known = match standing {
+            Word::Volunteer | Word::Household | Word::Seated | Word::Gone => {
+                place_of(&self.volunteers, name)
+            }
+            _ => None,
+        };
         match (standing, known) {
             (Word::Category, _) if is_early && place_of(&self.categories, name).is_none() => {
                 self.categories.push(entry)?;
