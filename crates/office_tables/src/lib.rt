@@ -14,7 +14,7 @@ mod rows;
 mod tables;
 
 pub use changes::{Change, apply};
-pub use charters::{Charter, Rules, copied_categories};
+pub use charters::{Charter, Rules};
 pub use checking::fits_rules;
 pub use define_offices::{Part, Phase};
 pub use drawn::{drawn_by, is_member};

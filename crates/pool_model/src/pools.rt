@@ -398,7 +398,11 @@ fn set_household_of(volunteers: &mut Vec<Volunteer>, number: usize, name: Name)
     volunteer.set_household(name);
 }
 
-fn copied_categories(alloc: Global, categories: &[Category]) -> Result<Vec<Category>, AllocError>
+/// Returns equal categories.
+pub fn copied_categories(
+    alloc: Global,
+    categories: &[Category],
+) -> Result<Vec<Category>, AllocError>
     ensures { IfOk result (λ copies. copies.items ≡ categories.now) }
 {
     let mut copies = Vec::new(alloc);
@@ -408,7 +412,11 @@ fn copied_categories(alloc: Global, categories: &[Category]) -> Result<Vec<Categ
     Ok(copies)
 }
 
-fn copied_volunteers(alloc: Global, volunteers: &[Volunteer]) -> Result<Vec<Volunteer>, AllocError>
+/// Returns equal volunteers.
+pub fn copied_volunteers(
+    alloc: Global,
+    volunteers: &[Volunteer],
+) -> Result<Vec<Volunteer>, AllocError>
     ensures { IfOk result (λ copies. copies.items ≡ volunteers.now) }
 {
     let mut copies = Vec::new(alloc);
