@@ -23,7 +23,7 @@ pub use counting::chances;
 pub use define_pools::{Limits, Standing};
 pub use households::{has_households, share_household};
 pub use lotteries::{Lottery, LotteryRow};
-pub use names::{are_named, places_named};
+pub use names::{are_named, keeps_name_limits, places_named};
 pub use panels::Panel;
 pub use parts::{Bound, BoundedValue, Category, Name, Volunteer, copied_name};
 pub use pools::{Pool, copied_categories, copied_volunteers, household_kind};
