@@ -26,5 +26,5 @@ pub use lotteries::{Lottery, LotteryRow};
 pub use names::{are_named, keeps_name_limits, places_named};
 pub use panels::Panel;
 pub use parts::{Bound, BoundedValue, Category, Name, Volunteer, copied_name};
-pub use pools::{Pool, copied_categories, copied_volunteers, household_kind};
+pub use pools::{MAX_BOUND, Pool, copied_categories, copied_volunteers, household_kind};
 pub use quotas::fits;

@@ -22,7 +22,8 @@ const MAX_CATEGORIES: usize = 20;
 
 const MAX_VALUES: usize = 50;
 
-const MAX_BOUND: usize = 999;
+/// The greatest bound.
+pub const MAX_BOUND: usize = 999;
 
 /// A pool: the size of its panels, its categories and its volunteers, who are numbered from 0. It is always within these limits. The size
 /// is from 1 to 1,000. There are at most 20 categories, 50 values a category and 4,000 volunteers. A lower bound is at most its upper bound,
