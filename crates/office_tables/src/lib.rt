@@ -10,6 +10,7 @@ mod checking;
 mod drawn;
 mod kept_rounds;
 mod names;
+mod phases;
 mod rows;
 mod tables;
 
@@ -19,5 +20,6 @@ pub use checking::fits_rules;
 pub use define_offices::{Part, Phase};
 pub use drawn::{drawn_by, is_member};
 pub use kept_rounds::Round;
+pub use phases::phase_name;
 pub use rows::{Entry, Given, Rows};
 pub use tables::{Parts, Tables, tables_of};
