@@ -25,7 +25,7 @@ use sealed_draw::total_agrees;
 use std::alloc::{AllocError, Global};
 
 /// The most rows that a register has.
-const MAX_ROWS: usize = 400;
+pub const MAX_ROWS: usize = 400;
 
 /// True if the facts of `IsTables` hold of the tables that have these parts.
 pub(crate) fn are_tables(alloc: Global, parts: &Parts) -> Result<bool, AllocError>

@@ -16,7 +16,7 @@ mod tables;
 
 pub use changes::{Change, apply};
 pub use charters::{Charter, Rules};
-pub use checking::fits_rules;
+pub use checking::{MAX_ROWS, fits_rules};
 pub use define_offices::{Part, Phase};
 pub use drawn::{drawn_by, is_member};
 pub use kept_rounds::Round;
