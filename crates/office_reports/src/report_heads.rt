@@ -5,15 +5,16 @@ ghost use Rattle.define_lines.specs.Lines.{text_of};
 ghost use Rattle.define_bundles.specs.BundleText.{total_line};
 ghost use Rattle.define_offices.specs.Lines.{member_ids};
 ghost use Rattle.define_made_pools.specs.Summary.{number_line};
-ghost use Rattle.define_offices.specs.Report.{draw_lines, head_lines, lottery_lines, member_line, ticket_line};
+ghost use Rattle.define_offices.specs.Report.{draw_lines, head_lines, lottery_lines, member_line};
 ghost use Rattle.office_reports.specs.Groups.{AreBelow};
 
 use define_offices::Phase;
 use itoa::Buffer;
 use office_tables::phase_name;
 use pool_model::{Lottery, Name, Panel, Pool};
+use sealed_draw::push_ticket;
 use std::alloc::AllocError;
-use text_lines::{end_line, push_line, push_number, push_signed};
+use text_lines::{end_line, push_line, push_signed};
 
 /// Appends the lines that each report begins with.
 pub(crate) fn push_head(
@@ -73,17 +74,6 @@ pub(crate) fn push_draw(
     push_line(text, b"digits", &[digits])?;
     push_ticket(text, ticket, used)?;
     push_members(text, pool, panel)
-}
-
-/// Appends a ticket, and how many digits were read.
-fn push_ticket(text: &mut Vec<u8>, ticket: i128, used: usize) -> Result<(), AllocError>
-    requires { pos 0 ≤ℤ ticket }
-    ensures { OnOk result (text.new.items ≡ text.old.items ++ text_of (ticket_line (unsigned_abs ticket) used ∷ [])) }
-{
-    text.extend_from_slice(b"ticket")?;
-    push_signed(text, ticket)?;
-    push_number(text, used)?;
-    end_line(text)
 }
 
 /// Appends a line for each member of a panel.

@@ -3,7 +3,7 @@ use Rattle.std.proofs.lemmas.List.{take_all}
 use Rattle.define_pools.specs.Pool.{volunteer}
 use Rattle.define_lines.specs.Lines.{line_feed, tabbed}
 use Rattle.define_lines.proofs.LineLemmas.{line_written}
-use Rattle.command_meanings.proofs.PanelLines.{one_id}
+use Rattle.pool_text.proofs.PanelLines.{one_id}
 use Rattle.command_pools.proofs.LineLemmas.{member_in_range}
 use Rattle.command_pools.proofs.lines.panel_line.Goals as goal
 
