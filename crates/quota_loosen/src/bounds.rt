@@ -6,9 +6,7 @@ ghost use Rattle.define_quotas.specs.Teams.{is_team, loosened as loosened_for, l
 ghost use Rattle.define_pools.specs.Building.{category_kind};
 ghost use Rattle.define_pools.specs.Pool.{IsPool, is_category, members_with};
 
-use pool_model::{
-    Category, Limits, Panel, Pool, Volunteer, copied_categories, copied_volunteers,
-};
+use pool_model::{Category, Limits, Panel, Pool, Volunteer, copied_categories, copied_volunteers};
 use std::alloc::{AllocError, Global};
 
 // Returns the pool with each bound moved only as far as the team needs to meet it.
