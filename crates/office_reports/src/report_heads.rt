@@ -3,7 +3,7 @@
 ghost use Rattle.std.specs.Prelude.{◌≡◌, ◌≤ℤ◌, ◌++◌, ◌∷◌, [], length, map, pos, unsigned_abs, OnOk};
 ghost use Rattle.define_lines.specs.Lines.{text_of};
 ghost use Rattle.define_bundles.specs.BundleText.{total_line};
-ghost use Rattle.define_offices.specs.Lines.{member_ids};
+ghost use Rattle.define_draws.specs.Lines.{member_ids};
 ghost use Rattle.define_made_pools.specs.Summary.{number_line};
 ghost use Rattle.define_offices.specs.Report.{draw_lines, head_lines, lottery_lines, member_line};
 ghost use Rattle.office_reports.specs.Groups.{AreBelow};

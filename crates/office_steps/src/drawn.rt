@@ -4,7 +4,7 @@ ghost use Rattle.std.specs.Prelude.{◌≡◌, ◌≤ℤ◌, pos, length, nat_lt
 ghost use Rattle.std.specs.List.{list_all};
 ghost use Rattle.define_lines.specs.Lines.{text_of};
 ghost use Rattle.define_offices.specs.Commands as office;
-ghost use Rattle.define_offices.specs.Lines.{drawn_lines as lines_of_draw};
+ghost use Rattle.define_draws.specs.Lines.{drawn_lines as lines_of_draw};
 ghost use Rattle.office_steps.specs.DrawStops.{IsStop};
 ghost use Rattle.office_steps.specs.Replies.{seen_refusal, seen_reply};
 
