@@ -11,7 +11,7 @@ use Rattle.command_shell.specs.Answers.{RightAnswers, no_answer}
 use Rattle.command_meanings.specs.ShortDraw.{ShortDrawMeans}
 use Rattle.command_meanings.specs.Draw.{DrawMeans, HasWrongTotal}
 use Rattle.command_meanings.specs.ItsBundle.{no_lottery_line}
-use Rattle.command_meanings.specs.Seal.{bundle_seal}
+use Rattle.define_draws.specs.Lines.{bundle_seal}
 use Rattle.command_shell.specs.declared.bundle_or_proof.BundleOrProof.{BundleOrProof}
 use Rattle.command_shell.specs.BundlesOrProofs.{bundle_in}
 

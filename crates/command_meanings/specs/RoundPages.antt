@@ -4,7 +4,7 @@ use Rattle.std.specs.Prelude.{ℕ, List, [], length, Option, Some, None, Result,
 use Rattle.bundle_page.specs.Page.{drawn_part, page_with, round_head}
 use Rattle.define_bundles.specs.BundleText.{Bundle}
 use Rattle.define_offices.specs.Commands.{Refusal, NoRound, WrongPhase}
-use Rattle.define_offices.specs.Lines.{bundle_seal}
+use Rattle.define_draws.specs.Lines.{bundle_seal}
 use Rattle.define_offices.specs.Pools.{drawn_of}
 use Rattle.define_offices.specs.Tables.{Charter, Round, Open, Solved, Sealed, Drawn, Tables, bundle_of, named_round}
 use Rattle.define_offices.specs.declared.Phase.TheVariants as phase

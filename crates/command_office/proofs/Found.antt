@@ -36,7 +36,7 @@ use Rattle.command_shell.specs.Subjects.{About, AboutFault, AboutValue, Format}
 use Rattle.command_shell.specs.Told.{Gains, HeldAll}
 use Rattle.command_meanings.specs.ItsBundle.{BundleMeans}
 use Rattle.command_meanings.specs.Prove.{IsGiven, PrintsNoPanel, ProvesNone, RunFindsNone, given_in, lottery_limits, pool_in}
-use Rattle.command_meanings.specs.Seal.{bundle_seal}
+use Rattle.define_draws.specs.Lines.{bundle_seal}
 use Rattle.command_shell.specs.BundlesOrProofs.{bundle_in}
 use Rattle.command_meanings.specs.Page.{DrawnPageOfBundle, PageOfBundle, about}
 use Rattle.command_meanings.specs.Imports.{Does, HasFault, ImportMeans, NoRules, keeping}

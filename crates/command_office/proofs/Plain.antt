@@ -16,7 +16,7 @@ use Rattle.define_pools.specs.Pool.{Category, Pool}
 use Rattle.define_bundles.specs.BundleText.{Bundle}
 use Rattle.define_offices.specs.Commands.{Command, SetCharter, SetRules, Register, Solve, Keep, Seal, Draw, Drop, NextRound, Show, Withdraw, Given, Lines, Outcome, Refusal, Refuses, Replies}
 use Rattle.define_offices.specs.Deciding.{IsDecided, Sorted, are_rules_kept, asked, asked_over, decide_charter, decide_rules, draw_in, drawn_ids, drop_in, fit_rows, fits_rules, is_charter_kept, new_draw, next_after, next_in, register_by, registered, seal_in, show_in, solve_in, sorted_rows}
-use Rattle.define_offices.specs.Lines.{bundle_seal}
+use Rattle.define_draws.specs.Lines.{bundle_seal}
 use Rattle.define_offices.specs.Pools.{pool_of}
 use Rattle.define_offices.specs.Steps.{AtOnce, ByRun, Comes}
 use Rattle.define_offices.specs.Tables.{Charter, Round, Open, Solved, Sealed, Drawn, Tables, is_enrolling, named_round}

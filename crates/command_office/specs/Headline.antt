@@ -45,7 +45,7 @@ use Rattle.command_meanings.specs.Lottery.{LotteryMeans}
 use Rattle.command_meanings.specs.Make.{MakeMeans, sizes_of}
 use Rattle.command_meanings.specs.Panel.{visits_of}
 use Rattle.command_meanings.specs.Prove.{ProvesWithin}
-use Rattle.command_meanings.specs.Seal.{bundle_seal}
+use Rattle.define_draws.specs.Lines.{bundle_seal}
 use Rattle.command_meanings.specs.Sharing.{MayFind, SharedLotteryMeans}
 use Rattle.command_proofs.specs.declared.verify.Verify.{Verify}
 use Rattle.command_texts.specs.TextMeans.{OneAnswer, TextMeans}

@@ -3,7 +3,7 @@
 ghost use Rattle.std.specs.Prelude.{◌≡◌, ℕ, IfOk, List, Option};
 ghost use Rattle.define_bundles.specs.BundleText.{bundle_spelling};
 ghost use Rattle.define_pools.specs.Lottery.{TotalAgrees};
-ghost use Rattle.command_meanings.specs.Seal.{bundle_seal};
+ghost use Rattle.define_draws.specs.Lines.{bundle_seal};
 ghost use Rattle.bundle_page.specs.Drawn.{seen_draw};
 ghost use Rattle.bundle_page.specs.Page.{drawn_page_text};
 ghost use Rattle.command_shell.specs.Answers.{HasOneAnswer, IsRight, saying};

@@ -2,7 +2,7 @@
 
 ghost use Rattle.std.specs.Prelude.{◌≡◌, IfOk, Some};
 ghost use Rattle.bundle_page.specs.Page.{page_with as words_of_page, round_head as words_of_head};
-ghost use Rattle.define_offices.specs.Lines.{bundle_seal};
+ghost use Rattle.define_draws.specs.Lines.{bundle_seal};
 ghost use Rattle.define_offices.specs.Tables.{bundle_of};
 ghost use Rattle.command_shell.specs.Answers.{saying};
 ghost use Rattle.command_meanings.specs.RoundPages.{draw_of_round, page_of, title_of};

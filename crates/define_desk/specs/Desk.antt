@@ -14,7 +14,8 @@ use Rattle.define_bundles.specs.BundleText.{Bundle, bundle_spelling}
 use Rattle.define_offices.specs.Tables.{Entry, Tables}
 use Rattle.define_offices.specs.Commands.{Outcome, Replies, Refuses, Stops, Unproved}
 use Rattle.define_offices.specs.Deciding.{drawn_ids, place_of_hash, withdraw_at, with_hash}
-use Rattle.define_offices.specs.Lines.{bundle_seal, phase_name}
+use Rattle.define_offices.specs.Lines.{phase_name}
+use Rattle.define_draws.specs.Lines.{bundle_seal}
 use Rattle.define_offices.specs.Pools.{drawn_of}
 use Rattle.define_offices.specs.Steps.{tables_after}
 use Rattle.define_draws.specs.Seal.{seal_of}

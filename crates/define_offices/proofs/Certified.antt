@@ -15,7 +15,7 @@ use Rattle.define_offices.specs.Tables.{Entry, Round, Open, Solved, Sealed, Draw
 use Rattle.define_offices.specs.Commands.{Given, Command, SetCharter, SetRules, Register, Solve, Keep, Seal, Draw, Drop, NextRound, Show, Withdraw, Change, CharterSet, RulesSet, Added, SolvedWith, SealTold, DrawnWith, DroppedOut, Begun, Withdrawn, Outcome, Replies, Refuses, Stops, Unproved, Lines, Refusal, TooLate}
 use Rattle.define_offices.specs.Deciding.{Answered, Finds, FindsNone, IsDecided, NeedsRun, Sorted, addition, answered, are_rules_kept, asked, draw_in, drawn_ids, drop_in, fit_rows, fits_rules, is_charter_kept, is_last_open, is_seated_in, new_draw, next_after, next_in, place_of_hash, register_by, registered, seal_in, show_in, sorted_rows, withdraw_at}
 use Rattle.define_offices.specs.Facts.{AreCertified, AreGreatest, IsCommand, IsTables}
-use Rattle.define_offices.specs.Lines.{bundle_seal}
+use Rattle.define_draws.specs.Lines.{bundle_seal}
 use Rattle.define_offices.specs.Pools.{pool_of}
 use Rattle.define_offices.specs.Steps.{AtOnce, ByRun, Comes, Folds, LeadThrough, Leads, applied, drawn_by, dropped_out, seal_told, solved_with, tables_after}
 use Rattle.define_offices.proofs.Rounds.{IsChanged, round_at-changed, round_at-push}

@@ -13,7 +13,7 @@ use Rattle.define_offices.specs.Tables.{Charter, Entry, Round, Open, Solved, Sea
 use Rattle.define_offices.specs.Commands.{Command, SetCharter, SetRules, Register, Solve, Keep, Seal, Draw, Drop, NextRound, Show, Withdraw, Given, Change, CharterSet, RulesSet, Added, SolvedWith, SealTold, DrawnWith, DroppedOut, Begun, Withdrawn, Replies, Refuses, Refusal, Reply, Lines, TooLate}
 use Rattle.define_offices.specs.Deciding.{Answered, Finds, FindsNone, IsDecided, NeedsRun, Sorted, addition, answered, are_rules_kept, asked, decide_charter, decide_rules, draw_in, drawn_ids, drop_in, fit_rows, fits_rules, is_charter_kept, is_last_open, is_seated_in, new_draw, next_in, place_of_hash, register_by, registered, seal_in, sorted_rows, withdraw_at}
 use Rattle.define_offices.specs.Facts.{IsCommand, IsTables}
-use Rattle.define_offices.specs.Lines.{bundle_seal}
+use Rattle.define_draws.specs.Lines.{bundle_seal}
 use Rattle.define_offices.specs.Pools.{pool_of}
 use Rattle.define_offices.specs.Steps.{AtOnce, ByRun, Comes, apply, drawn_by, dropped_out, seal_told, solved_with, withdrawn_at}
 use Rattle.define_offices.proofs.Again.{rules_set_or_same, same_charter_itself, same_rules_itself, says, set_or_same, show_changes_nothing}

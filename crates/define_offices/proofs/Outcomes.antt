@@ -19,7 +19,8 @@ use Rattle.define_offices.specs.Tables.{Charter, Entry, Round, Open, Solved, Sea
 use Rattle.define_offices.specs.Commands.{DroppedOut, Given, Outcome, Refusal, Refuses, Replies, Lines, TooLate, Withdrawn}
 use Rattle.define_offices.specs.Deciding.{Sorted, addition, are_rules_kept, changes, decide_charter, decide_register, decide_rules, draw_in, drawn_ids, drop_in, fit_rows, fits_rules, is_charter_kept, is_last_open, is_seated_in, new_draw, next_after, next_in, register_by, registered, seal_in, show_in, sorted_rows, withdraw_at}
 use Rattle.define_offices.specs.Facts.{AreRules, IsTables, KeepsRound, has_drop, is_charter, is_given, rows_fit}
-use Rattle.define_offices.specs.Lines.{bundle_seal, dropped_line}
+use Rattle.define_offices.specs.Lines.{dropped_line}
+use Rattle.define_draws.specs.Lines.{bundle_seal}
 use Rattle.define_offices.specs.Pools.{pool_of}
 use Rattle.define_offices.specs.Steps.{applied, drawn_by, dropped_out, seal_told, tables_after}
 use Rattle.define_offices.proofs.Changes.{changed_keeps, open_rounds, pushed_keeps, withdrawn_keeps}

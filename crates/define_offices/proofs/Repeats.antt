@@ -17,7 +17,8 @@ use Rattle.define_draws.specs.Seal.{is_seal}
 use Rattle.define_offices.specs.Tables.{Round, Open, Solved, Sealed, Drawn, Tables, changed_at, changed_named, named_round, round_at}
 use Rattle.define_offices.specs.Commands.{Change, SolvedWith, SealTold, DrawnWith, DroppedOut, Begun, Replies, Refuses, Refusal, Reply, Lines}
 use Rattle.define_offices.specs.Deciding.{Answered, Finds, FindsNone, IsDecided, answered, changes, draw_in, drawn_ids, drop_in, keep_in, new_draw, next_after, next_in, same_draw, seal_in, solve_in, tells}
-use Rattle.define_offices.specs.Lines.{bundle_seal, drawn_lines, dropped_line, one_line, round_line, seal_line, solved_line}
+use Rattle.define_offices.specs.Lines.{dropped_line, one_line, round_line, solved_line}
+use Rattle.define_draws.specs.Lines.{bundle_seal, drawn_lines, seal_line}
 use Rattle.define_offices.specs.Pools.{drawn_of, drawn_or_nothing}
 use Rattle.define_offices.specs.Steps.{apply, drawn_by, dropped_out, seal_told, solved_with}
 use Rattle.define_offices.proofs.Steps.{Answers, Leaves, Settles}

@@ -24,7 +24,8 @@ use Rattle.define_offices.specs.declared.Part.TheVariants as part
 use Rattle.define_offices.specs.declared.Phase.TheVariants as phase
 use Rattle.define_offices.specs.Tables.{Charter, Entry, Round, Open, Solved, Sealed, Drawn, Tables, is_enrolling, last_phase, named_round, same_charter, same_household, same_names, same_rules, same_shape}
 use Rattle.define_offices.specs.Commands.{Given, Command, SetCharter, SetRules, Register, Solve, Keep, Seal, Draw, Drop, NextRound, Show, Withdraw, Change, CharterSet, RulesSet, Added, SolvedWith, SealTold, DrawnWith, DroppedOut, Begun, Withdrawn, Lines, NoPanel, Refusal, NoRound, Incomplete, WrongPhase, RowDiffers, KeyTaken, RegisterFull, NotSealed, SealDiffers, DrawDiffers, BadDigit, MoreDigits, NotSeated, RoundClosed, OtherPool, UnknownKey, TooLate, Outcome, Replies, Refuses, Stops, Unproved}
-use Rattle.define_offices.specs.Lines.{bundle_seal, charter_line, drawn_lines, dropped_line, member_ids, one_line, register_line, round_line, rules_line, seal_line, solved_line}
+use Rattle.define_offices.specs.Lines.{charter_line, dropped_line, one_line, register_line, round_line, rules_line, solved_line}
+use Rattle.define_draws.specs.Lines.{bundle_seal, drawn_lines, member_ids, seal_line}
 use Rattle.define_offices.specs.Pools.{drawn_of, pool_of}
 
 -- a reply of one line, with no change

@@ -15,7 +15,8 @@ use Rattle.define_made_pools.specs.Summary.{field_line, number_line}
 use Rattle.define_offices.specs.declared.Phase.{Phase}
 use Rattle.define_offices.specs.Tables.{Charter, Round, Open, Solved, Sealed, Drawn, Tables, bundle_of, named_round, phase_of}
 use Rattle.define_offices.specs.Commands.{Refusal}
-use Rattle.define_offices.specs.Lines.{member_ids, phase_name, seal_line}
+use Rattle.define_offices.specs.Lines.{phase_name}
+use Rattle.define_draws.specs.Lines.{member_ids, seal_line, ticket_line}
 use Rattle.define_offices.specs.Pools.{drawn_of, pool_of}
 
 -- the lines that each report begins with: the round's number, the title, the phase, the size of a panel and how many volunteers there are
@@ -36,10 +37,6 @@ lottery_lines lottery = number_line (codes "panels") (length lottery.rows) ∷ t
 
 abbrev pub seal_lines : Bundle → List (List ℕ)
 seal_lines bundle = seal_line bundle ∷ []
-
--- the line of a ticket: its number, and how many digits were read
-abbrev pub ticket_line : ℕ → ℕ → List ℕ
-ticket_line ticket used = line_of (codes "ticket" ∷ decimal ticket ∷ decimal used ∷ [])
 
 abbrev pub member_line : List ℕ → List ℕ
 member_line id = field_line (codes "member") id

@@ -20,7 +20,8 @@ ghost use Rattle.define_proofs.specs.WorkedTrees.{couple_lines, couple_proof, do
 ghost use Rattle.define_offices.specs.Commands.{SetCharter, SetRules, Register, Solve, Keep, Seal, Draw, Drop, NextRound, Show, Withdraw, CharterSet, RulesSet, Added, SolvedWith, SealTold, DrawnWith, DroppedOut, Begun, Withdrawn, Lines, Replies, Refuses, Unproved, NoPanel, Incomplete, RowDiffers, KeyTaken, DrawDiffers, NoRound, NotSeated, OtherPool, RoundClosed, TooLate, UnknownKey};
 ghost use Rattle.define_offices.specs.declared.Part.TheVariants as part;
 ghost use Rattle.define_offices.specs.Deciding.{IsDecided, NeedsRun, Finds, answered, asked, changes, tells};
-ghost use Rattle.define_offices.specs.Lines.{bundle_seal, register_line, seal_line};
+ghost use Rattle.define_offices.specs.Lines.{register_line};
+ghost use Rattle.define_draws.specs.Lines.{bundle_seal, seal_line};
 ghost use Rattle.define_offices.specs.Steps.{apply};
 ghost use Rattle.define_offices.specs.Tables.{Open, Solved, Sealed, first_tables};
 ghost use Rattle.define_offices.specs.WorkedOffice.{rules, river, rows, given, a, b, d, with_rules, with_rows, ready, in_rounds, couple_tables, first_bundle, second_bundle, drawn, the_draw};

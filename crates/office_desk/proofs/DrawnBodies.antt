@@ -8,7 +8,7 @@ use Rattle.serde_json.specs.declared.value.Value.{Value}
 use Rattle.sealed_draw.specs.declared.drawn.Draw.{Draw}
 use Rattle.define_bundles.specs.BundleText.{Bundle}
 use Rattle.define_offices.specs.Deciding.{drawn_ids}
-use Rattle.define_offices.specs.Lines.{bundle_seal, member_ids}
+use Rattle.define_draws.specs.Lines.{bundle_seal, member_ids}
 use Rattle.define_offices.specs.Pools.{drawn_of}
 use Rattle.define_desk.specs.Desk.{draw_body}
 use Rattle.define_desk.specs.Replies.{texts}

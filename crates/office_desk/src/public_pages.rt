@@ -3,7 +3,7 @@
 ghost use Rattle.std.specs.Prelude.{◌≡◌, codes, length, map, string_bytes, IfOk, IsUtf8};
 ghost use Rattle.serde_json.specs.Data.{string};
 ghost use Rattle.serde_json.specs.View.{view};
-ghost use Rattle.define_offices.specs.Lines.{bundle_seal as seal_of_bundle, member_ids};
+ghost use Rattle.define_draws.specs.Lines.{bundle_seal as seal_of_bundle, member_ids};
 ghost use Rattle.define_desk.specs.Desk.{bundle_reply, draw_body as body_of_draw, draw_reply, if_by};
 ghost use Rattle.define_desk.specs.Replies.{told, told_text};
 ghost use Rattle.define_desk.specs.Views.{published as published_so, published_of as published_with};

@@ -2,7 +2,6 @@ mod DrawnRounds
 mod KeyRows
 mod Members
 mod NamedRounds
-mod PanelLines
 mod RegisterSays
 mod SameByPlaces
 mod SortedRows

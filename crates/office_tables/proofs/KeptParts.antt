@@ -13,7 +13,7 @@ use Rattle.define_pools.specs.Building.{ids}
 use Rattle.define_pools.specs.Lists.{all_different, includes_list}
 use Rattle.define_pools.specs.Pool.{Pool, Volunteer, volunteer}
 use Rattle.define_offices.specs.Facts.{closed_but_last, entry_ids, has_drop}
-use Rattle.define_offices.specs.Lines.{member_ids}
+use Rattle.define_draws.specs.Lines.{member_ids}
 use Rattle.define_offices.specs.Tables.{Entry, Round}
 
 pub list_any-map : {X Y : Type 0} (p : Y → Bool) (f : X → Y) (xs : List X) → list_any p (map f xs) ≡ list_any (λ x. p (f x)) xs

@@ -7,7 +7,7 @@ ghost use Rattle.define_pools.specs.declared.Limits.TheVariants.{Usual};
 ghost use Rattle.define_offices.specs.Facts.{AreRules, are_rules as make_rules, is_charter, is_reserved as is_taken};
 
 use crate::names::is_name;
-use pool_model::{Category, Name, Pool};
+use pool_model::{Category, Name, Pool, copied_categories};
 use std::alloc::{AllocError, Global};
 use std::marker::Model;
 
@@ -163,18 +163,4 @@ fn is_reserved(name: &[u8]) -> bool
     ensures { result ≡ is_taken name.now }
 {
     name == b"id".as_slice() || name == b"key".as_slice()
-}
-
-/// Returns equal categories.
-pub fn copied_categories(
-    alloc: Global,
-    categories: &[Category],
-) -> Result<Vec<Category>, AllocError>
-    ensures { IfOk result (λ copies. copies.items ≡ categories.now) }
-{
-    let mut copies = Vec::new(alloc);
-    for category in categories {
-        copies.push(category.copy()?)?;
-    }
-    Ok(copies)
 }

@@ -8,7 +8,7 @@ ghost use Rattle.define_pools.specs.Lottery.{TotalAgrees};
 ghost use Rattle.define_pools.specs.Pool.{Category as SeenCategory};
 ghost use Rattle.define_offices.specs.Deciding.{fits_rules as row_fits};
 ghost use Rattle.define_offices.specs.Facts.{AreRules, IsTables, KeepsBundle, KeepsDraw, KeepsRound, closed_but_last as each_is_closed_but_last, entry_hashes, entry_ids, has_drop, is_charter, is_entry as keeps_limits, rows_fit as all_fit};
-ghost use Rattle.define_offices.specs.Lines.{member_ids};
+ghost use Rattle.define_draws.specs.Lines.{member_ids};
 ghost use Rattle.define_offices.specs.Tables.{Charter as SeenCharter};
 ghost use Rattle.office_tables.specs.Seen.{seen_parts};
 
@@ -25,7 +25,7 @@ use sealed_draw::total_agrees;
 use std::alloc::{AllocError, Global};
 
 /// The most rows that a register has.
-const MAX_ROWS: usize = 400;
+pub const MAX_ROWS: usize = 400;
 
 /// True if the facts of `IsTables` hold of the tables that have these parts.
 pub(crate) fn are_tables(alloc: Global, parts: &Parts) -> Result<bool, AllocError>

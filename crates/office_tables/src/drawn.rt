@@ -4,7 +4,7 @@ ghost use Rattle.std.specs.Prelude.{◌≡◌, IfOk, IsTrue, length, nat_lt};
 ghost use Rattle.std.specs.List.{list_all};
 ghost use Rattle.define_pools.specs.Lists.{includes_list};
 ghost use Rattle.define_pools.specs.Lottery.{TotalAgrees};
-ghost use Rattle.define_offices.specs.Lines.{member_ids};
+ghost use Rattle.define_draws.specs.Lines.{member_ids};
 ghost use Rattle.office_tables.specs.Drawn.{IsDrawnBy};
 
 use bundle_text::Bundle;

@@ -7,7 +7,7 @@ use Rattle.serde_json.specs.Data.{array, string}
 use Rattle.serde_json.specs.View.{items_view, view}
 use Rattle.serde_json.specs.Written.{compact_text}
 use Rattle.define_pools.specs.Pool.{Pool}
-use Rattle.define_offices.specs.Lines.{bundle_seal, member_ids}
+use Rattle.define_draws.specs.Lines.{bundle_seal, member_ids}
 use Rattle.office_desk.specs.Bodies.{draw_text}
 use Rattle.office_desk.proofs.DrawnBodies.{drawn_as_text, values_have_no_float}
 use Rattle.office_desk.proofs.public_pages.drawn_body.Goals as goal

@@ -5,8 +5,8 @@ use Rattle.define_pools.proofs.Each.{below_at}
 use Rattle.define_pools.specs.Pool.{volunteer}
 use Rattle.define_lines.specs.Lines.{line_feed, tabbed}
 use Rattle.define_lines.proofs.LineLemmas.{line_written}
-use Rattle.command_meanings.proofs.PanelLines.{one_id}
-use Rattle.command_bundles.proofs.lines.push_panel.Goals as goal
+use Rattle.pool_text.proofs.PanelLines.{one_id}
+use Rattle.pool_text.proofs.panel_lines.push_panel.Goals as goal
 
 pub loop-number-preserved : goal.loop-number-preserved
 loop-number-preserved c =

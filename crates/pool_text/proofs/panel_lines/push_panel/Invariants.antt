@@ -1,7 +1,7 @@
 use Rattle.std.proofs.Common.{◌≡◌, ◌++◌, codes, map, take}
 use Rattle.define_pools.specs.Pool.{volunteer}
 use Rattle.define_lines.specs.Lines.{tabbed}
-use Rattle.command_bundles.proofs.lines.push_panel.Given as goal
+use Rattle.pool_text.proofs.panel_lines.push_panel.Given as goal
 
 -- `text` is the old text, then the word `panel`, then the ids of the members read so far
 abbrev pub invariant-loop-number : goal.invariant-loop-number
