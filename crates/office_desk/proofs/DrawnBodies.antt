@@ -27,8 +27,8 @@ pub drawn_as_text : (bundle : Bundle) (digits : List ℕ) (drawn : Draw) (values
     draw_text digits (compact_text (array (items_view values))) (bundle_seal bundle) (decimal (unsigned_abs drawn.ticket)) ≡ draw_body bundle digits
 drawn_as_text bundle digits drawn values draws e =
     let same = sym draws.is in
-    let panel : compact_text (array (items_view values)) ≡ texts (drawn_ids bundle digits) =
+    let panel : compact_text (array (items_view values)) ≡ texts (drawn_ids bundle tickets digits) =
     values_as_texts values (member_ids bundle.pool drawn.panel) e ∙ ap (λ (d : Drawn). texts (member_ids bundle.pool d.panel)) same in
-    let ticket : decimal (unsigned_abs drawn.ticket) ≡ decimal (drawn_of bundle digits).ticket = ap (λ (d : Drawn). decimal d.ticket) same in
+    let ticket : decimal (unsigned_abs drawn.ticket) ≡ decimal (drawn_of bundle tickets digits).ticket = ap (λ (d : Drawn). decimal d.ticket) same in
     ap (λ (p : List ℕ). draw_text digits p (bundle_seal bundle) (decimal (unsigned_abs drawn.ticket))) panel
-    ∙ ap (λ (t : List ℕ). draw_text digits (texts (drawn_ids bundle digits)) (bundle_seal bundle) t) ticket
+    ∙ ap (λ (t : List ℕ). draw_text digits (texts (drawn_ids bundle tickets digits)) (bundle_seal bundle) t) ticket

@@ -30,13 +30,13 @@ pub record WasDrawn (rounds : List Round) (k : ℕ) : Type 0 where
   pub bundle : Bundle
   pub digits : List ℕ
   pub dropped : List (List ℕ)
-  pub at : round_at rounds k ≡ Some (Drawn bundle digits dropped)
+  pub at : round_at rounds k ≡ Some (Drawn bundle tickets digits dropped)
 
 drawn_if : (round : Round) (rounds : List Round) (k : ℕ) → has_drop round ≡ true → round_at rounds k ≡ Some round → WasDrawn rounds k
 drawn_if Open rounds k d e = absurd (false≢true d)
 drawn_if (Solved bundle) rounds k d e = absurd (false≢true d)
-drawn_if (Sealed bundle) rounds k d e = absurd (false≢true d)
-drawn_if (Drawn bundle digits dropped) rounds k d e = record { bundle = bundle; digits = digits; dropped = dropped; at = e }
+drawn_if (Sealed bundle tickets) rounds k d e = absurd (false≢true d)
+drawn_if (Drawn bundle tickets digits dropped) rounds k d e = record { bundle = bundle; digits = digits; dropped = dropped; at = e }
 
 pub was_drawn : (rounds : List Round) (k : ℕ) → closed_but_last rounds ≡ true → suc k < length rounds → WasDrawn rounds k
 was_drawn [] k c h = absurd (omega arith)
@@ -62,7 +62,7 @@ last_open (Drawn bundle digits dropped ∷ []) c = refl
 last_open (Open ∷ next ∷ later) c = absurd (false≢true c)
 last_open (Solved bundle ∷ next ∷ later) c = absurd (false≢true c)
 last_open (Sealed bundle ∷ next ∷ later) c = absurd (false≢true c)
-last_open (Drawn bundle digits dropped ∷ next ∷ later) c = last_open (next ∷ later) (and_parts (has_drop (Drawn bundle digits dropped)) (closed_but_last (next ∷ later)) c).1
+last_open (Drawn bundle digits dropped ∷ next ∷ later) c = last_open (next ∷ later) (and_parts (has_drop (Drawn bundle tickets digits dropped)) (closed_but_last (next ∷ later)) c).1
 
 -- if the last round is open and there are `k + 1` rounds, the round at place `k` is open
 open_at : (rounds : List Round) (k : ℕ) → is_last_open rounds ≡ true → length rounds ≡ suc k → round_at rounds k ≡ Some Open

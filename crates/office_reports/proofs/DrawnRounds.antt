@@ -15,8 +15,8 @@ use Rattle.sealed_draw.specs.declared.drawn.Draw.{Draw}
 keeps_draw : (tables : Tables) (round : Round) → KeepsRound tables round → KeepsDraw round
 keeps_draw tables Open h = record { agrees = λ b e. absurd (cc); named = tt }
 keeps_draw tables (Solved bundle) h = record { agrees = λ b e. (let same : bundle ≡ b = cc in subst (λ (k : Bundle). TotalAgrees k.answer.lottery) same h.total_agrees); named = tt }
-keeps_draw tables (Sealed bundle) h = record { agrees = λ b e. (let same : bundle ≡ b = cc in subst (λ (k : Bundle). TotalAgrees k.answer.lottery) same h.total_agrees); named = tt }
-keeps_draw tables (Drawn bundle digits dropped) h =
+keeps_draw tables (Sealed bundle tickets) h = record { agrees = λ b e. (let same : bundle ≡ b = cc in subst (λ (k : Bundle). TotalAgrees k.answer.lottery) same h.0.total_agrees); named = tt }
+keeps_draw tables (Drawn bundle tickets digits dropped) h =
     record { agrees = λ b e. (let same : bundle ≡ b = cc in subst (λ (k : Bundle). TotalAgrees k.answer.lottery) same h.0.total_agrees); named = h.1.named }
 
 pub round_keeps : (tables : Tables) → IsTables tables → (number : ℕ) (round : Round) → named_round tables.rounds number ≡ Some round → KeepsDraw round
@@ -29,12 +29,12 @@ pub members_are_of_pool : (round : Round) (pool : Pool) (drawn : Option Draw) �
 members_are_of_pool round pool None h d = tt
 members_are_of_pool Open pool (Some drawn) h d = absurd (cc)
 members_are_of_pool (Solved bundle) pool (Some drawn) h d = absurd (cc)
-members_are_of_pool (Sealed bundle) pool (Some drawn) h d = absurd (cc)
-members_are_of_pool (Drawn bundle digits dropped) pool (Some drawn) h d = subst (λ (k : Pool). IsOfPool k (Some drawn)) (h bundle refl) d.members
+members_are_of_pool (Sealed bundle tickets) pool (Some drawn) h d = absurd (cc)
+members_are_of_pool (Drawn bundle tickets digits dropped) pool (Some drawn) h d = subst (λ (k : Pool). IsOfPool k (Some drawn)) (h bundle refl) d.members
 
 pub groups_are_counted : (round : Round) (pool : Pool) (drawn : Option Draw) → IsDrawnIn round drawn → counted_with pool drawn ≡ counted pool round
 groups_are_counted Open pool drawn d = ap (counted_with pool) d
 groups_are_counted (Solved bundle) pool drawn d = ap (counted_with pool) d
-groups_are_counted (Sealed bundle) pool drawn d = ap (counted_with pool) d
-groups_are_counted (Drawn bundle digits dropped) pool None d = absurd d
-groups_are_counted (Drawn bundle digits dropped) pool (Some drawn) d = ap (λ (k : draws.Drawn). not_gone pool ∷ k.panel ∷ []) (sym d.is)
+groups_are_counted (Sealed bundle tickets) pool drawn d = ap (counted_with pool) d
+groups_are_counted (Drawn bundle tickets digits dropped) pool None d = absurd d
+groups_are_counted (Drawn bundle tickets digits dropped) pool (Some drawn) d = ap (λ (k : draws.Drawn). not_gone pool ∷ k.panel ∷ []) (sym d.is)

@@ -3,7 +3,7 @@
 ghost use Rattle.std.specs.Prelude.{◌≡◌, ◌+◌, ◌<◌, ◌^◌, IfOk};
 ghost use Rattle.define_bundles.specs.BundleText.{bundle_spelling};
 ghost use Rattle.define_offices.specs.Commands as office;
-ghost use Rattle.define_offices.specs.Deciding.{next_after as next_of, next_in, show_in};
+ghost use Rattle.define_offices.specs.Deciding.{next_after as next_of, next_in, reopen_in, show_in};
 ghost use Rattle.define_offices.specs.Lines.{one_line, round_line as line_of_round};
 ghost use Rattle.define_offices.specs.Tables.{named_round};
 ghost use Rattle.office_steps.specs.Replies.{seen_reply};
@@ -56,6 +56,32 @@ fn next_after(
         return Err(OfficeStop::Refused(Refusal::Incomplete { what: Part::Drops }));
     }
     Ok((Some(Change::Next), round_line(alloc, number + 1)?))
+}
+
+/// Returns the outcome of taking round `number` away. It is refused unless the round is the last one and open.
+pub fn reopen_round(
+    alloc: Global,
+    tables: &Tables,
+    number: usize,
+) -> Result<(Option<Change>, Reply), OfficeStop>
+    ensures { Says (reopen_in tables.now number (named_round tables.now.rounds number)) result }
+{
+    let Some(round) = round_named(tables, number) else {
+        return Err(OfficeStop::Refused(no_round(tables)));
+    };
+    if number != tables.rounds().len() {
+        return Err(OfficeStop::Refused(Refusal::RoundClosed {
+            last: tables.rounds().len(),
+        }));
+    }
+    match round.phase() {
+        Phase::Open => {
+            let mut digits = Buffer::new();
+            let reply = line(alloc, b"reopened", &[digits.format(number).as_bytes()])?;
+            Ok((Some(Change::Reopened { round: number }), reply))
+        }
+        phase => Err(OfficeStop::Refused(Refusal::WrongPhase { phase })),
+    }
 }
 
 /// Returns the reply that names a round.

@@ -31,7 +31,7 @@ named_where_drawn lottery (Ok named) drawn e = refl
 named_where_drawn lottery (Err stop) drawn e = absurd cc
 
 pub draws_so : (bundle : Bundle) (digits : List ℕ) (drawn : Draw) → IsBundle bundle → DrawSays bundle.answer.lottery [] [] digits (Ok drawn) →
-    IsOfRow bundle.answer.lottery (unsigned_abs drawn.ticket) drawn.panel → Draws bundle digits drawn
+    IsOfRow bundle.answer.lottery (unsigned_abs drawn.ticket) drawn.panel → Draws bundle.answer.lottery (length bundle.pool.volunteers) digits drawn
 draws_so bundle digits drawn is says row =
     let lottery = bundle.answer.lottery in
     record {

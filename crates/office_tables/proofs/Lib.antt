@@ -2,3 +2,4 @@ mod ChangedPlaces
 mod DrawnPanels
 mod FactsOfTables
 mod KeptParts
+mod TakenRounds

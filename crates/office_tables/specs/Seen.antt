@@ -7,7 +7,7 @@ use Rattle.office_tables.specs.declared.tables.Parts.{Parts}
 
 -- the tables of these parts
 abbrev pub seen_parts : Parts → Tables
-seen_parts parts = record { charter = parts.charter; rules = parts.rules; register = parts.register.items; rounds = parts.rounds.items }
+seen_parts parts = record { charter = parts.charter; rules = parts.rules; register = parts.register.items; rounds = parts.rounds.items; bounds = parts.bounds }
 
 -- what `tables_of` may return: the tables of these parts if `IsTables` holds of them, else None; running out of memory is allowed at any
 -- time

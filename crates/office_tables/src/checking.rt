@@ -7,15 +7,16 @@ ghost use Rattle.define_pools.specs.Lists.{all_different, includes_list};
 ghost use Rattle.define_pools.specs.Lottery.{TotalAgrees};
 ghost use Rattle.define_pools.specs.Pool.{Category as SeenCategory};
 ghost use Rattle.define_offices.specs.Deciding.{fits_rules};
-ghost use Rattle.define_offices.specs.Facts.{AreRules, IsTables, KeepsBundle, KeepsDraw, KeepsRound, closed_but_last as each_is_closed_but_last, entry_hashes, entry_ids, has_drop, is_charter, is_entry as keeps_limits, rows_fit as all_fit};
+ghost use Rattle.define_offices.specs.Facts.{AreRules, IsTables, KeepsBundle, KeepsDraw, KeepsRound, are_tickets as tickets_fit, closed_but_last as each_is_closed_but_last, entry_hashes, entry_ids, has_drop, is_charter, is_entry as keeps_limits, rows_fit as all_fit};
 ghost use Rattle.define_offices.specs.Lines.{member_ids};
-ghost use Rattle.define_offices.specs.Tables.{Charter as SeenCharter};
+ghost use Rattle.define_offices.specs.Tables.{Charter as SeenCharter, most_rows as rows_at_most};
 ghost use Rattle.office_tables.specs.Seen.{seen_parts};
 
-use crate::charters::Rules;
+use crate::charters::{Charter, Rules};
 use crate::drawn::{drawn_by, is_member};
 use crate::kept_rounds::Round;
 use crate::names::{is_household, is_name};
+use crate::numbers::Tickets;
 use crate::rows::Entry;
 use crate::tables::Parts;
 use bundle_text::Bundle;
@@ -24,8 +25,8 @@ use pool_model::{Category, Name, Panel, Pool, Volunteer, are_named};
 use sealed_draw::total_agrees;
 use std::alloc::{AllocError, Global};
 
-/// The most rows that a register has.
-const MAX_ROWS: usize = 400;
+/// The most rows that a register takes without a charter.
+const USUAL_ROWS: usize = 400;
 
 /// True if the facts of `IsTables` hold of the tables that have these parts.
 pub(crate) fn are_tables(alloc: Global, parts: &Parts) -> Result<bool, AllocError>
@@ -33,7 +34,7 @@ pub(crate) fn are_tables(alloc: Global, parts: &Parts) -> Result<bool, AllocErro
 {
     charter_and_rules_keep(parts);
     Ok(
-        is_register(&parts.register, &parts.rules)
+        is_register(&parts.charter, &parts.register, &parts.rules)
             && closed_but_last(&parts.rounds)
             && rounds_keep(alloc, parts)?,
     )
@@ -43,6 +44,7 @@ pub(crate) fn are_tables(alloc: Global, parts: &Parts) -> Result<bool, AllocErro
 fn charter_and_rules_keep(parts: &Parts)
     ensures charter { (charter : SeenCharter) → parts.now.charter ≡ Some charter → IsTrue (is_charter charter) }
     ensures rules { (rules : List SeenCategory) → parts.now.rules ≡ Some rules → AreRules rules }
+    ensures bounds { (bounds : List SeenCategory) → parts.now.bounds ≡ Some bounds → AreRules bounds }
 {
     if let Some(charter) = &parts.charter {
         charter.facts();
@@ -50,19 +52,32 @@ fn charter_and_rules_keep(parts: &Parts)
     if let Some(rules) = &parts.rules {
         let _categories = rules.categories();
     }
+    if let Some(bounds) = &parts.bounds {
+        let _categories = bounds.categories();
+    }
 }
 
-/// True if there are at most 400 rows, their ids and households are names, each fits `rules`, and their ids and digests are all different.
-/// Compares each id and each digest with all those after it, which is fast enough at 400 rows.
-fn is_register(register: &[Entry], rules: &Option<Rules>) -> bool
-    ensures { result ≡ (nat_le (length register.now) 400 && list_all keeps_limits register.now && all_fit rules.now register.now
+/// True if there are at most as many rows as the charter says, their ids and households are names, each fits `rules`, and their ids and
+/// digests are all different. Compares each id and each digest with all those after it.
+fn is_register(charter: &Option<Charter>, register: &[Entry], rules: &Option<Rules>) -> bool
+    ensures { result ≡ (nat_le (length register.now) (rows_at_most charter.now) && list_all keeps_limits register.now && all_fit rules.now register.now
         && all_different (entry_ids register.now) && all_different (entry_hashes register.now)) }
 {
-    register.len() <= MAX_ROWS
+    register.len() <= most_rows(charter)
         && are_entries(register)
         && rows_fit(rules, register)
         && ids_differ(register)
         && hashes_differ(register)
+}
+
+/// Returns how many rows the register takes.
+pub fn most_rows(charter: &Option<Charter>) -> usize
+    ensures { result ≡ rows_at_most charter.now }
+{
+    match charter {
+        Some(charter) => charter.volunteers(),
+        None => USUAL_ROWS,
+    }
 }
 
 /// True if the ids and households of all rows are names.
@@ -181,8 +196,13 @@ fn round_keeps(alloc: Global, parts: &Parts, round: &Round) -> Result<bool, Allo
                 return Ok(false);
             }
             match round.phase() {
-                Phase::Drawn => draw_keeps(alloc, bundle, round.digits(), round.dropped()),
-                _ => Ok(true),
+                Phase::Drawn => {
+                    draw_keeps(alloc, bundle, round.tickets(), round.digits(), round.dropped())
+                }
+                _ => {
+                    tickets_keep(round.tickets());
+                    Ok(true)
+                }
             }
         }
     }
@@ -215,19 +235,30 @@ fn ids_agree(volunteers: &[Volunteer], register: &[Entry]) -> bool
         == entry.id().as_bytes())
 }
 
-/// True if the digits name a ticket of the bundle, and those who dropped out are from the panel of that ticket.
+/// True if the digits name a ticket, and those who dropped out are from the panel of that ticket.
 fn draw_keeps(
     alloc: Global,
     bundle: &Bundle,
+    tickets: Option<Tickets>,
     digits: &[u8],
     dropped: &[Name],
 ) -> Result<bool, AllocError>
     requires { TotalAgrees bundle.now.answer.lottery }
-    ensures { IfOk result (λ keeps. IsTrue keeps ↔ KeepsDraw bundle.now digits.now dropped.now) }
+    ensures { IfOk result (λ keeps. IsTrue keeps ↔ KeepsDraw bundle.now tickets digits.now dropped.now) }
 {
-    match drawn_by(alloc, bundle, digits)? {
+    tickets_keep(tickets);
+    match drawn_by(alloc, bundle, tickets, digits)? {
         Some(drawn) => Ok(are_members(bundle.pool(), &drawn.panel, dropped)),
         None => Ok(false),
+    }
+}
+
+/// Does nothing; its contract says that a number of tickets is always in its range, so the tests needn't look.
+fn tickets_keep(tickets: Option<Tickets>)
+    ensures { IsTrue (tickets_fit tickets) }
+{
+    if let Some(tickets) = tickets {
+        let _count = tickets.count();
     }
 }
 

@@ -10,13 +10,16 @@ mod checking;
 mod drawn;
 mod kept_rounds;
 mod names;
+mod numbers;
 mod rows;
 mod tables;
 
 pub use changes::{Change, apply};
 pub use charters::{Charter, Rules, copied_categories};
+pub use checking::most_rows;
 pub use define_offices::{Part, Phase};
 pub use drawn::{drawn_by, is_member};
 pub use kept_rounds::Round;
+pub use numbers::{LaterRound, Tickets};
 pub use rows::{Entry, Given, Rows};
 pub use tables::{Parts, Tables, tables_of};
