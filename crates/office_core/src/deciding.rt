@@ -40,7 +40,7 @@ pub fn decide<R: Threads + Sync, W: Watch + Sync>(
             workers,
         } => solve_round(rt, alloc, tables, *round, *limits, *workers, watch),
         Command::Keep { round, proof } => keep_proof(alloc, tables, *round, proof),
-        Command::Seal { round, tickets } => stepped(seal_round(alloc, tables, *round, *tickets)),
+        Command::Seal { round, tickets } => stepped(seal_round(alloc, tables, *round, tickets)),
         Command::Draw {
             round,
             seal,

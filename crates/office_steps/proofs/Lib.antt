@@ -4,6 +4,7 @@ mod Members
 mod NamedRounds
 mod PanelLines
 mod RegisterSays
+mod RowsBeyond
 mod SameByPlaces
 mod SortedRows
 mod Numbers

@@ -1,18 +1,19 @@
 //! The outcomes of seals, draws and dropouts, and of a dropout that is taken back.
 
-ghost use Rattle.std.specs.Prelude.{◌≡◌, [], ◌∷◌, IfOk, IsTrue, Some, is_ok};
+ghost use Rattle.std.specs.Prelude.{◌≡◌, [], ◌∷◌, length, nat_lt, IfOk, IsTrue, Some, is_ok};
+ghost use Rattle.std.specs.List.{list_all};
 ghost use Rattle.define_pools.specs.Lists.{includes_list};
 ghost use Rattle.define_pools.specs.Lottery.{TotalAgrees};
 ghost use Rattle.define_draws.specs.Dice.{name_ticket};
 ghost use Rattle.define_draws.specs.Draw.{draw as draw_of};
-ghost use Rattle.define_offices.specs.Deciding.{draw_in, drawn_ids, drop_in, new_draw as new_draw_of, same_draw as same_draw_of, same_seal as same_seal_of, seal_in, undrop_in, without_change};
+ghost use Rattle.define_offices.specs.Commands.{SealTold};
+ghost use Rattle.define_offices.specs.Deciding.{changes, draw_in, drawn_ids, drop_in, new_draw as new_draw_of, same_draw as same_draw_of, same_seal as same_seal_of, seal_in, tickets_or_none, undrop_in, without_change};
 ghost use Rattle.define_offices.specs.Pools.{drawn_lottery};
-ghost use Rattle.define_bundles.specs.BundleText.{Bundle as SeenBundle};
 ghost use Rattle.define_lines.specs.Lines.{line_of};
 ghost use Rattle.sealed_draw.specs.Answers.{DrawSays};
 ghost use Rattle.std.specs.Fmt.{decimal};
 ghost use Rattle.define_offices.specs.Facts.{KeepsRound};
-ghost use Rattle.define_offices.specs.Lines.{bundle_seal as seal_of_bundle, dropped_line as line_of_dropout, one_line, seal_line as line_of_seal};
+ghost use Rattle.define_offices.specs.Lines.{bundle_seal as seal_of_bundle, dropped_line as line_of_dropout, one_line, seal_line as line_of_seal, undropped_line as line_of_return};
 ghost use Rattle.define_offices.specs.Tables.{named_round};
 ghost use Rattle.office_steps.specs.Replies.{seen_reply};
 ghost use Rattle.office_steps.specs.Steps.{Says};
@@ -25,10 +26,10 @@ use crate::replies::{Refusal, Reply};
 use crate::stops::OfficeStop;
 use bundle_text::{Bundle, write_bundle};
 use itoa::Buffer;
-use office_tables::{Change, Phase, Round, Tables, Tickets, drawn_by, is_member};
+use office_tables::{Change, Phase, Round, Tables, Tickets, copied_tickets, drawn_by, is_member};
 use pool_model::Name;
 use sealed_draw::{Draw, DrawStop, draw, seal};
-use short_tickets::draw_short;
+use short_tickets::short_bundle;
 use std::alloc::{AllocError, Global};
 
 /// Returns the outcome of sealing round `number`, with a round number of tickets if one is given. It is refused if the round is open. If the
@@ -37,9 +38,9 @@ pub fn seal_round(
     alloc: Global,
     tables: &Tables,
     number: usize,
-    tickets: Option<Tickets>,
+    tickets: &Option<Tickets>,
 ) -> Result<(Option<Change>, Reply), OfficeStop>
-    ensures { Says (seal_in tables.now number tickets (named_round tables.now.rounds number)) result }
+    ensures { Says (seal_in tables.now number tickets.now (named_round tables.now.rounds number)) result }
 {
     let Some(round) = round_named(tables, number) else {
         return Err(OfficeStop::Refused(no_round(tables)));
@@ -47,36 +48,56 @@ pub fn seal_round(
     let Some(bundle) = round.bundle() else {
         return Err(OfficeStop::Refused(Refusal::WrongPhase { phase: Phase::Open }));
     };
-    let reply = seal_reply(alloc, bundle)?;
-    match round.phase() {
-        Phase::Solved => {
-            let change = Change::Sealed {
-                round: number,
-                tickets,
-            };
-            Ok((Some(change), reply))
-        }
-        _ => same_seal(round.tickets(), tickets, reply),
+    if round.phase() == Phase::Solved {
+        return new_seal(alloc, number, bundle, tickets);
     }
+    same_seal(alloc, bundle, round.tickets(), tickets)
+}
+
+/// Returns the outcome of sealing a solved round, with a round number of tickets if one is given.
+fn new_seal(
+    alloc: Global,
+    number: usize,
+    bundle: &Bundle,
+    tickets: &Option<Tickets>,
+) -> Result<(Option<Change>, Reply), OfficeStop>
+    ensures { Says (changes (SealTold number tickets.now) (line_of_seal bundle.now)) result }
+{
+    let reply = seal_reply(alloc, bundle)?;
+    let change = Change::Sealed {
+        round: number,
+        tickets: copied_tickets(tickets),
+    };
+    Ok((Some(change), reply))
 }
 
 /// Returns the outcome of sealing a round that is sealed already, with the tickets `kept`.
 fn same_seal(
-    kept: Option<Tickets>,
-    given: Option<Tickets>,
-    reply: Reply,
+    alloc: Global,
+    bundle: &Bundle,
+    kept: &Option<Tickets>,
+    given: &Option<Tickets>,
 ) -> Result<(Option<Change>, Reply), OfficeStop>
-    ensures { (bundle : SeenBundle) → seen_reply reply ≡ one_line (line_of_seal bundle) → Says (same_seal_of bundle kept given) result }
+    ensures { Says (same_seal_of bundle.now kept.now given.now) result }
 {
-    let kept = match kept {
+    if let Some(tickets) = given {
+        let count = count_of(kept);
+        if count != tickets.count() {
+            return Err(OfficeStop::Refused(Refusal::TicketsDiffer {
+                kept: count as usize,
+            }));
+        }
+    }
+    Ok((None, seal_reply(alloc, bundle)?))
+}
+
+/// Returns a number of tickets, 0 if there is none.
+fn count_of(tickets: &Option<Tickets>) -> u32
+    ensures { result ≡ tickets_or_none tickets.now }
+{
+    match tickets {
         Some(tickets) => tickets.count(),
         None => 0,
-    };
-    match given {
-        Some(tickets) if tickets.count() != kept => Err(OfficeStop::Refused(Refusal::TicketsDiffer {
-            kept: kept as usize,
-        })),
-        _ => Ok((None, reply)),
     }
 }
 
@@ -114,9 +135,10 @@ pub fn draw_round(
     let Some(bundle) = round.bundle() else {
         return Err(OfficeStop::Refused(Refusal::NotSealed { phase: Phase::Open }));
     };
+    let tickets = round.tickets();
     match round.phase() {
-        Phase::Sealed => new_draw(alloc, number, bundle, round.tickets(), given, digits),
-        Phase::Drawn => same_draw(alloc, bundle, round.tickets(), round.digits(), given, digits),
+        Phase::Sealed => new_draw(alloc, number, bundle, tickets, given, digits),
+        Phase::Drawn => same_draw(alloc, bundle, tickets, round.digits(), given, digits),
         phase => Err(OfficeStop::Refused(Refusal::NotSealed { phase })),
     }
 }
@@ -135,22 +157,43 @@ pub fn try_draw(
     Ok((None, reply))
 }
 
-/// Draws in a round with this bundle: from its lottery, shortened to `tickets` tickets if a number was kept with the seal.
+/// Draws in a round with this bundle: from its lottery, shortened to `tickets` tickets if a number was kept with the seal. The members of
+/// the panel are volunteers of the bundle's pool.
 fn draw_in_round(
     alloc: Global,
     bundle: &Bundle,
-    tickets: Option<Tickets>,
+    tickets: &Option<Tickets>,
     kept: &str,
     given: &str,
     digits: &[u8],
 ) -> Result<Draw, DrawStop>
     requires { TotalAgrees bundle.now.answer.lottery }
-    ensures { DrawSays (drawn_lottery bundle.now tickets) kept.now given.now digits.now result }
+    ensures says { DrawSays (drawn_lottery bundle.now tickets.now) kept.now given.now digits.now result }
+    ensures members { IfOk result (λ drawn. IsTrue (list_all (λ i. nat_lt i (length bundle.now.pool.volunteers)) drawn.panel)) }
 {
     match tickets {
-        None => draw(alloc, bundle, kept, given, digits),
-        Some(tickets) => draw_short(alloc, bundle, i128::from(tickets.count()), kept, given, digits),
+        None => draw_from(alloc, bundle, kept, given, digits),
+        Some(tickets) => {
+            let short = short_bundle(alloc, bundle, i128::from(tickets.count()))?;
+            draw_from(alloc, &short, kept, given, digits)
+        }
     }
+}
+
+/// Draws from a bundle's lottery. The members of the panel are volunteers of the bundle's pool.
+fn draw_from(
+    alloc: Global,
+    bundle: &Bundle,
+    kept: &str,
+    given: &str,
+    digits: &[u8],
+) -> Result<Draw, DrawStop>
+    requires { TotalAgrees bundle.now.answer.lottery }
+    ensures says { DrawSays bundle.now.answer.lottery kept.now given.now digits.now result }
+    ensures members { IfOk result (λ drawn. IsTrue (list_all (λ i. nat_lt i (length bundle.now.pool.volunteers)) drawn.panel)) }
+{
+    bundle.facts();
+    draw(alloc, bundle, kept, given, digits)
 }
 
 /// Returns the outcome of the first draw from a sealed round.
@@ -158,15 +201,14 @@ fn new_draw(
     alloc: Global,
     number: usize,
     bundle: &Bundle,
-    tickets: Option<Tickets>,
+    tickets: &Option<Tickets>,
     given: &str,
     digits: &[u8],
 ) -> Result<(Option<Change>, Reply), OfficeStop>
     requires { TotalAgrees bundle.now.answer.lottery }
     ensures { Says (new_draw_of number bundle.now given.now digits.now
-        (draw_of (drawn_lottery bundle.now tickets) (seal_of_bundle bundle.now) given.now digits.now)) result }
+        (draw_of (drawn_lottery bundle.now tickets.now) (seal_of_bundle bundle.now) given.now digits.now)) result }
 {
-    bundle.facts();
     let kept = bundle_seal(alloc, bundle)?;
     match draw_in_round(alloc, bundle, tickets, kept.as_str(), given, digits) {
         Ok(drawn) => {
@@ -184,16 +226,15 @@ fn new_draw(
 fn same_draw(
     alloc: Global,
     bundle: &Bundle,
-    tickets: Option<Tickets>,
+    tickets: &Option<Tickets>,
     thrown: &[u8],
     given: &str,
     digits: &[u8],
 ) -> Result<(Option<Change>, Reply), OfficeStop>
     requires agrees { TotalAgrees bundle.now.answer.lottery }
-    requires named { IsTrue (is_ok (name_ticket (drawn_lottery bundle.now tickets).total thrown.now)) }
-    ensures { Says (same_draw_of bundle.now tickets thrown.now given.now digits.now) result }
+    requires named { IsTrue (is_ok (name_ticket (drawn_lottery bundle.now tickets.now).total thrown.now)) }
+    ensures { Says (same_draw_of bundle.now tickets.now thrown.now given.now digits.now) result }
 {
-    bundle.facts();
     let kept = bundle_seal(alloc, bundle)?;
     match draw_in_round(alloc, bundle, tickets, kept.as_str(), given, thrown) {
         Ok(drawn) => {
@@ -273,9 +314,23 @@ pub fn undrop_member(
 ) -> Result<(Option<Change>, Reply), OfficeStop>
     ensures { Says (undrop_in tables.now number id.now (named_round tables.now.rounds number)) result }
 {
-    let Some(round) = round_named(tables, number) else {
-        return Err(OfficeStop::Refused(no_round(tables)));
-    };
+    match round_named(tables, number) {
+        Some(round) => undrop_from(alloc, tables, number, round, id),
+        None => Err(OfficeStop::Refused(no_round(tables))),
+    }
+}
+
+/// Returns the outcome of taking a dropout back from `round`, which has this number. It is refused unless the round is drawn, this member
+/// dropped out, and no later round has begun.
+fn undrop_from(
+    alloc: Global,
+    tables: &Tables,
+    number: usize,
+    round: &Round,
+    id: &Name,
+) -> Result<(Option<Change>, Reply), OfficeStop>
+    ensures { Says (undrop_in tables.now number id.now (Some round.now)) result }
+{
     if round.phase() != Phase::Drawn {
         return Err(OfficeStop::Refused(Refusal::WrongPhase {
             phase: round.phase(),
@@ -293,19 +348,19 @@ pub fn undrop_member(
         round: number,
         id: id.copy()?,
     };
-    Ok((Some(change), member_reply(alloc, b"undropped", number, id)?))
+    Ok((Some(change), undropped_reply(alloc, number, id)?))
 }
 
 /// True if the digits draw a panel with this member.
 fn is_drawn(
     alloc: Global,
     bundle: &Bundle,
-    tickets: Option<Tickets>,
+    tickets: &Option<Tickets>,
     digits: &[u8],
     id: &Name,
 ) -> Result<bool, AllocError>
     requires { TotalAgrees bundle.now.answer.lottery }
-    ensures { IfOk result (λ is. is ≡ includes_list (drawn_ids bundle.now tickets digits.now) id.now) }
+    ensures { IfOk result (λ is. is ≡ includes_list (drawn_ids bundle.now tickets.now digits.now) id.now) }
 {
     match drawn_by(alloc, bundle, tickets, digits)? {
         Some(drawn) => Ok(is_member(bundle.pool(), &drawn.panel, id)),
@@ -327,10 +382,21 @@ fn dropped_reply(alloc: Global, number: usize, id: &Name) -> Result<Reply, Alloc
     member_reply(alloc, b"dropped", number, id)
 }
 
+/// Returns the reply that names a dropout that is taken back.
+fn undropped_reply(alloc: Global, number: usize, id: &Name) -> Result<Reply, AllocError>
+    ensures { IfOk result (λ reply. seen_reply reply ≡ one_line (line_of_return number id.now)) }
+{
+    member_reply(alloc, b"undropped", number, id)
+}
+
 /// Returns the reply of one line: a word, the round's number, and a member's id.
 fn member_reply(alloc: Global, word: &[u8], number: usize, id: &Name) -> Result<Reply, AllocError>
     ensures { IfOk result (λ reply. seen_reply reply ≡ one_line (line_of (word.now ∷ decimal number ∷ id.now ∷ []))) }
 {
     let mut digits = Buffer::new();
-    line(alloc, word, &[digits.format(number).as_bytes(), id.as_bytes()])
+    line(
+        alloc,
+        word,
+        &[digits.format(number).as_bytes(), id.as_bytes()],
+    )
 }

@@ -1,10 +1,10 @@
 //! The imports of charter, rules, and bounds of a round.
 
-ghost use Rattle.std.specs.Prelude.{◌≡◌, ◌&&◌, ◌==◌, bytes_eq, codes};
+ghost use Rattle.std.specs.Prelude.{◌≡◌, ◌&&◌, ◌==◌, bytes_eq, codes, option_map, Ok};
 ghost use Rattle.std.specs.List.{list_all, zip};
 ghost use Rattle.define_pools.specs.Building.{value_names};
-ghost use Rattle.define_offices.specs.Deciding.{are_rules_kept as rules_are_kept, bounds_in, decide_bounds, decide_charter, decide_rules, fit_rows as rows_fit, is_charter_kept as charter_is_kept};
-ghost use Rattle.define_offices.specs.Tables.{Open, same_names as are_same_names, same_rules as are_same_rules, same_shape as are_of_one_shape, same_values as are_same_values};
+ghost use Rattle.define_offices.specs.Deciding.{are_rules_kept as rules_are_kept, bounds_in, bounds_over as bounds_with, decide_bounds, decide_charter, decide_rules, fit_rows as rows_fit, is_charter_kept as charter_is_kept, row_beyond as first_beyond};
+ghost use Rattle.define_offices.specs.Tables.{named_round, same_names as are_same_names, same_rules as are_same_rules, same_shape as are_of_one_shape, same_values as are_same_values};
 ghost use Rattle.define_offices.specs.Commands.{Refuses, RowDiffers};
 ghost use Rattle.office_steps.specs.Steps.{Says, Stops};
 
@@ -13,7 +13,7 @@ use crate::named::{is_enrolling, last_phase, no_round};
 use crate::pools::{PoolStop, pool_of, round_named};
 use crate::replies::{Refusal, Reply};
 use crate::stops::OfficeStop;
-use office_tables::{Change, Charter, Entry, Phase, Rules, Tables};
+use office_tables::{Change, Charter, Entry, Phase, Round, Rules, Tables};
 use pool_model::{BoundedValue, Category, Name, Pool};
 use std::alloc::Global;
 
@@ -35,12 +35,23 @@ pub fn set_charter(
             phase: last_phase(tables.rounds()),
         }));
     }
-    if let Some(entry) = tables.register().get(charter.volunteers()) {
-        let what = entry.id().copy()?;
-        return Err(OfficeStop::Refused(Refusal::RowDiffers { what }));
+    match row_beyond(tables.register(), charter.volunteers()) {
+        Some(entry) => {
+            let what = entry.id().copy()?;
+            Err(OfficeStop::Refused(Refusal::RowDiffers { what }))
+        }
+        None => {
+            let change = Change::Charter(charter.copy()?);
+            Ok((Some(change), line(alloc, b"charter", &[b"set"])?))
+        }
     }
-    let change = Change::Charter(charter.copy()?);
-    Ok((Some(change), line(alloc, b"charter", &[b"set"])?))
+}
+
+/// Returns the first row that a register of this many rows has no room for, if there is one.
+fn row_beyond(register: &[Entry], rows: usize) -> Option<&Entry>
+    ensures { option_map (λ entry. entry.now) result ≡ first_beyond register.now rows }
+{
+    register.get(rows)
 }
 
 /// True if `charter` is the one that is kept.
@@ -92,36 +103,50 @@ pub fn set_bounds(
 ) -> Result<(Option<Change>, Reply), OfficeStop>
     ensures { Says (decide_bounds tables.now number bounds.now) result }
 {
-    let pool = match pool_of(alloc, tables, number) {
-        Ok(pool) => pool,
-        Err(PoolStop::NoRound { last }) => {
-            return Err(OfficeStop::Refused(Refusal::NoRound { last }));
-        }
+    match pool_of(alloc, tables, number) {
+        Ok(pool) => bounds_over(alloc, tables, number, &pool, bounds),
+        Err(PoolStop::NoRound { last }) => Err(OfficeStop::Refused(Refusal::NoRound { last })),
         Err(PoolStop::Incomplete { what }) => {
-            return Err(OfficeStop::Refused(Refusal::Incomplete { what }));
+            Err(OfficeStop::Refused(Refusal::Incomplete { what }))
         }
-        Err(PoolStop::OutOfMemory) => return Err(OfficeStop::OutOfMemory),
-    };
+        Err(PoolStop::OutOfMemory) => Err(OfficeStop::OutOfMemory),
+    }
+}
+
+/// Returns the outcome of bounds for round `number`, which has this pool.
+fn bounds_over(
+    alloc: Global,
+    tables: &Tables,
+    number: usize,
+    pool: &Pool,
+    bounds: &Rules,
+) -> Result<(Option<Change>, Reply), OfficeStop>
+    ensures { Says (bounds_with tables.now bounds.now (Ok pool.now) (named_round tables.now.rounds number)) result }
+{
     let Some(round) = round_named(tables, number) else {
         return Err(OfficeStop::Refused(no_round(tables)));
     };
     if same_rules(pool.categories(), bounds.categories()) {
         return Ok((None, line(alloc, b"rules", &[b"same"])?));
     }
-    match round.phase() {
-        Phase::Open => new_bounds(alloc, &pool, bounds),
-        phase => Err(OfficeStop::Refused(Refusal::WrongPhase { phase })),
-    }
+    new_bounds(alloc, pool, round, bounds)
 }
 
-/// Returns the outcome of new bounds for an open round with this pool.
+/// Returns the outcome of new bounds for a round with this pool. They are refused unless the round is open and they differ from the pool's
+/// in bounds alone.
 fn new_bounds(
     alloc: Global,
     pool: &Pool,
+    round: &Round,
     bounds: &Rules,
 ) -> Result<(Option<Change>, Reply), OfficeStop>
-    ensures { Says (bounds_in pool.now bounds.now Open) result }
+    ensures { Says (bounds_in pool.now bounds.now round.now) result }
 {
+    if round.phase() != Phase::Open {
+        return Err(OfficeStop::Refused(Refusal::WrongPhase {
+            phase: round.phase(),
+        }));
+    }
     if !same_shape(pool.categories(), bounds.categories()) {
         return Err(rules_differ(alloc));
     }

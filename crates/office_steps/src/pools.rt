@@ -104,15 +104,22 @@ fn open_pool(
         first_pool(alloc, charter, rules, tables.register())
     } else {
         let pool = later_pool(alloc, tables.register(), &tables.rounds()[place - 1])?;
-        match tables.bounds() {
-            Some(bounds) => with_bounds(alloc, pool, bounds),
-            None => Ok(pool),
-        }
+        with_bounds(alloc, pool, tables.bounds())
+    }
+}
+
+/// Returns the pool with other bounds, if some are given that have its categories and values; else the pool.
+fn with_bounds(alloc: Global, pool: Pool, bounds: &Option<Rules>) -> Result<Pool, AllocError>
+    ensures { IfOk result (λ next. next ≡ pool_with bounds.now pool) }
+{
+    match bounds {
+        Some(bounds) => rebounded(alloc, pool, bounds),
+        None => Ok(pool),
     }
 }
 
 /// Returns the pool with these bounds, if they have its categories and values; else the pool.
-fn with_bounds(alloc: Global, pool: Pool, bounds: &Rules) -> Result<Pool, AllocError>
+fn rebounded(alloc: Global, pool: Pool, bounds: &Rules) -> Result<Pool, AllocError>
     ensures { IfOk result (λ next. next ≡ pool_with (Some bounds.now) pool) }
 {
     if !same_shape(pool.categories(), bounds.categories()) {

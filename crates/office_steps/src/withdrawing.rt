@@ -1,10 +1,10 @@
 //! The withdrawal of a volunteer, who is found by a key or by the id.
 
-ghost use Rattle.std.specs.Prelude.{◌≡◌, ◌<◌, ◌&&◌, bytes_eq, length, not, position, slice_index_or, IfOk};
+ghost use Rattle.std.specs.Prelude.{◌≡◌, ◌&&◌, bytes_eq, length, not, position, IfOk};
 ghost use Rattle.define_draws.specs.Seal.{seal_of};
 ghost use Rattle.define_pools.specs.Pool.{volunteer};
 ghost use Rattle.define_offices.specs.Deciding.{is_last_open as last_is_open, is_seated as seated, is_seated_in, place_of_hash, place_of_id, withdraw_at, withdraw_id_at, withdraw_row as row_withdrawn};
-ghost use Rattle.define_offices.specs.Tables.{Entry as SeenEntry};
+ghost use Rattle.define_offices.specs.Lines.{one_line, withdrawn_line};
 ghost use Rattle.office_steps.specs.Replies.{seen_reply};
 ghost use Rattle.define_offices.specs.Pools.{pool_of as pool_of_round};
 ghost use Rattle.office_steps.specs.Steps.{Says};
@@ -35,7 +35,8 @@ pub fn withdraw(
     let Some(place) = place_of(register, hash.as_bytes()) else {
         return Err(OfficeStop::Refused(Refusal::UnknownKey));
     };
-    withdraw_row(alloc, tables, place, Reply::Lines(Vec::new(alloc)))
+    let reply = Reply::Lines(Vec::new(alloc));
+    withdraw_row(alloc, tables, place, &register[place], reply)
 }
 
 /// Returns the outcome of a withdrawal that the office enters for the volunteer with this id, by the rules of `withdraw`.
@@ -46,24 +47,32 @@ pub fn withdraw_id(
 ) -> Result<(Option<Change>, Reply), OfficeStop>
     ensures { Says (withdraw_id_at tables.now id.now (place_of_id tables.now.register id.now 0)) result }
 {
-    let Some(place) = place_by_id(tables.register(), id) else {
+    let register = tables.register();
+    let Some(place) = place_by_id(register, id) else {
         return Err(OfficeStop::Refused(Refusal::UnknownId { id: id.copy()? }));
     };
-    let reply = line(alloc, b"withdrawn", &[id.as_bytes()])?;
-    withdraw_row(alloc, tables, place, reply)
+    let reply = withdrawn_reply(alloc, id)?;
+    withdraw_row(alloc, tables, place, &register[place], reply)
 }
 
-/// Returns the outcome of a withdrawal of the row at `place`, with `reply` if it withdraws.
+/// Returns the reply that names a withdrawal.
+fn withdrawn_reply(alloc: Global, id: &Name) -> Result<Reply, AllocError>
+    ensures { IfOk result (λ reply. seen_reply reply ≡ one_line (withdrawn_line id.now)) }
+{
+    line(alloc, b"withdrawn", &[id.as_bytes()])
+}
+
+/// Returns the outcome of a withdrawal of the row `entry`, which is at `place`, with `reply` if it withdraws.
 fn withdraw_row(
     alloc: Global,
     tables: &Tables,
     place: usize,
+    entry: &Entry,
     reply: Reply,
 ) -> Result<(Option<Change>, Reply), OfficeStop>
-    requires { place < length tables.now.register }
-    ensures { (entry : SeenEntry) → Says (row_withdrawn tables.now (seen_reply reply) place (slice_index_or tables.now.register place entry)) result }
+    ensures { Says (row_withdrawn tables.now (seen_reply reply) place entry.now) result }
 {
-    if tables.register()[place].withdrawn() {
+    if entry.withdrawn() {
         return Ok((None, reply));
     }
     if may_withdraw(alloc, tables, place)? {

@@ -1,5 +1,8 @@
--- The rounds after one is taken away: those before it if it is open and the last, else all.
-use Rattle.std.proofs.Common.{◌≡◌, ◌<◌, ℕ, zero, suc, List, [], ◌∷◌, get_or, length, take, ◌⊎◌, inl, inr, refl, ap, arith}
+-- The rounds after one is taken away, which are those before it if it is open and the last, else all; and names without one.
+use Rattle.std.proofs.Common.{◌≡◌, ◌<◌, ◌+◌, ℕ, zero, suc, cond, not, List, [], ◌∷◌, ◌++◌, get_or, length, take, ◌⊎◌, inl, inr, refl, sym, ap, ap₂, ◌∙◌, arith}
+use Rattle.std.specs.Str.{bytes_eq}
+use Rattle.std.proofs.lemmas.List.Elements.{filter_more}
+use Rattle.define_offices.specs.Steps.{without_id}
 use Rattle.define_offices.specs.Tables.{Round, Open, Solved, Sealed, Drawn, taken_at, taken_named}
 
 pub taken-open : (rounds : List Round) (place : ℕ) (d : Round) → suc place ≡ length rounds → get_or rounds place d ≡ Open → take place rounds ≡ taken_at rounds place
@@ -34,3 +37,9 @@ pub taken-none : (rounds : List Round) (number : ℕ) → (number ≡ 0) ⊎ ((n
 taken-none rounds zero h = refl
 taken-none rounds (suc place) (inl h) = absurd (cc)
 taken-none rounds (suc place) (inr h) = not-last rounds place (λ e. h.1 (let l = e in cc))
+
+-- the names other than `id` among the first `i + 1`, from those among the first `i`
+pub one_more-without : (id : List ℕ) (names old new : List (List ℕ)) (i : ℕ) (name : List ℕ) → i < length names → name ≡ get_or names i name → old ≡ without_id id (take i names) →
+    new ≡ old ++ cond (not (bytes_eq id name)) (name ∷ []) [] → new ≡ without_id id (take (i + 1) names)
+one_more-without id names old new i name inside at so_far pushed =
+    pushed ∙ ap₂ (λ (xs : List (List ℕ)) (n : List ℕ). xs ++ cond (not (bytes_eq id n)) (n ∷ []) []) so_far at ∙ sym (filter_more (λ other. not (bytes_eq id other)) names i name inside)

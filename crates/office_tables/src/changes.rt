@@ -225,7 +225,7 @@ fn changed_round(round: &Round, change: &Change) -> Result<Round, AllocError>
 {
     match change {
         Change::Solved { bundle, .. } => round.copy_solved(bundle),
-        Change::Sealed { tickets, .. } => round.copy_sealed(*tickets),
+        Change::Sealed { tickets, .. } => round.copy_sealed(tickets),
         Change::Drawn { digits, .. } => round.copy_drawn(digits),
         Change::Dropped { id, .. } => round.copy_dropped(id),
         Change::TakenBack { id, .. } => round.copy_taken_back(id),

@@ -197,7 +197,13 @@ fn round_keeps(alloc: Global, parts: &Parts, round: &Round) -> Result<bool, Allo
             }
             match round.phase() {
                 Phase::Drawn => {
-                    draw_keeps(alloc, bundle, round.tickets(), round.digits(), round.dropped())
+                    draw_keeps(
+                        alloc,
+                        bundle,
+                        round.tickets(),
+                        round.digits(),
+                        round.dropped(),
+                    )
                 }
                 _ => {
                     tickets_keep(round.tickets());
@@ -239,12 +245,12 @@ fn ids_agree(volunteers: &[Volunteer], register: &[Entry]) -> bool
 fn draw_keeps(
     alloc: Global,
     bundle: &Bundle,
-    tickets: Option<Tickets>,
+    tickets: &Option<Tickets>,
     digits: &[u8],
     dropped: &[Name],
 ) -> Result<bool, AllocError>
     requires { TotalAgrees bundle.now.answer.lottery }
-    ensures { IfOk result (λ keeps. IsTrue keeps ↔ KeepsDraw bundle.now tickets digits.now dropped.now) }
+    ensures { IfOk result (λ keeps. IsTrue keeps ↔ KeepsDraw bundle.now tickets.now digits.now dropped.now) }
 {
     tickets_keep(tickets);
     match drawn_by(alloc, bundle, tickets, digits)? {
@@ -254,8 +260,8 @@ fn draw_keeps(
 }
 
 /// Does nothing; its contract says that a number of tickets is always in its range, so the tests needn't look.
-fn tickets_keep(tickets: Option<Tickets>)
-    ensures { IsTrue (tickets_fit tickets) }
+fn tickets_keep(tickets: &Option<Tickets>)
+    ensures { IsTrue (tickets_fit tickets.now) }
 {
     if let Some(tickets) = tickets {
         let _count = tickets.count();

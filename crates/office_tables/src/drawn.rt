@@ -19,11 +19,11 @@ use std::alloc::{AllocError, Global};
 pub fn drawn_by(
     alloc: Global,
     bundle: &Bundle,
-    tickets: Option<Tickets>,
+    tickets: &Option<Tickets>,
     digits: &[u8],
 ) -> Result<Option<Draw>, AllocError>
     requires { TotalAgrees bundle.now.answer.lottery }
-    ensures { IfOk result (λ drawn. IsDrawnBy bundle.now tickets digits.now drawn) }
+    ensures { IfOk result (λ drawn. IsDrawnBy bundle.now tickets.now digits.now drawn) }
 {
     match tickets {
         None => drawn_from(alloc, bundle, digits),

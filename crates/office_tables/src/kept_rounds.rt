@@ -1,13 +1,13 @@
 //! Rounds: how far each has come, and what it keeps.
 
-ghost use Rattle.std.specs.Prelude.{◌≡◌, ◌++◌, [], ◌∷◌, if◌then◌else◌, IfOk, Some, None};
+ghost use Rattle.std.specs.Prelude.{◌≡◌, ◌++◌, [], ◌∷◌, bytes_eq, if◌then◌else◌, not, IfOk, OnOk, Some, None};
 ghost use Rattle.define_offices.specs.Facts.{has_drop};
 ghost use Rattle.define_offices.specs.Steps.{drawn_by, dropped_out, seal_told, solved_with, taken_back, without_id};
 ghost use Rattle.define_offices.specs.Tables.{Open, bundle_of, phase_of, tickets_of};
 ghost use Rattle.office_tables.specs.Parts.{digits_of, dropped_of, parts_fit, round_of};
 
 use crate::names::copied_names;
-use crate::numbers::Tickets;
+use crate::numbers::{Tickets, copied_tickets};
 use bundle_text::Bundle;
 use define_offices::Phase;
 use pool_model::Name;
@@ -62,7 +62,7 @@ impl Round {
     ) -> Option<Round>
         ensures { result ≡ (if parts_fit phase bundle tickets digits.items dropped.items then Some (round_of phase bundle tickets digits.items dropped.items) else None) }
     {
-        if !fit(phase, &bundle, tickets, &digits, &dropped) {
+        if !fit(phase, &bundle, &tickets, &digits, &dropped) {
             return None;
         }
         Some(Round {
@@ -89,10 +89,10 @@ impl Round {
     }
 
     /// Returns the round number of tickets that was kept with the seal, if there is one.
-    pub fn tickets(&self) -> Option<Tickets>
-        ensures { result ≡ tickets_of self.now }
+    pub fn tickets(&self) -> &Option<Tickets>
+        ensures { result.now ≡ tickets_of self.now }
     {
-        self.tickets
+        &self.tickets
     }
 
     /// Returns the digits of the dice, or no digits if the round is not drawn yet.
@@ -127,7 +127,7 @@ impl Round {
         Ok(Round {
             phase: self.phase,
             bundle: copied_bundle(&self.bundle)?,
-            tickets: self.tickets,
+            tickets: copied_tickets(&self.tickets),
             digits: Vec::from_slice(alloc, &self.digits)?,
             dropped: copied_names(alloc, &self.dropped)?,
         })
@@ -153,8 +153,8 @@ impl Round {
     }
 
     /// Returns the round as sealed with this number of tickets if it is solved, else an equal one.
-    pub(crate) fn copy_sealed(&self, tickets: Option<Tickets>) -> Result<Round, AllocError>
-        ensures { IfOk result (λ copied. copied ≡ seal_told tickets self.now) }
+    pub(crate) fn copy_sealed(&self, tickets: &Option<Tickets>) -> Result<Round, AllocError>
+        ensures { IfOk result (λ copied. copied ≡ seal_told tickets.now self.now) }
     {
         match self.phase {
             Phase::Solved => {
@@ -162,7 +162,7 @@ impl Round {
                 Ok(Round {
                     phase: Phase::Sealed,
                     bundle: copied_bundle(&self.bundle)?,
-                    tickets,
+                    tickets: copied_tickets(tickets),
                     digits: Vec::new(alloc),
                     dropped: Vec::new(alloc),
                 })
@@ -181,7 +181,7 @@ impl Round {
                 Ok(Round {
                     phase: Phase::Drawn,
                     bundle: copied_bundle(&self.bundle)?,
-                    tickets: self.tickets,
+                    tickets: copied_tickets(&self.tickets),
                     digits: Vec::from_slice(alloc, digits)?,
                     dropped: Vec::new(alloc),
                 })
@@ -200,7 +200,7 @@ impl Round {
                 Ok(Round {
                     phase: Phase::Drawn,
                     bundle: copied_bundle(&self.bundle)?,
-                    tickets: self.tickets,
+                    tickets: copied_tickets(&self.tickets),
                     digits: Vec::from_slice(alloc, &self.digits)?,
                     dropped: with_one_more(alloc, &self.dropped, id)?,
                 })
@@ -219,7 +219,7 @@ impl Round {
                 Ok(Round {
                     phase: Phase::Drawn,
                     bundle: copied_bundle(&self.bundle)?,
-                    tickets: self.tickets,
+                    tickets: copied_tickets(&self.tickets),
                     digits: Vec::from_slice(alloc, &self.digits)?,
                     dropped: without(alloc, &self.dropped, id)?,
                 })
@@ -235,26 +235,40 @@ fn without(alloc: Global, names: &[Name], id: &Name) -> Result<Vec<Name>, AllocE
 {
     let mut others = Vec::new(alloc);
     for name in names {
-        if id.as_bytes() != name.as_bytes() {
-            others.push(name.copy()?)?;
-        }
+        push_other(&mut others, name, id)?;
     }
     Ok(others)
+}
+
+/// Appends a name, unless it is `id`.
+fn push_other(others: &mut Vec<Name>, name: &Name, id: &Name) -> Result<(), AllocError>
+    ensures { OnOk result (others.new.items ≡ others.old.items ++ (if not (bytes_eq id.now name.now) then name.now ∷ [] else [])) }
+{
+    if id.as_bytes() != name.as_bytes() {
+        others.push(name.copy()?)?;
+    }
+    Ok(())
 }
 
 /// True if the parts fit: see `Round::from_parts`.
 fn fit(
     phase: Phase,
     bundle: &Option<Bundle>,
-    tickets: Option<Tickets>,
+    tickets: &Option<Tickets>,
     digits: &[u8],
     dropped: &[Name],
 ) -> bool
-    ensures { result ≡ parts_fit phase bundle.now tickets digits.now dropped.now }
+    ensures { result ≡ parts_fit phase bundle.now tickets.now digits.now dropped.now }
 {
     match phase {
-        Phase::Open => bundle.is_none() && tickets.is_none() && digits.is_empty() && dropped.is_empty(),
-        Phase::Solved => bundle.is_some() && tickets.is_none() && digits.is_empty() && dropped.is_empty(),
+        Phase::Open => bundle.is_none()
+            && tickets.is_none()
+            && digits.is_empty()
+            && dropped.is_empty(),
+        Phase::Solved => bundle.is_some()
+            && tickets.is_none()
+            && digits.is_empty()
+            && dropped.is_empty(),
         Phase::Sealed => bundle.is_some() && digits.is_empty() && dropped.is_empty(),
         Phase::Drawn => bundle.is_some(),
     }

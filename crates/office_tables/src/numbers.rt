@@ -1,6 +1,6 @@
 //! Numbers in a range: a round number of tickets, and the number of a round after the first.
 
-ghost use Rattle.std.specs.Prelude.{◌≡◌, ◌≤◌, nat_le, if◌then◌else◌, IsTrue, Some, None};
+ghost use Rattle.std.specs.Prelude.{◌≡◌, nat_le, if◌then◌else◌, IsTrue, Some, None};
 ghost use Rattle.define_offices.specs.Facts.{are_tickets};
 
 use std::marker::Model;
@@ -9,7 +9,7 @@ use std::marker::Model;
 const MAX_TICKETS: u32 = 1_000_000_000;
 
 /// A round number of tickets, from 1 to 1,000,000,000.
-#[derive(Clone, Copy, Debug)]
+#[derive(Debug, Drop)]
 pub struct Tickets {
     count: u32,
 }
@@ -44,10 +44,27 @@ impl Tickets {
     {
         self.count
     }
+
+    /// Returns an equal number.
+    fn copy(&self) -> Tickets
+        ensures { result ≡ self.now }
+    {
+        Tickets { count: self.count }
+    }
+}
+
+/// Returns an equal number of tickets, or None if there is none.
+pub fn copied_tickets(tickets: &Option<Tickets>) -> Option<Tickets>
+    ensures { result ≡ tickets.now }
+{
+    match tickets {
+        Some(tickets) => Some(tickets.copy()),
+        None => None,
+    }
 }
 
 /// The number of a round after the first: at least 2.
-#[derive(Clone, Copy, Debug)]
+#[derive(Debug, Drop)]
 pub struct LaterRound {
     number: usize,
 }

@@ -24,7 +24,13 @@ pub(crate) fn later_pool(
 {
     match before.bundle() {
         Some(bundle) => {
-            let next = next_pool(alloc, bundle, before.tickets(), before.digits(), before.dropped())?;
+            let next = next_pool(
+                alloc,
+                bundle,
+                before.tickets(),
+                before.digits(),
+                before.dropped(),
+            )?;
             without_withdrawn(alloc, next, register)
         }
         None => unreachable!(),
@@ -45,13 +51,13 @@ fn without_withdrawn(alloc: Global, mut pool: Pool, register: &[Entry]) -> Resul
 fn next_pool(
     alloc: Global,
     bundle: &Bundle,
-    tickets: Option<Tickets>,
+    tickets: &Option<Tickets>,
     digits: &[u8],
     dropped: &[Name],
 ) -> Result<Pool, AllocError>
     requires total { TotalAgrees bundle.now.answer.lottery }
-    requires named { is_ok (name_ticket (drawn_lottery bundle.now tickets).total digits.now) ≡ true }
-    ensures { IfOk result (λ pool. pool ≡ pool_next bundle.now.pool (drawn_of bundle.now tickets digits.now).panel (numbers_by bundle.now.pool dropped.now)) }
+    requires named { is_ok (name_ticket (drawn_lottery bundle.now tickets.now).total digits.now) ≡ true }
+    ensures { IfOk result (λ pool. pool ≡ pool_next bundle.now.pool (drawn_of bundle.now tickets.now digits.now).panel (numbers_by bundle.now.pool dropped.now)) }
 {
     let panel = panel_drawn(alloc, bundle, tickets, digits)?;
     let drops = numbers_of(alloc, bundle.pool(), dropped)?;
@@ -62,12 +68,12 @@ fn next_pool(
 fn panel_drawn(
     alloc: Global,
     bundle: &Bundle,
-    tickets: Option<Tickets>,
+    tickets: &Option<Tickets>,
     digits: &[u8],
 ) -> Result<Panel, AllocError>
     requires total { TotalAgrees bundle.now.answer.lottery }
-    requires named { is_ok (name_ticket (drawn_lottery bundle.now tickets).total digits.now) ≡ true }
-    ensures { IfOk result (λ panel. panel ≡ (drawn_of bundle.now tickets digits.now).panel) }
+    requires named { is_ok (name_ticket (drawn_lottery bundle.now tickets.now).total digits.now) ≡ true }
+    ensures { IfOk result (λ panel. panel ≡ (drawn_of bundle.now tickets.now digits.now).panel) }
 {
     match drawn_by(alloc, bundle, tickets, digits)? {
         Some(drawn) => Ok(drawn.panel),

@@ -1,7 +1,7 @@
 use Rattle.std.proofs.Common.{refl}
 use Rattle.define_draws.specs.Seal.{seal_of}
-use Rattle.define_offices.specs.Commands.{SetCharter, SetRules, Register, Keep, Seal, Draw, Drop, NextRound, Show, Withdraw}
-use Rattle.define_offices.specs.Deciding.{decide_charter, decide_register, decide_rules, draw_in, drop_in, keep_in, next_in, place_of_hash, seal_in, show_in, withdraw_at}
+use Rattle.define_offices.specs.Commands.{SetCharter, SetRules, Register, Keep, Seal, Draw, Drop, NextRound, Show, Withdraw, SetBounds, TryDraw, Undrop, Reopen, WithdrawId}
+use Rattle.define_offices.specs.Deciding.{decide_bounds, decide_charter, decide_register, decide_rules, draw_in, drop_in, keep_in, next_in, place_of_hash, place_of_id, reopen_in, seal_in, show_in, undrop_in, withdraw_at, withdraw_id_at, without_change}
 use Rattle.define_offices.specs.Tables.{named_round}
 use Rattle.office_core.proofs.Runs.{at_once}
 use Rattle.office_core.proofs.deciding.decide.Goals as goal
@@ -24,7 +24,7 @@ returns-in-Register g c =
 pub returns-in-Seal : goal.returns-in-Seal
 returns-in-Seal g c =
     let tables = c.args.tables.now in
-    rw c.in-Seal.is (at_once tables (Seal c.in-Seal.round) (seal_in tables c.in-Seal.round (named_round tables.rounds c.in-Seal.round)) c.stepped-in-Seal.result refl (c.stepped-in-Seal.ensures _ c.seal_round.ensures))
+    rw c.in-Seal.is (at_once tables (Seal c.in-Seal.round c.in-Seal.tickets) (seal_in tables c.in-Seal.round c.in-Seal.tickets (named_round tables.rounds c.in-Seal.round)) c.stepped-in-Seal.result refl (c.stepped-in-Seal.ensures _ c.seal_round.ensures))
 
 pub returns-in-Draw : goal.returns-in-Draw
 returns-in-Draw g c =
@@ -56,3 +56,28 @@ returns-in-Keep g c =
     let tables = c.args.tables.now in
     let round = c.in-Keep.round in
     rw c.in-Keep.is (at_once tables (Keep round c.in-Keep.proof) (keep_in tables round c.in-Keep.proof (named_round tables.rounds round)) c.keep_proof.result refl c.keep_proof.ensures)
+
+pub returns-in-Bounds : goal.returns-in-Bounds
+returns-in-Bounds g c =
+    let tables = c.args.tables.now in
+    rw c.in-Bounds.is (at_once tables (SetBounds c.in-Bounds.round c.in-Bounds.bounds) (decide_bounds tables c.in-Bounds.round c.in-Bounds.bounds) c.stepped-in-Bounds.result refl (c.stepped-in-Bounds.ensures _ (rw c.number.ensures.value at c.set_bounds.ensures)))
+
+pub returns-in-Try : goal.returns-in-Try
+returns-in-Try g c =
+    let tables = c.args.tables.now in
+    rw c.in-Try.is (at_once tables (TryDraw c.in-Try.round c.in-Try.seal c.in-Try.digits.items) (without_change (draw_in tables c.in-Try.round c.in-Try.seal c.in-Try.digits.items (named_round tables.rounds c.in-Try.round))) c.stepped-in-Try.result refl (c.stepped-in-Try.ensures _ (rw (c.as_str-in-Try.ensures, c.deref-in-Try.ensures.value) at c.try_draw.ensures)))
+
+pub returns-in-Undrop : goal.returns-in-Undrop
+returns-in-Undrop g c =
+    let tables = c.args.tables.now in
+    rw c.in-Undrop.is (at_once tables (Undrop c.in-Undrop.round c.in-Undrop.id) (undrop_in tables c.in-Undrop.round c.in-Undrop.id (named_round tables.rounds c.in-Undrop.round)) c.stepped-in-Undrop.result refl (c.stepped-in-Undrop.ensures _ c.undrop_member.ensures))
+
+pub returns-in-Reopen : goal.returns-in-Reopen
+returns-in-Reopen g c =
+    let tables = c.args.tables.now in
+    rw c.in-Reopen.is (at_once tables (Reopen c.in-Reopen.round) (reopen_in tables c.in-Reopen.round (named_round tables.rounds c.in-Reopen.round)) c.stepped-in-Reopen.result refl (c.stepped-in-Reopen.ensures _ (rw c.number-in-Reopen.ensures.value at c.reopen_round.ensures)))
+
+pub returns-in-WithdrawId : goal.returns-in-WithdrawId
+returns-in-WithdrawId g c =
+    let tables = c.args.tables.now in
+    rw c.in-WithdrawId.is (at_once tables (WithdrawId c.in-WithdrawId.id) (withdraw_id_at tables c.in-WithdrawId.id (place_of_id tables.register c.in-WithdrawId.id 0)) c.stepped-in-WithdrawId.result refl (c.stepped-in-WithdrawId.ensures _ c.withdraw_id.ensures))
