@@ -14,7 +14,7 @@ use Rattle.office_desk.specs.declared.published.Published.TheVariants.{Nothing, 
 abbrev pub seen_published : Published → views.Published
 seen_published Nothing = views.Nothing
 seen_published (TheBundle bundle) = views.TheBundle bundle.now
-seen_published (TheDraw bundle tickets digits) = views.TheDraw bundle.now tickets digits.now
+seen_published (TheDraw bundle tickets digits) = views.TheDraw bundle.now tickets.now digits.now
 
 -- the weights of the bundle sum to its total, and the digits name a ticket of the lottery that the round draws from
 pub record CanBeDrawn (bundle : Bundle) (tickets : Option ℕ) (digits : List ℕ) : Type 0 where

@@ -91,10 +91,10 @@ pub(crate) fn draw_body(
     panel: Vec<Value>,
     seal: &str,
     ticket: &str,
-    tickets: Option<&str>,
+    tickets: Option<String>,
 ) -> Result<String, AllocError>
     requires { has_float (array (items_view panel.items)) ≡ false }
-    ensures { IfOk result (λ body. string_bytes body ≡ draw_text digits.now (compact_text (array (items_view panel.items))) seal.now ticket.now (option_map (λ t. t.now) tickets)) }
+    ensures { IfOk result (λ body. string_bytes body ≡ draw_text digits.now (compact_text (array (items_view panel.items))) seal.now ticket.now (option_map (λ text. string_bytes text) tickets)) }
 {
     let panel = array_of(panel);
     let value = draw_value(alloc, digits, panel, seal, ticket, tickets)?;
@@ -113,13 +113,14 @@ fn draw_value(
     panel: Value,
     seal: &str,
     ticket: &str,
-    tickets: Option<&str>,
+    tickets: Option<String>,
 ) -> Result<Value, AllocError>
-    ensures { IfOk result (λ value. view value ≡ draw_data digits.now (view panel) seal.now ticket.now (option_map (λ t. t.now) tickets)) }
+    ensures { IfOk result (λ value. view value ≡ draw_data digits.now (view panel) seal.now ticket.now (option_map (λ text. string_bytes text) tickets)) }
 {
     match tickets {
         None => json!(in alloc; {"digits": digits, "panel": panel, "seal": seal, "ticket": ticket}),
         Some(tickets) => {
+            let tickets = Value::String(tickets);
             json!(in alloc; {"digits": digits, "panel": panel, "seal": seal, "ticket": ticket, "tickets": tickets})
         }
     }

@@ -111,12 +111,12 @@ pub(crate) fn is_drawn(
 fn is_in_panel(
     alloc: Global,
     bundle: &Bundle,
-    tickets: Option<Tickets>,
+    tickets: &Option<Tickets>,
     digits: &[u8],
     id: &Name,
 ) -> Result<bool, AllocError>
-    requires { CanBeDrawn bundle.now tickets digits.now }
-    ensures { IfOk result (λ is. is ≡ includes_list (drawn_ids bundle.now tickets digits.now) id.now) }
+    requires { CanBeDrawn bundle.now tickets.now digits.now }
+    ensures { IfOk result (λ is. is ≡ includes_list (drawn_ids bundle.now tickets.now digits.now) id.now) }
 {
     match drawn_by(alloc, bundle, tickets, digits)? {
         Some(drawn) => Ok(is_member(bundle.pool(), &drawn.panel, id)),

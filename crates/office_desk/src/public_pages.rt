@@ -1,6 +1,7 @@
 //! The pages that anybody may read: a bundle as it is kept, and a draw.
 
-ghost use Rattle.std.specs.Prelude.{◌≡◌, codes, length, map, string_bytes, IfOk, IsUtf8};
+ghost use Rattle.std.specs.Prelude.{◌≡◌, codes, length, map, option_map, string_bytes, IfOk, IsUtf8};
+ghost use Rattle.std.specs.Fmt.{decimal};
 ghost use Rattle.serde_json.specs.Data.{string};
 ghost use Rattle.serde_json.specs.View.{view};
 ghost use Rattle.define_offices.specs.Lines.{bundle_seal as seal_of_bundle, member_ids};
@@ -82,12 +83,12 @@ pub(crate) fn draw_answer(
 fn draw_by(
     alloc: Global,
     bundle: &Bundle,
-    tickets: Option<Tickets>,
+    tickets: &Option<Tickets>,
     digits: &[u8],
     request: &Request,
 ) -> Result<Answer, AllocError>
-    requires { CanBeDrawn bundle.now tickets digits.now }
-    ensures { IfOk result (λ answer. answer ≡ sent_of (if_by (codes "GET") request.now (told (body_of_draw bundle.now tickets digits.now)))) }
+    requires { CanBeDrawn bundle.now tickets.now digits.now }
+    ensures { IfOk result (λ answer. answer ≡ sent_of (if_by (codes "GET") request.now (told (body_of_draw bundle.now tickets.now digits.now)))) }
 {
     if request.method() == b"GET".as_slice() {
         told_draw(alloc, bundle, tickets, digits)
@@ -99,11 +100,11 @@ fn draw_by(
 fn told_draw(
     alloc: Global,
     bundle: &Bundle,
-    tickets: Option<Tickets>,
+    tickets: &Option<Tickets>,
     digits: &[u8],
 ) -> Result<Answer, AllocError>
-    requires { CanBeDrawn bundle.now tickets digits.now }
-    ensures { IfOk result (λ answer. answer ≡ sent_of (told (body_of_draw bundle.now tickets digits.now))) }
+    requires { CanBeDrawn bundle.now tickets.now digits.now }
+    ensures { IfOk result (λ answer. answer ≡ sent_of (told (body_of_draw bundle.now tickets.now digits.now))) }
 {
     match drawn_by(alloc, bundle, tickets, digits)? {
         Some(drawn) => {
@@ -118,25 +119,36 @@ fn told_draw(
 fn drawn_body(
     alloc: Global,
     bundle: &Bundle,
-    tickets: Option<Tickets>,
+    tickets: &Option<Tickets>,
     digits: &[u8],
     drawn: &Draw,
 ) -> Result<String, AllocError>
     requires digits { IsUtf8 digits.now }
-    requires drawn { Draws (drawn_lottery bundle.now tickets) (length bundle.now.pool.volunteers) digits.now drawn.now }
-    ensures { IfOk result (λ body. string_bytes body ≡ body_of_draw bundle.now tickets digits.now) }
+    requires drawn { Draws (drawn_lottery bundle.now tickets.now) (length bundle.now.pool.volunteers) digits.now drawn.now }
+    ensures { IfOk result (λ body. string_bytes body ≡ body_of_draw bundle.now tickets.now digits.now) }
 {
     let panel = member_values(alloc, bundle.pool(), &drawn.panel)?;
     let kept = bundle_seal(alloc, bundle)?;
     let ticket = drawn.ticket.unsigned_abs().to_string(alloc)?;
     let digits = String::from_utf8_lossy(alloc, digits)?;
-    let (digits, kept, ticket) = (digits.as_str(), kept.as_str(), ticket.as_str());
+    let number = tickets_text(alloc, tickets)?;
+    draw_body(
+        alloc,
+        digits.as_str(),
+        panel,
+        kept.as_str(),
+        ticket.as_str(),
+        number,
+    )
+}
+
+/// Returns a number of tickets as a text, or None if there is none.
+fn tickets_text(alloc: Global, tickets: &Option<Tickets>) -> Result<Option<String>, AllocError>
+    ensures { IfOk result (λ text. option_map (λ t. string_bytes t) text ≡ option_map decimal tickets.now) }
+{
     match tickets {
-        None => draw_body(alloc, digits, panel, kept, ticket, None),
-        Some(tickets) => {
-            let number = tickets.count().to_string(alloc)?;
-            draw_body(alloc, digits, panel, kept, ticket, Some(number.as_str()))
-        }
+        Some(tickets) => Ok(Some(tickets.count().to_string(alloc)?)),
+        None => Ok(None),
     }
 }
 

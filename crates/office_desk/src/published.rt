@@ -15,7 +15,7 @@ use office_tables::{Phase, Round, Tables, Tickets};
 pub(crate) enum Published<'a> {
     Nothing,
     TheBundle(&'a Bundle),
-    TheDraw(&'a Bundle, Option<Tickets>, &'a [u8]),
+    TheDraw(&'a Bundle, &'a Option<Tickets>, &'a [u8]),
 }
 
 /// Returns what is published of the round with a number, counted from 1. Nothing is published of a round that doesn't exist.

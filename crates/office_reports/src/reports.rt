@@ -2,7 +2,7 @@
 
 ghost use Rattle.std.specs.Prelude.{◌≡◌, ◌++◌, [], ◌∷◌, IfOk, OnOk};
 ghost use Rattle.define_lines.specs.Lines.{text_of};
-ghost use Rattle.define_offices.specs.Report.{bundle_lines, chance_lines_in, quota_lines, report_lines, report_of, tickets_lines};
+ghost use Rattle.define_offices.specs.Report.{bundle_lines, chance_lines_in, quota_lines, report_lines, report_of, seal_lines, tickets_lines};
 ghost use Rattle.define_offices.specs.Lines.{seal_line};
 ghost use Rattle.office_reports.specs.Rounds.{HasPool, IsDrawnIn, IsOfPool, KeepsDraw, TellsReport, WeightsAgree, counted_with};
 
@@ -91,8 +91,7 @@ fn push_bundle(
     if round.phase() == Phase::Solved {
         return Ok(());
     }
-    push_seal(alloc, text, bundle)?;
-    push_tickets(text, round.tickets())?;
+    push_seal_lines(alloc, text, bundle, round.tickets())?;
     match drawn {
         Some(drawn) => push_draw(
             text,
@@ -106,9 +105,23 @@ fn push_bundle(
     }
 }
 
+/// Appends the seal of a bundle, with the round number of tickets that was kept with it, if there is one.
+fn push_seal_lines(
+    alloc: Global,
+    text: &mut Vec<u8>,
+    bundle: &Bundle,
+    tickets: &Option<Tickets>,
+) -> Result<(), AllocError>
+    ensures { OnOk result (text.new.items ≡ text.old.items ++ text_of (seal_lines bundle.now tickets.now)) }
+{
+    push_seal(alloc, text, bundle)?;
+    push_tickets(text, tickets)?;
+    Ok(())
+}
+
 /// Appends the round number of tickets that was kept with the seal, if there is one.
-fn push_tickets(text: &mut Vec<u8>, tickets: Option<Tickets>) -> Result<(), AllocError>
-    ensures { OnOk result (text.new.items ≡ text.old.items ++ text_of (tickets_lines tickets)) }
+fn push_tickets(text: &mut Vec<u8>, tickets: &Option<Tickets>) -> Result<(), AllocError>
+    ensures { OnOk result (text.new.items ≡ text.old.items ++ text_of (tickets_lines tickets.now)) }
 {
     match tickets {
         Some(tickets) => push_number_line(text, b"tickets", tickets.count() as usize),
