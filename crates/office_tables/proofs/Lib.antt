@@ -1,4 +1,5 @@
 mod ChangedPlaces
+mod Different
 mod DrawnPanels
 mod FactsOfTables
 mod KeptParts

@@ -10,7 +10,7 @@ ghost use Rattle.define_offices.specs.Deciding.{fits_rules};
 ghost use Rattle.define_offices.specs.Facts.{AreRules, IsTables, KeepsBundle, KeepsDraw, KeepsRound, are_tickets as tickets_fit, closed_but_last as each_is_closed_but_last, entry_hashes, entry_ids, has_drop, is_charter, is_entry as keeps_limits, rows_fit as all_fit};
 ghost use Rattle.define_offices.specs.Lines.{member_ids};
 ghost use Rattle.define_offices.specs.Tables.{Charter as SeenCharter, most_rows as rows_at_most};
-ghost use Rattle.office_tables.specs.Seen.{seen_parts};
+ghost use Rattle.office_tables.specs.Seen.{register_test, seen_parts};
 
 use crate::charters::{Charter, Rules};
 use crate::drawn::{drawn_by, is_member};
@@ -24,6 +24,7 @@ use define_offices::Phase;
 use pool_model::{Category, Name, Panel, Pool, Volunteer, are_named};
 use sealed_draw::total_agrees;
 use std::alloc::{AllocError, Global};
+use std::collections::BTreeSet;
 
 /// The most rows that a register takes without a charter.
 const USUAL_ROWS: usize = 400;
@@ -33,11 +34,13 @@ pub(crate) fn are_tables(alloc: Global, parts: &Parts) -> Result<bool, AllocErro
     ensures { IfOk result (λ are. IsTrue are ↔ IsTables (seen_parts parts.now)) }
 {
     charter_and_rules_keep(parts);
-    Ok(
-        is_register(&parts.charter, &parts.register, &parts.rules)
-            && closed_but_last(&parts.rounds)
-            && rounds_keep(alloc, parts)?,
-    )
+    if !is_register(alloc, &parts.charter, &parts.register, &parts.rules)? {
+        return Ok(false);
+    }
+    if !closed_but_last(&parts.rounds) {
+        return Ok(false);
+    }
+    rounds_keep(alloc, parts)
 }
 
 /// Does nothing; its contract says that a charter and rules are always within their limits, so `are_tables` needn't test them.
@@ -58,16 +61,29 @@ fn charter_and_rules_keep(parts: &Parts)
 }
 
 /// True if there are at most as many rows as the charter says, their ids and households are names, each fits `rules`, and their ids and
-/// digests are all different. Compares each id and each digest with all those after it.
-fn is_register(charter: &Option<Charter>, register: &[Entry], rules: &Option<Rules>) -> bool
-    ensures { result ≡ (nat_le (length register.now) (rows_at_most charter.now) && list_all keeps_limits register.now && all_fit rules.now register.now
-        && all_different (entry_ids register.now) && all_different (entry_hashes register.now)) }
+/// digests are all different.
+fn is_register(
+    alloc: Global,
+    charter: &Option<Charter>,
+    register: &[Entry],
+    rules: &Option<Rules>,
+) -> Result<bool, AllocError>
+    ensures { IfOk result (λ is. is ≡ register_test (rows_at_most charter.now) rules.now register.now) }
 {
-    register.len() <= most_rows(charter)
-        && are_entries(register)
-        && rows_fit(rules, register)
-        && ids_differ(register)
-        && hashes_differ(register)
+    if !are_rows(charter, register, rules) {
+        return Ok(false);
+    }
+    if !ids_differ(alloc, register)? {
+        return Ok(false);
+    }
+    hashes_differ(alloc, register)
+}
+
+/// True if there are at most as many rows as the charter says, their ids and households are names, and each fits `rules`.
+fn are_rows(charter: &Option<Charter>, register: &[Entry], rules: &Option<Rules>) -> bool
+    ensures { result ≡ (nat_le (length register.now) (rows_at_most charter.now) && list_all keeps_limits register.now && all_fit rules.now register.now) }
+{
+    register.len() <= most_rows(charter) && are_entries(register) && rows_fit(rules, register)
 }
 
 /// Returns how many rows the register takes.
@@ -119,45 +135,33 @@ fn are_values(categories: &[Category], values: &[Name]) -> bool
 }
 
 /// True if no id comes twice.
-fn ids_differ(register: &[Entry]) -> bool
-    ensures { result ≡ all_different (entry_ids register.now) }
+fn ids_differ(alloc: Global, register: &[Entry]) -> Result<bool, AllocError>
+    ensures { IfOk result (λ differ. differ ≡ all_different (entry_ids register.now)) }
 {
-    for (i, entry) in register.iter().enumerate() {
-        if has_id(&register[i + 1..], entry.id()) {
-            return false;
+    let mut earlier: BTreeSet<&[u8]> = BTreeSet::new(alloc);
+    for entry in register {
+        let id = entry.id();
+        let is_new = earlier.insert(id.as_bytes())?;
+        if !is_new {
+            return Ok(false);
         }
     }
-    true
-}
-
-/// True if a row has this id.
-fn has_id(register: &[Entry], id: &Name) -> bool
-    ensures { result ≡ includes_list (entry_ids register.now) id.now }
-{
-    register
-        .iter()
-        .any(|entry| id.as_bytes() == entry.id().as_bytes())
+    Ok(true)
 }
 
 /// True if no digest of a key comes twice.
-fn hashes_differ(register: &[Entry]) -> bool
-    ensures { result ≡ all_different (entry_hashes register.now) }
+fn hashes_differ(alloc: Global, register: &[Entry]) -> Result<bool, AllocError>
+    ensures { IfOk result (λ differ. differ ≡ all_different (entry_hashes register.now)) }
 {
-    for (i, entry) in register.iter().enumerate() {
-        if has_hash(&register[i + 1..], entry.hash()) {
-            return false;
+    let mut earlier: BTreeSet<&[u8]> = BTreeSet::new(alloc);
+    for entry in register {
+        let hash = entry.hash();
+        let is_new = earlier.insert(hash.as_bytes())?;
+        if !is_new {
+            return Ok(false);
         }
     }
-    true
-}
-
-/// True if a row has this digest of a key.
-fn has_hash(register: &[Entry], hash: &Name) -> bool
-    ensures { result ≡ includes_list (entry_hashes register.now) hash.now }
-{
-    register
-        .iter()
-        .any(|entry| hash.as_bytes() == entry.hash().as_bytes())
+    Ok(true)
 }
 
 /// True if there is a round, and each but the last is drawn and has a dropout.
