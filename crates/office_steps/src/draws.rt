@@ -174,7 +174,7 @@ fn draw_in_round(
     match tickets {
         None => draw_from(alloc, bundle, kept, given, digits),
         Some(tickets) => {
-            let short = short_bundle(alloc, bundle, i128::from(tickets.count()))?;
+            let short = short_bundle(alloc, bundle, tickets.number())?;
             draw_from(alloc, &short, kept, given, digits)
         }
     }

@@ -1,11 +1,12 @@
 -- The rounds after one is taken away, which are those before it if it is open and the last, else all; and names without one.
-use Rattle.std.proofs.Common.{◌≡◌, ◌<◌, ◌+◌, ℕ, zero, suc, cond, not, List, [], ◌∷◌, ◌++◌, get_or, length, take, ◌⊎◌, inl, inr, refl, sym, ap, ap₂, ◌∙◌, arith}
+use Rattle.std.proofs.Common.{◌≡◌, ◌<◌, ◌+◌, ℕ, zero, suc, cond, not, List, [], ◌∷◌, ◌++◌, Some, None, get_or, length, take, ◌⊎◌, inl, inr, refl, sym, ap, ap₂, ◌∙◌, arith}
 use Rattle.std.specs.Str.{bytes_eq}
 use Rattle.std.proofs.lemmas.List.Elements.{filter_more}
 use Rattle.define_offices.specs.Steps.{without_id}
-use Rattle.define_offices.specs.Tables.{Round, Open, Solved, Sealed, Drawn, taken_at, taken_named}
+use Rattle.define_bundles.specs.BundleText.{Bundle}
+use Rattle.define_offices.specs.Tables.{Round, Open, Solved, Sealed, Drawn, bundle_of, taken_at, taken_named}
 
-pub taken-open : (rounds : List Round) (place : ℕ) (d : Round) → suc place ≡ length rounds → get_or rounds place d ≡ Open → take place rounds ≡ taken_at rounds place
+taken-open : (rounds : List Round) (place : ℕ) (d : Round) → suc place ≡ length rounds → get_or rounds place d ≡ Open → take place rounds ≡ taken_at rounds place
 taken-open [] place d end is = absurd (omega arith)
 taken-open (Open ∷ []) zero d end is = refl
 taken-open (Solved bundle ∷ []) zero d end is = absurd (cc)
@@ -14,7 +15,7 @@ taken-open (Drawn bundle tickets digits dropped ∷ []) zero d end is = absurd (
 taken-open (round ∷ next ∷ later) zero d end is = absurd (omega arith)
 taken-open (round ∷ rounds) (suc place) d end is = ap (λ later. round ∷ later) (taken-open rounds place d (omega arith) is)
 
-pub taken-other : (rounds : List Round) (place : ℕ) (d : Round) → (get_or rounds place d ≡ Open → ⊥) → suc place ≡ length rounds → taken_at rounds place ≡ rounds
+taken-other : (rounds : List Round) (place : ℕ) (d : Round) → (get_or rounds place d ≡ Open → ⊥) → suc place ≡ length rounds → taken_at rounds place ≡ rounds
 taken-other [] place d other end = refl
 taken-other (Open ∷ []) zero d other end = absurd (other refl)
 taken-other (Open ∷ next ∷ later) zero d other end = refl
@@ -22,6 +23,24 @@ taken-other (Solved bundle ∷ later) zero d other end = refl
 taken-other (Sealed bundle tickets ∷ later) zero d other end = refl
 taken-other (Drawn bundle tickets digits dropped ∷ later) zero d other end = refl
 taken-other (round ∷ rounds) (suc place) d other end = ap (λ later. round ∷ later) (taken-other rounds place d other (omega arith))
+
+round-open : (round : Round) → bundle_of round ≡ None → round ≡ Open
+round-open Open e = refl
+round-open (Solved bundle) e = absurd (cc)
+round-open (Sealed bundle tickets) e = absurd (cc)
+round-open (Drawn bundle tickets digits dropped) e = absurd (cc)
+
+-- if the last round has no bundle, it is open, and the rounds before it are left
+pub taken-last : (rounds : List Round) (number place : ℕ) (round : Round) → number ≡ suc place → length rounds ≡ number → round ≡ get_or rounds place round → bundle_of round ≡ None →
+    take place rounds ≡ taken_named rounds number
+taken-last rounds number place round named last at none =
+    taken-open rounds place round (omega arith) (sym at ∙ round-open round none) ∙ ap (taken_named rounds) (sym named)
+
+-- if the last round has a bundle, all rounds are left
+pub taken-kept : (rounds : List Round) (number place : ℕ) (round : Round) (bundle : Bundle) → number ≡ suc place → length rounds ≡ number → round ≡ get_or rounds place round → bundle_of round ≡ Some bundle →
+    taken_named rounds number ≡ rounds
+taken-kept rounds number place round bundle named last at has =
+    ap (taken_named rounds) named ∙ taken-other rounds place round (λ e. (let none : Some bundle ≡ None = sym has ∙ ap bundle_of (at ∙ e) in cc)) (omega arith)
 
 not-last : (rounds : List Round) (place : ℕ) → (suc place ≡ length rounds → ⊥) → taken_at rounds place ≡ rounds
 not-last [] place h = refl

@@ -13,7 +13,6 @@ use crate::numbers::Tickets;
 use crate::rows::{Entry, copied_entries};
 use crate::tables::{Parts, Tables, copied_charter, copied_rules};
 use bundle_text::Bundle;
-use define_offices::Phase;
 use pool_model::Name;
 use std::alloc::{AllocError, Global};
 
@@ -240,9 +239,10 @@ fn without_round(alloc: Global, rounds: &[Round], number: usize) -> Result<Vec<R
     if number == 0 || rounds.len() != number {
         return copied_rounds(alloc, rounds);
     }
-    match rounds[number - 1].phase() {
-        Phase::Open => copied_rounds(alloc, &rounds[..number - 1]),
-        _ => copied_rounds(alloc, rounds),
+    let place = number - 1;
+    match rounds[place].bundle() {
+        None => copied_rounds(alloc, &rounds[..place]),
+        Some(_) => copied_rounds(alloc, rounds),
     }
 }
 

@@ -95,7 +95,14 @@ impl Charter {
 fn is_size(volunteers: usize, size: usize) -> bool
     ensures { result ≡ is_panel_size (limits_for volunteers) size }
 {
-    1 <= size && size <= Limits::of(volunteers).members()
+    is_within(Limits::of(volunteers), size)
+}
+
+/// True if a panel within these limits may have `size` members.
+fn is_within(limits: Limits, size: usize) -> bool
+    ensures { result ≡ is_panel_size limits size }
+{
+    1 <= size && size <= limits.members()
 }
 
 /// True if a register may take this many rows: from 1 to 4000.

@@ -199,20 +199,13 @@ fn round_keeps(alloc: Global, parts: &Parts, round: &Round) -> Result<bool, Allo
             if !bundle_keeps(parts, bundle) {
                 return Ok(false);
             }
+            let tickets = round.tickets();
+            tickets_keep(tickets);
             match round.phase() {
                 Phase::Drawn => {
-                    draw_keeps(
-                        alloc,
-                        bundle,
-                        round.tickets(),
-                        round.digits(),
-                        round.dropped(),
-                    )
+                    draw_keeps(alloc, bundle, tickets, round.digits(), round.dropped())
                 }
-                _ => {
-                    tickets_keep(round.tickets());
-                    Ok(true)
-                }
+                _ => Ok(true),
             }
         }
     }

@@ -28,7 +28,7 @@ pub fn drawn_by(
     match tickets {
         None => drawn_from(alloc, bundle, digits),
         Some(tickets) => {
-            let short = short_bundle(alloc, bundle, i128::from(tickets.count()))?;
+            let short = short_bundle(alloc, bundle, tickets.number())?;
             drawn_from(alloc, &short, digits)
         }
     }

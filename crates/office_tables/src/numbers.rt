@@ -1,6 +1,6 @@
 //! Numbers in a range: a round number of tickets, and the number of a round after the first.
 
-ghost use Rattle.std.specs.Prelude.{◌≡◌, nat_le, if◌then◌else◌, IsTrue, Some, None};
+ghost use Rattle.std.specs.Prelude.{◌≡◌, ◌^◌, ◌≤ℤ◌, nat_le, pos, if◌then◌else◌, IsTrue, Some, None};
 ghost use Rattle.define_offices.specs.Facts.{are_tickets};
 
 use std::marker::Model;
@@ -43,6 +43,15 @@ impl Tickets {
         ensures range { IsTrue (are_tickets (Some self.now)) }
     {
         self.count
+    }
+
+    /// Returns the number as a signed one.
+    pub fn number(&self) -> i128
+        ensures value { result ≡ pos self.now }
+        ensures from { pos 1 ≤ℤ result }
+        ensures to { result ≤ℤ pos (10 ^ 9) }
+    {
+        i128::from(self.count())
     }
 
     /// Returns an equal number.

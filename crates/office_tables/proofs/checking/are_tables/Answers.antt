@@ -23,8 +23,8 @@ returns c =
     let parts = c.args.parts.now in
     IfOk-weaker c.rounds_keep.result _ _
     (λ keep keeps.
-      left_to_rounds (seen_parts parts) keep c.charter_and_rules_keep.ensures.charter c.charter_and_rules_keep.ensures.rules c.charter_and_rules_keep.ensures.bounds
-      (ap (register_test (most_rows parts.charter) parts.rules) (sym c.deref.ensures.value) ∙ (sym c.in_ok-is_register.ensures ∙ c.if-not-is_register.false))
-      (ap closed_but_last (sym c.deref-2.ensures.value) ∙ (sym c.closed_but_last.ensures ∙ c.if-not-closed_but_last.false))
-      keeps)
+    left_to_rounds (seen_parts parts) keep c.charter_and_rules_keep.ensures.charter c.charter_and_rules_keep.ensures.rules c.charter_and_rules_keep.ensures.bounds
+    (ap (register_test (most_rows parts.charter) parts.rules) (sym c.deref.ensures.value) ∙ (sym c.in_ok-is_register.ensures ∙ c.if-not-is_register.false))
+    (ap closed_but_last (sym c.deref-2.ensures.value) ∙ (sym c.closed_but_last.ensures ∙ c.if-not-closed_but_last.false))
+    keeps)
     c.rounds_keep.ensures

@@ -24,6 +24,6 @@ returns c =
     let register = c.args.register.now in
     IfOk-weaker c.hashes_differ.result _ _
     (λ differ is.
-      is ∙ sym (by_hashes (leb (length register) (most_rows c.args.charter.now) && list_all is_entry register && rows_fit c.args.rules.now register) (all_different (entry_ids register)) (all_different (entry_hashes register))
-      (sym c.are_rows.ensures ∙ c.if-not-are_rows.false) (sym c.in_ok-ids_differ.ensures ∙ c.if-not-ids_differ.false)))
+    is ∙ sym (by_hashes (leb (length register) (most_rows c.args.charter.now) && list_all is_entry register && rows_fit c.args.rules.now register) (all_different (entry_ids register)) (all_different (entry_hashes register))
+    (sym c.are_rows.ensures ∙ c.if-not-are_rows.false) (sym c.in_ok-ids_differ.ensures ∙ c.if-not-ids_differ.false)))
     c.hashes_differ.ensures
