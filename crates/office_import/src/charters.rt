@@ -2,7 +2,7 @@
 
 ghost use Rattle.std.specs.Prelude.{◌≡◌, Some, codes, option_and_then, option_map};
 ghost use Rattle.toml.specs.Data.{as_integer, as_str, get_member};
-ghost use Rattle.toml.specs.View.{table_view};
+ghost use Rattle.toml.specs.View.{table_view, view};
 ghost use Rattle.define_imports.specs.Charters.{charter_of as charter_in, judged as is_judged, read_charter as charter_read, size_of as size_in, volunteers_of};
 ghost use Rattle.office_import.specs.Answers.{Reads};
 
@@ -12,7 +12,7 @@ use office_tables::Charter;
 use pool_model::Name;
 use std::alloc::Global;
 use std::str;
-use toml::Table;
+use toml::{Table, Value};
 
 /// The place of a fault in a charter, which has no records.
 const WHOLE_FILE: usize = 0;
@@ -51,11 +51,18 @@ fn volunteers_in(table: &Table) -> usize
     ensures { result ≡ volunteers_of (get_member (codes "volunteers") (table_view table.now)) }
 {
     match table.get("volunteers") {
-        Some(value) => match value.as_integer() {
-            Some(number) => size_of(number),
-            None => 0,
-        },
+        Some(value) => rows_of(value),
         None => USUAL_ROWS,
+    }
+}
+
+/// Returns the value as a number of rows, or 0, which is no number of rows, if it is no whole number.
+fn rows_of(value: &Value) -> usize
+    ensures { result ≡ volunteers_of (Some (view value.now)) }
+{
+    match value.as_integer() {
+        Some(number) => size_of(number),
+        None => 0,
     }
 }
 
@@ -67,12 +74,7 @@ fn size_of(number: i64) -> usize
 }
 
 /// Returns the charter with this title, size and number of rows, or the fault if one of them isn't allowed.
-fn judged(
-    alloc: Global,
-    title: &str,
-    size: usize,
-    volunteers: usize,
-) -> Result<Charter, ImportStop>
+fn judged(alloc: Global, title: &str, size: usize, volunteers: usize) -> Result<Charter, ImportStop>
     ensures { Reads (λ said. is_judged title.now size volunteers ≡ said) result }
 {
     if !is_text_name(title) {
