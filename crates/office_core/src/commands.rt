@@ -4,7 +4,7 @@ ghost use Rattle.define_offices.specs.Facts.{IsCommand};
 ghost use Rattle.office_core.specs.Commands.{seen_command};
 
 use define_runs::Limits;
-use office_tables::{Charter, LaterRound, Rows, Rules, Tickets};
+use office_tables::{Charter, LaterRound, Rows, Rules, Tickets, tickets_facts};
 use pool_model::Name;
 use proof_text::Proof;
 
@@ -123,12 +123,7 @@ impl Command {
                 let _ = limits.bits();
             }
             Command::Keep { proof, .. } => proof.facts(),
-            Command::Seal {
-                tickets: Some(tickets),
-                ..
-            } => {
-                let _ = tickets.count();
-            }
+            Command::Seal { tickets, .. } => tickets_facts(tickets),
             Command::Bounds { round, bounds } => {
                 let _ = round.number();
                 let _ = bounds.categories();

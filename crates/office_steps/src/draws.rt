@@ -7,7 +7,7 @@ ghost use Rattle.define_pools.specs.Lottery.{TotalAgrees};
 ghost use Rattle.define_draws.specs.Dice.{name_ticket};
 ghost use Rattle.define_draws.specs.Draw.{draw as draw_of};
 ghost use Rattle.define_offices.specs.Commands.{SealTold};
-ghost use Rattle.define_offices.specs.Deciding.{changes, draw_in, drawn_ids, drop_in, new_draw as new_draw_of, same_draw as same_draw_of, same_seal as same_seal_of, seal_in, tickets_or_none, undrop_in, without_change};
+ghost use Rattle.define_offices.specs.Deciding.{changes, draw_in, drawn_ids, drop_in, new_draw as new_draw_of, same_draw as same_draw_of, same_seal as same_seal_of, seal_in, tells, tickets_or_none, undrop_in, without_change};
 ghost use Rattle.define_offices.specs.Pools.{drawn_lottery};
 ghost use Rattle.define_lines.specs.Lines.{line_of};
 ghost use Rattle.sealed_draw.specs.Answers.{DrawSays};
@@ -48,10 +48,10 @@ pub fn seal_round(
     let Some(bundle) = round.bundle() else {
         return Err(OfficeStop::Refused(Refusal::WrongPhase { phase: Phase::Open }));
     };
-    if round.phase() == Phase::Solved {
-        return new_seal(alloc, number, bundle, tickets);
+    match round.phase() {
+        Phase::Solved => new_seal(alloc, number, bundle, tickets),
+        _ => same_seal(alloc, bundle, round.tickets(), tickets),
     }
-    same_seal(alloc, bundle, round.tickets(), tickets)
 }
 
 /// Returns the outcome of sealing a solved round, with a round number of tickets if one is given.
@@ -80,14 +80,25 @@ fn same_seal(
 ) -> Result<(Option<Change>, Reply), OfficeStop>
     ensures { Says (same_seal_of bundle.now kept.now given.now) result }
 {
-    if let Some(tickets) = given {
-        let count = count_of(kept);
-        if count != tickets.count() {
-            return Err(OfficeStop::Refused(Refusal::TicketsDiffer {
-                kept: count as usize,
-            }));
+    match given {
+        None => told_seal(alloc, bundle),
+        Some(tickets) => {
+            let count = count_of(kept);
+            if count == tickets.count() {
+                told_seal(alloc, bundle)
+            } else {
+                Err(OfficeStop::Refused(Refusal::TicketsDiffer {
+                    kept: count as usize,
+                }))
+            }
         }
     }
+}
+
+/// Returns the outcome that tells the seal of a bundle and changes nothing.
+fn told_seal(alloc: Global, bundle: &Bundle) -> Result<(Option<Change>, Reply), OfficeStop>
+    ensures { Says (tells (line_of_seal bundle.now)) result }
+{
     Ok((None, seal_reply(alloc, bundle)?))
 }
 

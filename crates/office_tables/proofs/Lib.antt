@@ -3,4 +3,5 @@ mod Different
 mod DrawnPanels
 mod FactsOfTables
 mod KeptParts
+mod KeptRounds
 mod TakenRounds

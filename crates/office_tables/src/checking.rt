@@ -7,7 +7,7 @@ ghost use Rattle.define_pools.specs.Lists.{all_different, includes_list};
 ghost use Rattle.define_pools.specs.Lottery.{TotalAgrees};
 ghost use Rattle.define_pools.specs.Pool.{Category as SeenCategory};
 ghost use Rattle.define_offices.specs.Deciding.{fits_rules};
-ghost use Rattle.define_offices.specs.Facts.{AreRules, IsTables, KeepsBundle, KeepsDraw, KeepsRound, are_tickets as tickets_fit, closed_but_last as each_is_closed_but_last, entry_hashes, entry_ids, has_drop, is_charter, is_entry as keeps_limits, rows_fit as all_fit};
+ghost use Rattle.define_offices.specs.Facts.{AreRules, IsTables, KeepsBundle, KeepsDraw, KeepsRound, closed_but_last as each_is_closed_but_last, entry_hashes, entry_ids, has_drop, is_charter, is_entry as keeps_limits, rows_fit as all_fit};
 ghost use Rattle.define_offices.specs.Lines.{member_ids};
 ghost use Rattle.define_offices.specs.Tables.{Charter as SeenCharter, most_rows as rows_at_most};
 ghost use Rattle.office_tables.specs.Seen.{register_test, seen_parts};
@@ -16,7 +16,7 @@ use crate::charters::{Charter, Rules};
 use crate::drawn::{drawn_by, is_member};
 use crate::kept_rounds::Round;
 use crate::names::{is_household, is_name};
-use crate::numbers::Tickets;
+use crate::numbers::{Tickets, tickets_facts};
 use crate::rows::Entry;
 use crate::tables::Parts;
 use bundle_text::Bundle;
@@ -200,7 +200,7 @@ fn round_keeps(alloc: Global, parts: &Parts, round: &Round) -> Result<bool, Allo
                 return Ok(false);
             }
             let tickets = round.tickets();
-            tickets_keep(tickets);
+            tickets_facts(tickets);
             match round.phase() {
                 Phase::Drawn => {
                     draw_keeps(alloc, bundle, tickets, round.digits(), round.dropped())
@@ -249,19 +249,10 @@ fn draw_keeps(
     requires { TotalAgrees bundle.now.answer.lottery }
     ensures { IfOk result (λ keeps. IsTrue keeps ↔ KeepsDraw bundle.now tickets.now digits.now dropped.now) }
 {
-    tickets_keep(tickets);
+    tickets_facts(tickets);
     match drawn_by(alloc, bundle, tickets, digits)? {
         Some(drawn) => Ok(are_members(bundle.pool(), &drawn.panel, dropped)),
         None => Ok(false),
-    }
-}
-
-/// Does nothing; its contract says that a number of tickets is always in its range, so the tests needn't look.
-fn tickets_keep(tickets: &Option<Tickets>)
-    ensures { IsTrue (tickets_fit tickets.now) }
-{
-    if let Some(tickets) = tickets {
-        let _count = tickets.count();
     }
 }
 

@@ -244,9 +244,10 @@ fn without(alloc: Global, names: &[Name], id: &Name) -> Result<Vec<Name>, AllocE
 fn push_other(others: &mut Vec<Name>, name: &Name, id: &Name) -> Result<(), AllocError>
     ensures { OnOk result (others.new.items ≡ others.old.items ++ (if not (bytes_eq id.now name.now) then name.now ∷ [] else [])) }
 {
-    if id.as_bytes() != name.as_bytes() {
-        others.push(name.copy()?)?;
+    if id.as_bytes() == name.as_bytes() {
+        return Ok(());
     }
+    others.push(name.copy()?)?;
     Ok(())
 }
 

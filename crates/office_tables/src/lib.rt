@@ -20,6 +20,6 @@ pub use checking::most_rows;
 pub use define_offices::{Part, Phase};
 pub use drawn::{drawn_by, is_member};
 pub use kept_rounds::Round;
-pub use numbers::{LaterRound, Tickets, copied_tickets};
+pub use numbers::{LaterRound, Tickets, copied_tickets, tickets_facts};
 pub use rows::{Entry, Given, Rows};
 pub use tables::{Parts, Tables, tables_of};

@@ -72,6 +72,15 @@ pub fn copied_tickets(tickets: &Option<Tickets>) -> Option<Tickets>
     }
 }
 
+/// Does nothing; its contract says that a number of tickets is always in its range.
+pub fn tickets_facts(tickets: &Option<Tickets>)
+    ensures { IsTrue (are_tickets tickets.now) }
+{
+    if let Some(tickets) = tickets {
+        let _count = tickets.count();
+    }
+}
+
 /// The number of a round after the first: at least 2.
 #[derive(Debug, Drop)]
 pub struct LaterRound {

@@ -13,11 +13,11 @@ returns-then-not-are_rows c =
     without_rows (leb (length register) (most_rows c.args.charter.now) && list_all is_entry register && rows_fit c.args.rules.now register) (all_different (entry_ids register)) (all_different (entry_hashes register))
     (sym c.are_rows.ensures ∙ c.if-not-are_rows.true)
 
-pub returns-then-not-ids_differ : goal.returns-then-not-ids_differ
-returns-then-not-ids_differ c =
+pub returns-then-not-branch : goal.returns-then-not-branch
+returns-then-not-branch c =
     let register = c.args.register.now in
     without_ids (leb (length register) (most_rows c.args.charter.now) && list_all is_entry register && rows_fit c.args.rules.now register) (all_different (entry_ids register)) (all_different (entry_hashes register))
-    (sym c.in_ok-ids_differ.ensures ∙ c.if-not-ids_differ.true)
+    (sym c.in_ok-ids_differ.ensures ∙ c.if-not-branch.true)
 
 pub returns : goal.returns
 returns c =
@@ -25,5 +25,5 @@ returns c =
     IfOk-weaker c.hashes_differ.result _ _
     (λ differ is.
     is ∙ sym (by_hashes (leb (length register) (most_rows c.args.charter.now) && list_all is_entry register && rows_fit c.args.rules.now register) (all_different (entry_ids register)) (all_different (entry_hashes register))
-    (sym c.are_rows.ensures ∙ c.if-not-are_rows.false) (sym c.in_ok-ids_differ.ensures ∙ c.if-not-ids_differ.false)))
+    (sym c.are_rows.ensures ∙ c.if-not-are_rows.false) (sym c.in_ok-ids_differ.ensures ∙ c.if-not-branch.false)))
     c.hashes_differ.ensures
