@@ -51,7 +51,7 @@ impl Tickets {
         ensures from { pos 1 ≤ℤ result }
         ensures to { result ≤ℤ pos (10 ^ 9) }
     {
-        i128::from(self.count())
+        self.count as i128
     }
 
     /// Returns an equal number.
