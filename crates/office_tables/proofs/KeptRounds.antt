@@ -22,7 +22,7 @@ module _ (tables : Tables) where
 
   -- a round whose bundle doesn't keep its facts doesn't keep its own
   pub bundle_breaks : (round : Round) (bundle : Bundle) (b : Bool) → bundle_of round ≡ Some bundle → (b ≡ true ↔ KeepsBundle tables bundle) → b ≡ false → (false ≡ true ↔ KeepsRound tables round)
-  bundle_breaks round bundle b has is no = ((λ t. absurd (false≢true t)), (λ keeps. sym no ∙ is.1 (bundle_keeps round bundle has keeps)))
+  bundle_breaks round bundle b has is breaks = ((λ t. absurd (false≢true t)), (λ keeps. sym breaks ∙ is.1 (bundle_keeps round bundle has keeps)))
 
   -- a round that isn't drawn keeps its facts if its bundle does
   pub undrawn_keeps : (round : Round) (bundle : Bundle) → bundle_of round ≡ Some bundle → (phase_of round ≡ phase.Drawn → ⊥) → KeepsBundle tables bundle → are_tickets (tickets_of round) ≡ true →
