@@ -1,5 +1,5 @@
 -- Tests of lists, element by element: ids that agree, rounds that have a dropout, members of a panel.
-use Rattle.std.proofs.Common.{◌≡◌, ◌<◌, ◌≤◌, ◌+◌, ◌-◌, ℕ, zero, suc, Bool, true, false, not, ◌&&◌, ◌||◌, List, [], ◌∷◌, length, get_or, map, drop, take, refl, sym, ap, ap₂, ◌∙◌, ltb, subst, arith}
+use Rattle.std.proofs.Common.{◌≡◌, ◌<◌, ◌≤◌, ◌+◌, ◌-◌, ℕ, zero, suc, Bool, true, ◌&&◌, ◌||◌, List, [], ◌∷◌, length, get_or, map, drop, take, refl, sym, ap, ap₂, ◌∙◌, ltb, subst, arith}
 use Rattle.std.specs.List.{AllByRecursion, list_all, list_any, zip}
 use Rattle.std.specs.Str.{bytes_eq}
 use Rattle.std.proofs.lemmas.Bool.{and_from, and_parts}
