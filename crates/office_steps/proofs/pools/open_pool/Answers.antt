@@ -17,8 +17,8 @@ later_pool-requires c =
     let read : round ≡ get_or c.args.tables.now.rounds (c.args.place - 1) round = c.index-rounds-place.is ∙ ap (λ (rounds : List Round). get_or rounds (c.args.place - 1) round) c.rounds.ensures in
     is_drawn_before c.args.tables.now c.facts.ensures c.args.place (omega arith) c.requires.place round read
 
-pub returns-else-place-eq0 : goal.returns-else-place-eq0
-returns-else-place-eq0 c =
+pub returns-in_ok-pool : goal.returns-in_ok-pool
+returns-in_ok-pool c =
     let tables = c.args.tables.now in
     let round = c.index-rounds-place.result in
     let read : round ≡ get_or tables.rounds (c.args.place - 1) round = c.index-rounds-place.is ∙ ap (λ (rounds : List Round). get_or rounds (c.args.place - 1) round) c.rounds.ensures in
