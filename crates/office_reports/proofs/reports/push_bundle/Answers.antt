@@ -3,7 +3,6 @@ use Rattle.std.specs.Int.{w128}
 use Rattle.std.proofs.lemmas.Int.{to_z-of_z}
 use Rattle.std.proofs.lemmas.Result.{on_ok_weaker}
 use Rattle.define_lines.specs.Lines.{text_of}
-use Rattle.define_bundles.specs.BundleText.{Bundle}
 use Rattle.define_pools.specs.Certificate.{Answer}
 use Rattle.define_pools.specs.Lottery.{Lottery}
 use Rattle.define_pools.specs.Pool.{Pool}
