@@ -19,8 +19,8 @@ title_of (Some charter) = charter.title
 abbrev pub draw_of_round : Round → List ℕ → List ℕ
 draw_of_round Open seal = []
 draw_of_round (Solved bundle) seal = []
-draw_of_round (Sealed bundle) seal = []
-draw_of_round (Drawn bundle digits dropped) seal = drawn_part bundle seal digits bundle.answer.lottery.total (drawn_of bundle digits)
+draw_of_round (Sealed bundle tickets) seal = []
+draw_of_round (Drawn bundle tickets digits dropped) seal = drawn_part bundle seal digits bundle.answer.lottery.total (drawn_of bundle tickets digits)
 
 -- the page of a round with this bundle, or why there is none. A round has a bundle exactly if it is past `Open`
 abbrev pub page_with_bundle : List ℕ → ℕ → Round → Option Bundle → Result (List ℕ) Refusal

@@ -1,5 +1,5 @@
--- What status 0 and status 1 mean for each command: a lottery that is answered is leximin greatest, a draw is of the sealed bundle, and there is
--- no quota panel.
+-- What status 0 and status 1 mean for each command: a lottery that is answered is leximin greatest, a draw is of the sealed bundle, and
+-- there is no quota panel.
 use Rattle.std.specs.Prelude.{◌⊎◌, is_ok, option_and_then, option_map, ⊤}
 use Rattle.std.proofs.Common.{◌≡◌, ◌∙◌, ℕ, Bool, true, false, cond, List, [], Option, Some, None, Result, Ok, Err, refl, ap, sym, subst, inl, inr, zero, suc, not}
 use Rattle.std.specs.Str.{bytes_eq}
@@ -228,7 +228,7 @@ module _ (told : StoreTold) where
   drawn_in tables keeps number seal digits None change text at h = absurd (cc)
   drawn_in tables keeps number seal digits (Some Open) change text at h = absurd (cc)
   drawn_in tables keeps number seal digits (Some (Solved bundle)) change text at h = absurd (cc)
-  drawn_in tables keeps number seal digits (Some (Sealed bundle)) change text at h =
+  drawn_in tables keeps number seal digits (Some (Sealed bundle tickets)) change text at h =
       record { bundle = bundle; is = refl; draws = newly_drawn number bundle seal digits (draw bundle.answer.lottery (bundle_seal bundle) seal digits) change text refl h }
   drawn_in tables keeps number seal digits (Some (DrawnRound bundle kept dropped)) change text at h =
       let (sealed, same) = by_seal (is_seal (bundle_seal bundle) seal) (bytes_eq kept digits) _ _ _ text change h in

@@ -69,8 +69,8 @@ module _ (tables : Tables) where
   seal_plain number None = record { plain = refl }
   seal_plain number (Some Open) = record { plain = refl }
   seal_plain number (Some (Solved bundle)) = record { plain = refl }
-  seal_plain number (Some (Sealed bundle)) = record { plain = refl }
-  seal_plain number (Some (Drawn bundle digits dropped)) = record { plain = refl }
+  seal_plain number (Some (Sealed bundle tickets)) = record { plain = refl }
+  seal_plain number (Some (Drawn bundle tickets digits dropped)) = record { plain = refl }
 
   new_draw_plain : (number : ℕ) (bundle : Bundle) (given digits : List ℕ) (result : Result draws.Drawn draws.Refused) → IsPlain (new_draw number bundle given digits result)
   new_draw_plain number bundle given digits (Ok drawn) = record { plain = refl }
@@ -80,7 +80,7 @@ module _ (tables : Tables) where
   draw_plain number given digits None = record { plain = refl }
   draw_plain number given digits (Some Open) = record { plain = refl }
   draw_plain number given digits (Some (Solved bundle)) = record { plain = refl }
-  draw_plain number given digits (Some (Sealed bundle)) = new_draw_plain number bundle given digits (draw bundle.answer.lottery (bundle_seal bundle) given digits)
+  draw_plain number given digits (Some (Sealed bundle tickets)) = new_draw_plain number bundle given digits (draw bundle.answer.lottery (bundle_seal bundle) given digits)
   draw_plain number given digits (Some (Drawn bundle kept dropped)) =
       if_plain (not (is_seal (bundle_seal bundle) given)) _ _ (record { plain = refl })
       (if_plain (bytes_eq kept digits) _ _ (record { plain = refl }) (record { plain = refl }))
@@ -89,18 +89,18 @@ module _ (tables : Tables) where
   drop_plain number id None = record { plain = refl }
   drop_plain number id (Some Open) = record { plain = refl }
   drop_plain number id (Some (Solved bundle)) = record { plain = refl }
-  drop_plain number id (Some (Sealed bundle)) = record { plain = refl }
-  drop_plain number id (Some (Drawn bundle digits dropped)) =
-      if_plain (not (includes_list (drawn_ids bundle digits) id)) _ _ (record { plain = refl })
+  drop_plain number id (Some (Sealed bundle tickets)) = record { plain = refl }
+  drop_plain number id (Some (Drawn bundle tickets digits dropped)) =
+      if_plain (not (includes_list (drawn_ids bundle tickets digits) id)) _ _ (record { plain = refl })
       (if_plain (includes_list dropped id) _ _ (record { plain = refl })
       (if_plain (number == length tables.rounds) _ _ (record { plain = refl }) (record { plain = refl })))
 
   after_plain : (number : ℕ) (round : Round) → IsPlain (next_after number round)
   after_plain number Open = record { plain = refl }
   after_plain number (Solved bundle) = record { plain = refl }
-  after_plain number (Sealed bundle) = record { plain = refl }
-  after_plain number (Drawn bundle digits []) = record { plain = refl }
-  after_plain number (Drawn bundle digits (id ∷ dropped)) = record { plain = refl }
+  after_plain number (Sealed bundle tickets) = record { plain = refl }
+  after_plain number (Drawn bundle tickets digits []) = record { plain = refl }
+  after_plain number (Drawn bundle tickets digits (id ∷ dropped)) = record { plain = refl }
 
   next_plain : (number : ℕ) (found : Option Round) → IsPlain (next_in tables number found)
   next_plain number None = record { plain = refl }
@@ -110,8 +110,8 @@ module _ (tables : Tables) where
   show_plain None = record { plain = refl }
   show_plain (Some Open) = record { plain = refl }
   show_plain (Some (Solved bundle)) = record { plain = refl }
-  show_plain (Some (Sealed bundle)) = record { plain = refl }
-  show_plain (Some (Drawn bundle digits dropped)) = record { plain = refl }
+  show_plain (Some (Sealed bundle tickets)) = record { plain = refl }
+  show_plain (Some (Drawn bundle tickets digits dropped)) = record { plain = refl }
 
   asked_plain : (command : Command) (outcome : Outcome) → is_plain_command command ≡ true → asked tables command ≡ IsDecided outcome → is_plain outcome ≡ true
   asked_plain (SetCharter charter) outcome plain h = decided_so _ outcome (charter_plain charter) h
@@ -138,8 +138,8 @@ module _ (tables : Tables) where
   solve_plain number None outcome h = decided_so _ outcome (record { plain = refl }) h
   solve_plain number (Some Open) outcome h = over_plain (pool_of tables number) outcome h
   solve_plain number (Some (Solved bundle)) outcome h = decided_so _ outcome (record { plain = refl }) h
-  solve_plain number (Some (Sealed bundle)) outcome h = decided_so _ outcome (record { plain = refl }) h
-  solve_plain number (Some (Drawn bundle digits dropped)) outcome h = decided_so _ outcome (record { plain = refl }) h
+  solve_plain number (Some (Sealed bundle tickets)) outcome h = decided_so _ outcome (record { plain = refl }) h
+  solve_plain number (Some (Drawn bundle tickets digits dropped)) outcome h = decided_so _ outcome (record { plain = refl }) h
 
 -- ---- what files are read as
 

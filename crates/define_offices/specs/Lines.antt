@@ -7,7 +7,7 @@ use Rattle.define_offices.specs.declared.Part.{Part}
 use Rattle.define_offices.specs.declared.Part.TheVariants as part
 use Rattle.define_offices.specs.declared.Phase.{Phase}
 use Rattle.define_offices.specs.declared.Phase.TheVariants as phase
-use Rattle.define_offices.specs.Commands.{Reply, Lines, Refusal, NoRound, Incomplete, WrongPhase, RowDiffers, KeyTaken, RegisterFull, NotSealed, SealDiffers, DrawDiffers, BadDigit, MoreDigits, NotSeated, RoundClosed, OtherPool, UnknownKey, TooLate}
+use Rattle.define_offices.specs.Commands.{Reply, Lines, Refusal, NoRound, Incomplete, WrongPhase, RowDiffers, KeyTaken, RegisterFull, NotSealed, SealDiffers, DrawDiffers, BadDigit, MoreDigits, NotSeated, RoundClosed, OtherPool, UnknownKey, TooLate, TicketsDiffer, NotDropped, UnknownId}
 
 abbrev pub phase_name : Phase → List ℕ
 phase_name phase.Open = codes "Open"
@@ -39,8 +39,18 @@ solved_line round bundle =
 abbrev pub dropped_line : ℕ → List ℕ → List ℕ
 dropped_line round id = line_of (codes "dropped" ∷ decimal round ∷ id ∷ [])
 
+abbrev pub undropped_line : ℕ → List ℕ → List ℕ
+undropped_line round id = line_of (codes "undropped" ∷ decimal round ∷ id ∷ [])
+
 abbrev pub round_line : ℕ → List ℕ
 round_line number = line_of (codes "round" ∷ decimal number ∷ [])
+
+-- the number of the round that was taken away
+abbrev pub reopened_line : ℕ → List ℕ
+reopened_line number = line_of (codes "reopened" ∷ decimal number ∷ [])
+
+abbrev pub withdrawn_line : List ℕ → List ℕ
+withdrawn_line id = line_of (codes "withdrawn" ∷ id ∷ [])
 
 -- ---- refusals
 
@@ -67,6 +77,9 @@ refusal_fields (RoundClosed last) = codes "RoundClosed" ∷ decimal last ∷ []
 refusal_fields (OtherPool round) = codes "OtherPool" ∷ decimal round ∷ []
 refusal_fields UnknownKey = codes "UnknownKey" ∷ []
 refusal_fields TooLate = codes "TooLate" ∷ []
+refusal_fields (TicketsDiffer kept) = codes "TicketsDiffer" ∷ decimal kept ∷ []
+refusal_fields (NotDropped id) = codes "NotDropped" ∷ id ∷ []
+refusal_fields (UnknownId id) = codes "UnknownId" ∷ id ∷ []
 
 abbrev pub rule_line : Refusal → List ℕ
 rule_line refusal = line_of (codes "rule" ∷ refusal_fields refusal)

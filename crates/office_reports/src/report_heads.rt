@@ -34,7 +34,11 @@ pub(crate) fn push_head(
 }
 
 /// Appends the line of a word and a number.
-fn push_number_line(text: &mut Vec<u8>, word: &[u8], number: usize) -> Result<(), AllocError>
+pub(crate) fn push_number_line(
+    text: &mut Vec<u8>,
+    word: &[u8],
+    number: usize,
+) -> Result<(), AllocError>
     ensures { OnOk result (text.new.items ≡ text.old.items ++ text_of (number_line word.now number ∷ [])) }
 {
     let mut digits = Buffer::new();

@@ -3,6 +3,7 @@ mod KeyRows
 mod Members
 mod NamedRounds
 mod RegisterSays
+mod RowsBeyond
 mod SameByPlaces
 mod SortedRows
 mod Numbers
