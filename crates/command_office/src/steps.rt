@@ -7,7 +7,7 @@ ghost use Rattle.command_office.specs.Steps.{step_command};
 use command_words::Word;
 use define_runs::{Limits, Workers};
 use office_core::Command;
-use office_tables::{LaterRound, Tickets};
+use office_tables::{LaterRound, Tickets, copied_tickets};
 use pool_model::Name;
 use std::alloc::{AllocError, Global};
 
@@ -105,7 +105,7 @@ pub fn command_of(alloc: Global, step: &Step<'_>) -> Result<Command, AllocError>
         }),
         Step::Seal { round, tickets } => Ok(Command::Seal {
             round: *round,
-            tickets: *tickets,
+            tickets: copied_tickets(tickets),
         }),
         Step::Draw {
             round,
@@ -133,7 +133,10 @@ pub fn command_of(alloc: Global, step: &Step<'_>) -> Result<Command, AllocError>
             round: *round,
             id: Name::new(alloc, id.as_str())?,
         }),
-        Step::Reopen { round } => Ok(Command::Reopen { round: *round }),
+        Step::Reopen { round } => match LaterRound::new(round.number()) {
+            Some(round) => Ok(Command::Reopen { round }),
+            None => unreachable!(),
+        },
         Step::Withdraw { id } => Ok(Command::WithdrawId {
             id: Name::new(alloc, id.as_str())?,
         }),

@@ -97,8 +97,8 @@ fn draw_text(
 }
 
 /// Returns how many tickets a round with this bundle is drawn from.
-fn tickets_in(bundle: &Bundle, tickets: Option<Tickets>) -> u128
-    ensures { result ≡ (drawn_lottery bundle.now tickets).total }
+fn tickets_in(bundle: &Bundle, tickets: &Option<Tickets>) -> u128
+    ensures { result ≡ (drawn_lottery bundle.now tickets.now).total }
 {
     match tickets {
         Some(tickets) => u128::from(tickets.count()),

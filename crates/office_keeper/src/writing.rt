@@ -70,7 +70,7 @@ fn write<S: Alter>(
         Change::Rules(rules) => set_rules(transaction, rules),
         Change::Added(entries) => add_entries(alloc, transaction, entries),
         Change::Solved { round, bundle } => solve(alloc, transaction, *round, bundle),
-        Change::Sealed { round, tickets } => seal(transaction, *round, *tickets),
+        Change::Sealed { round, tickets } => seal(transaction, *round, tickets),
         Change::Drawn { round, digits } => draw(transaction, *round, digits),
         Change::Dropped { round, id } => drop_out(transaction, *round, id),
         Change::Next => next_round(transaction),
@@ -293,7 +293,7 @@ fn solve<S: Alter>(
 fn seal<S: Alter>(
     transaction: &mut Transaction<'_, S>,
     round: usize,
-    tickets: Option<Tickets>,
+    tickets: &Option<Tickets>,
 ) -> Result<(), Error> {
     match tickets {
         Some(tickets) => seal_with(transaction, stored(round), tickets),
@@ -313,7 +313,7 @@ fn mark_sealed<S: Alter>(transaction: &mut Transaction<'_, S>, round: i64) -> Re
 fn seal_with<S: Alter>(
     transaction: &mut Transaction<'_, S>,
     round: i64,
-    tickets: Tickets,
+    tickets: &Tickets,
 ) -> Result<(), Error> {
     if count_in(transaction, round, SOLVED)? == 0 {
         return Ok(());
