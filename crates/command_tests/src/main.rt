@@ -17,6 +17,7 @@ const FILES: &[&str] = &[
     "proofs.calls",
     "lotteries.calls",
     "assemblies.calls",
+    "corrections.calls",
     "imports.calls",
     "desks.calls",
 ];
