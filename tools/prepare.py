@@ -47,8 +47,8 @@ from sheets import (Hopeless, Remarks, Table, answered, column_of, csv_text, fol
                     look_of, near, read_table, rows_named, unlike, why_not_a_name, write_all)
 
 KEY_LETTERS = '3479acdefhjkmnprtwxy'   # no two of these look alike
-MOST_PEOPLE, MOST_CATEGORIES, MOST_VALUES, MOST_MEMBERS = 4000, 20, 50, 1000 # the office's limits
-USUAL_PEOPLE, USUAL_MEMBERS = 400, 200 # the same, if the charter has no `volunteers`
+MOST_PEOPLE, MOST_CATEGORIES, MOST_VALUES, MOST_MEMBERS = 4000, 20, 50, 1000  # the office's limits
+USUAL_PEOPLE, USUAL_MEMBERS = 400, 200  # the same, if the charter has no `volunteers`
 CROWD = 6                              # so many people at one address are rather a house than a household
 CHARTER = '# What the assembly is called, and how many members its panel has.\ntitle = {}\nsize = {}\n'
 LARGE = f'# How many rows the register takes.\nvolunteers = {MOST_PEOPLE}\n'
