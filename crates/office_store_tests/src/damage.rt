@@ -136,6 +136,9 @@ const OTHER: &[&str] = &[
     "DROP TABLE meta; CREATE TABLE meta (other INTEGER NOT NULL) STRICT; INSERT INTO meta VALUES (2)",
 ];
 
+/// Leaves the store at version 2.
+const SECOND: &str = "UPDATE meta SET version = 2";
+
 /// Brings the store to version 3.
 const THIRD: &str = "
 CREATE TABLE most_rows (one INTEGER PRIMARY KEY, volunteers INTEGER NOT NULL) STRICT;
@@ -240,9 +243,9 @@ fn loaded_after(alloc: Global, change: &str) -> Option<String> {
 #[test]
 fn changes_by_hand_are_judged(rt: HostRuntime) {
     let alloc = rt.alloc();
-    judge(&rt, alloc, "", SOUND, Taken::Loaded);
-    judge(&rt, alloc, "", UNSOUND, Taken::Unsound);
-    judge(&rt, alloc, "", OTHER, Taken::Refused);
+    judge(&rt, alloc, SECOND, SOUND, Taken::Loaded);
+    judge(&rt, alloc, SECOND, UNSOUND, Taken::Unsound);
+    judge(&rt, alloc, SECOND, OTHER, Taken::Refused);
     judge(&rt, alloc, THIRD, SOUND, Taken::Loaded);
     judge(&rt, alloc, THIRD, THIRD_SOUND, Taken::Loaded);
     judge(&rt, alloc, THIRD, THIRD_UNSOUND, Taken::Unsound);
