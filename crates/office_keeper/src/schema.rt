@@ -127,10 +127,10 @@ fn make<S: Alter>(transaction: &mut Transaction<'_, S>) -> Result<(), Error> {
 /// True if the store has version 2 or 3, so that it lacks nothing.
 pub(crate) fn is_current<S: Alter>(connection: &mut Connection<S>) -> Result<bool, Error> {
     let rows = connection.query_all(VERSIONS, &[])?;
-    Ok(matches!(
-        version_of(&rows)?,
-        Some(VERSION) | Some(THIRD_VERSION)
-    ))
+    match version_of(&rows)? {
+        Some(VERSION) | Some(THIRD_VERSION) => Ok(true),
+        _ => Ok(false),
+    }
 }
 
 /// True if the store has version 3.
