@@ -18,8 +18,8 @@ pub(crate) const USUAL_ROWS: usize = 400;
 
 const OUT_OF_MEMORY: Error = Error::SqliteFailure(ErrorCode::OutOfMemory);
 
-/// Returns the tables of the office that a store keeps. Each SQL table is read whole, ordered by its key; those of version 3 only if the store
-/// has this version.
+/// Returns the tables of the office that a store keeps. Each SQL table is read whole, ordered by its key; those of version 3 only if the
+/// store has this version.
 pub(crate) fn read_tables<S: Alter>(
     alloc: Global,
     connection: &mut Connection<S>,
@@ -191,8 +191,8 @@ fn require(holds: bool) -> Result<(), Error> {
 
 // ---- charter and rules
 
-/// Returns the charter of the only row, or None if there is no row. Fails if there are several rows, if the row makes no charter, or if there
-/// is a row of `most` and no charter.
+/// Returns the charter of the only row, or None if there is no row. Fails if there are several rows, if the row makes no charter, or if
+/// there is a row of `most` and no charter.
 fn charter_of(alloc: Global, rows: &[Row], most: &[Row]) -> Result<Option<Charter>, Error> {
     let Some(row) = rows.first() else {
         require(most.is_empty())?;
@@ -347,7 +347,8 @@ fn rounds_of(alloc: Global, rows: &RoundRows) -> Result<Vec<Round>, Error> {
     Ok(rounds)
 }
 
-/// Returns the number of tickets of a row, or None if there is no row or it isn't of round `round`. Fails if the number is out of its range.
+/// Returns the number of tickets of a row, or None if there is no row or it isn't of round `round`. Fails if the number is out of its
+/// range.
 fn tickets_of(row: Option<&Row>, round: usize) -> Result<Option<Tickets>, Error> {
     match row {
         Some(row) if has_number(row, 0, round)? => tickets_in(row),

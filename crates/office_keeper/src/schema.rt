@@ -1,5 +1,5 @@
-//! The SQL tables of a store. A new store has version 2. Tables that are missing are made, a store of version 1 is brought to version 2, and one
-//! of version 2 to version 3 with the first change that needs it.
+//! The SQL tables of a store. A new store has version 2. Tables that are missing are made, a store of version 1 is brought to version 2,
+//! and one of version 2 to version 3 with the first change that needs it.
 
 use crate::reading::UNSOUND;
 use crate::writing::add_round;
@@ -55,8 +55,8 @@ CREATE TABLE IF NOT EXISTS dropped (
 ) STRICT;
 ";
 
-/// The statements that make the tables of version 3 that are missing: how many rows the register takes, if not 400; the number of tickets that
-/// was kept with a seal; and the bounds that were set for the last round.
+/// The statements that make the tables of version 3 that are missing: how many rows the register takes, if not 400; the number of tickets
+/// that was kept with a seal; and the bounds that were set for the last round.
 const FURTHER_TABLES: &str = "
 CREATE TABLE IF NOT EXISTS most_rows (
     one INTEGER PRIMARY KEY,

@@ -16,7 +16,8 @@ use std::{fs, thread};
 /// For how many seconds an open is tried while somebody else has the file.
 const PATIENCE: u64 = 5;
 
-/// How many milliseconds the pause after a try takes. A desk that is asked without a rest leaves the file free for about one between visits.
+/// How many milliseconds the pause after a try takes. A desk that is asked without a rest leaves the file free for about one between
+/// visits.
 const PAUSE: u64 = 2;
 
 /// How many times an open is tried at most. The pauses after them take five seconds.
@@ -163,8 +164,8 @@ impl SharedFile {
         Ok(tables)
     }
 
-    /// Stores a change of the tables that were loaded last. If the file isn't open, it is opened, or made if it was missing, and the call fails if
-    /// it was changed or made since.
+    /// Stores a change of the tables that were loaded last. If the file isn't open, it is opened, or made if it was missing, and the call
+    /// fails if it was changed or made since.
     pub(crate) fn store(
         &mut self,
         rt: &HostRuntime,

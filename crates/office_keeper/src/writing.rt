@@ -1,5 +1,5 @@
-//! Writes a change to a store, in one transaction. A store of version 2 is brought to version 3 by the first change that it has no place for;
-//! every other change of it is written by the statements that version 2 has.
+//! Writes a change to a store, in one transaction. A store of version 2 is brought to version 3 by the first change that it has no place
+//! for; every other change of it is written by the statements that version 2 has.
 
 ghost use Rattle.std.specs.Prelude.{◌≡◌, not};
 ghost use Rattle.define_offices.specs.Versions.{is_second_change};

@@ -1,5 +1,5 @@
-//! Does each command of an assembly over a keeper in memory and over a store. After each command, a new keeper over the store's connection must
-//! load what the keeper in memory holds. At the end the files are closed and opened again, and a keeper over them must load the same.
+//! Does each command of an assembly over a keeper in memory and over a store. After each command, a new keeper over the store's connection
+//! must load what the keeper in memory holds. At the end the files are closed and opened again, and a keeper over them must load the same.
 
 use crate::assembly::{CORRECTED, ENROLLED, HOUSEHOLDS, PLAIN, Row, SEALED, done};
 use crate::disks::{Stored, closed, loaded, nothing, opened, spelled};

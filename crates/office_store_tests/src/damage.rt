@@ -225,7 +225,8 @@ fn assembled<R: Threads + Sync>(rt: &R, alloc: Global) -> Option<String> {
     spelled(alloc, map.tables())
 }
 
-/// Makes each of these changes by itself, after the change `first`, and asserts that a new keeper then does with the store what `wanted` says.
+/// Makes each of these changes by itself, after the change `first`, and asserts that a new keeper then does with the store what `wanted`
+/// says.
 fn judge(rt: &impl Abort, alloc: Global, first: &str, changes: &[&str], wanted: Taken) {
     for change in changes {
         assert!(rt; is_taken(alloc, first, change, wanted) == Some(true), "{change}");

@@ -52,8 +52,8 @@ fn another_keeper_finds_the_file(rt: HostRuntime) -> Result<(), Fail> {
     Ok(())
 }
 
-/// Gives each command of an assembly to both keepers over the file `OTHER`: what one stores, the other loads, and it then changes nothing. A
-/// change is refused over tables that the other keeper has changed since.
+/// Gives each command of an assembly to both keepers over the file `OTHER`: what one stores, the other loads, and it then changes nothing.
+/// A change is refused over tables that the other keeper has changed since.
 fn take_turns<R: Threads + Sync + Abort>(
     rt: &R,
     alloc: Global,
@@ -78,8 +78,8 @@ fn take_turns<R: Threads + Sync + Abort>(
     Ok(())
 }
 
-/// Attaches both keepers at a path where no file is. The first change of the one makes the file; the other stores nothing over the tables that it
-/// loaded before, and loads the new ones. Where no folder is, nothing is attached.
+/// Attaches both keepers at a path where no file is. The first change of the one makes the file; the other stores nothing over the tables
+/// that it loaded before, and loads the new ones. Where no folder is, nothing is attached.
 fn make_later<R: Threads + Sync + Abort + Files>(
     rt: &R,
     alloc: Global,

@@ -1,6 +1,6 @@
 //! Tests in which the machine stops at a call on a file, tried for each call: while a new store is made, while a change of each kind is
-//! stored, some of which bring the store to version 3, and while a store of version 1 is brought to version 2. When the store is opened again,
-//! it must hold what it held before the step, or what it holds after it.
+//! stored, some of which bring the store to version 3, and while a store of version 1 is brought to version 2. When the store is opened
+//! again, it must hold what it held before the step, or what it holds after it.
 
 use crate::assembly::{Asked, FURTHER, HOUSEHOLDS, Row, command_of, done};
 use crate::disks::{
