@@ -271,11 +271,7 @@ fn draw_from<'a>(given: &Given<'a>, store: Option<Word<'a>>) -> Option<Asked<'a>
 fn text_draw_from<'a>(given: &Given<'a>, tried: bool) -> Option<Asked<'a>>
     ensures { result ≡ words_of_text_draw given.now tried }
 {
-    if tried {
-        None
-    } else {
-        text_command_of(given)
-    }
+    if tried { None } else { text_command_of(given) }
 }
 
 fn round_draw_of<'a>(given: &Given<'a>) -> Option<Asked<'a>>

@@ -204,10 +204,7 @@ fn insert_version<S: Alter>(transaction: &mut Transaction<'_, S>) -> Result<(), 
     Ok(())
 }
 
-fn set_version<S: Alter>(
-    transaction: &mut Transaction<'_, S>,
-    version: i64,
-) -> Result<(), Error> {
+fn set_version<S: Alter>(transaction: &mut Transaction<'_, S>, version: i64) -> Result<(), Error> {
     transaction.execute("UPDATE meta SET version = ?1", params![version])?;
     Ok(())
 }

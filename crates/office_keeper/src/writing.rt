@@ -24,9 +24,11 @@ pub(crate) const SEALED: i64 = 2;
 
 pub(crate) const DRAWN: i64 = 3;
 
-const INSERT_BOUND: &str = "INSERT INTO bound (category_place, category, value_place, value, lower, upper) VALUES (?1, ?2, ?3, ?4, ?5, ?6)";
+const INSERT_BOUND: &str =
+    "INSERT INTO bound (category_place, category, value_place, value, lower, upper) VALUES (?1, ?2, ?3, ?4, ?5, ?6)";
 
-const INSERT_ROUND_BOUND: &str = "INSERT INTO round_bound (category_place, category, value_place, value, lower, upper) VALUES (?1, ?2, ?3, ?4, ?5, ?6)";
+const INSERT_ROUND_BOUND: &str =
+    "INSERT INTO round_bound (category_place, category, value_place, value, lower, upper) VALUES (?1, ?2, ?3, ?4, ?5, ?6)";
 
 const INSERT_DROPPED: &str = "INSERT INTO dropped (round, place, id) VALUES (?1, ?2, ?3)";
 

@@ -229,7 +229,10 @@ fn assembled<R: Threads + Sync>(rt: &R, alloc: Global) -> Option<String> {
 /// says.
 fn judge(rt: &impl Abort, alloc: Global, first: &str, changes: &[&str], wanted: Taken) {
     for change in changes {
-        assert!(rt; is_taken(alloc, first, change, wanted) == Some(true), "{change}");
+        assert!(rt;
+            is_taken(alloc, first, change, wanted) == Some(true),
+            "{change}"
+        );
     }
 }
 

@@ -94,10 +94,18 @@ fn make_later<R: Threads + Sync + Abort + Files>(
     assert!(rt; done(rt, alloc, &mut map, Asked::Rules) == Some(Ending::Replies));
     assert!(rt; in_turn(rt, alloc, first, Asked::Rules) == Some(Ending::Replies));
     assert!(rt; fs::exists(rt, LATER)?);
-    assert!(rt; second.store(alloc, &Change::Withdrawn { place: 0 }).is_err());
+    assert!(rt;
+        second
+            .store(alloc, &Change::Withdrawn { place: 0 })
+            .is_err()
+    );
     assert!(rt; told(alloc, second) == spelled(alloc, map.tables()));
     second.let_go();
-    assert!(rt; first.attach(alloc, "office_store_test/none/a.store").is_err());
+    assert!(rt;
+        first
+            .attach(alloc, "office_store_test/none/a.store")
+            .is_err()
+    );
     Ok(())
 }
 
