@@ -127,10 +127,8 @@ fn make<S: Alter>(transaction: &mut Transaction<'_, S>) -> Result<(), Error> {
 /// True if the store has version 2 or 3, so that it lacks nothing.
 pub(crate) fn is_current<S: Alter>(connection: &mut Connection<S>) -> Result<bool, Error> {
     let rows = connection.query_all(VERSIONS, &[])?;
-    match version_of(&rows)? {
-        Some(VERSION) | Some(THIRD_VERSION) => Ok(true),
-        _ => Ok(false),
-    }
+    let version = version_of(&rows)?;
+    Ok(version == Some(VERSION) || version == Some(THIRD_VERSION))
 }
 
 /// True if the store has version 3.
