@@ -136,7 +136,7 @@ rows_stay hash [] = tt
 rows_stay hash (entry ∷ register) = (inl refl, rows_stay hash register)
 
 stays : (hash : List ℕ) (tables : Tables) → ChangesOwnRow hash tables tables
-stays hash tables = record { charter = refl; rules = refl; rounds = refl; rows = rows_stay hash tables.register }
+stays hash tables = record { charter = refl; rules = refl; rounds = refl; bounds = refl; rows = rows_stay hash tables.register }
 
 row_changes : (register : List Entry) (hash : List ℕ) (i q place : ℕ) (entry : Entry) → place_of_hash register hash i ≡ Some (place, entry) → place ≡ i + q → RowsStayButOwn hash register (withdrawn_at register q)
 row_changes [] hash i q place entry h at = absurd (cc)
@@ -161,7 +161,7 @@ outcome_changes tables hash (Some (place, entry)) at = by entry.withdrawn (is_la
   where
     by : (already may : Bool) → ChangesOwnRow hash tables (tables_after tables (cond already (Replies None (Lines [])) (cond may (Replies (Some (Withdrawn place)) (Lines [])) (Refuses TooLate))))
     by true may = stays hash tables
-    by false true = record { charter = refl; rules = refl; rounds = refl; rows = row_changes tables.register hash 0 place place entry at (omega arith) }
+    by false true = record { charter = refl; rules = refl; rounds = refl; bounds = refl; rows = row_changes tables.register hash 0 place place entry at (omega arith) }
     by false false = stays hash tables
 
 key_changes : (tables : Tables) (key : List ℕ) (row : Option Entry) →

@@ -8,7 +8,8 @@ ghost use Rattle.bundle_page.specs.Drawn.{seen_draw};
 ghost use Rattle.bundle_page.specs.Page.{drawn_page_text};
 ghost use Rattle.command_shell.specs.Answers.{HasOneAnswer, IsRight, saying};
 ghost use Rattle.command_shell.specs.declared.bundle_or_proof.BundleOrProof.{BundleOrProof as SeenInput};
-ghost use Rattle.command_meanings.specs.Page.{DrawnPageMeans, DrawnPageOfBundle, draw_means, lottery_in};
+ghost use Rattle.command_meanings.specs.Page.{DrawnPageMeans, DrawnPageOfBundle, draw_means};
+ghost use Rattle.define_offices.specs.Pools.{lottery_in};
 ghost use Rattle.sealed_draw.specs.Answers.{DrawSays};
 
 use crate::inputs::bundle_in;

@@ -62,6 +62,11 @@ fn refusal_line(alloc: Global, refusal: &Refusal) -> Result<Vec<u8>, AllocError>
         }
         Refusal::UnknownKey => rule(alloc, &[b"UnknownKey"]),
         Refusal::TooLate => rule(alloc, &[b"TooLate"]),
+        Refusal::TicketsDiffer { kept } => {
+            rule(alloc, &[b"TicketsDiffer", number.format(*kept).as_bytes()])
+        }
+        Refusal::NotDropped { id } => rule(alloc, &[b"NotDropped", id.as_bytes()]),
+        Refusal::UnknownId { id } => rule(alloc, &[b"UnknownId", id.as_bytes()]),
     }
 }
 
