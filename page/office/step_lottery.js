@@ -89,7 +89,7 @@ function boundsGiven() {
   for (const row of part('bounds').querySelectorAll('tr[data-value]')) {
     const [category, value] = [row.dataset.category, row.dataset.value];
     if (!bounds.has(category)) bounds.set(category, new Map());
-    bounds.get(category).set(value, [...row.querySelectorAll('input')].map(input => Number(input.value)));
+    bounds.get(category).set(value, [...row.querySelectorAll('input')].map(input => input.valueAsNumber));
   }
   return bounds;
 }
@@ -138,12 +138,11 @@ function showLoosened(round, text) {
 
 // The pool and the files of the office with other bounds. Those of the first round are made anew.
 function withBounds(call, round, bounds) {
-  const pool = poolWithBounds(round.pool, bounds);
-  const { rounds, people, size, texts } = assembly;
-  if (rounds.length > 1) return { pool, texts };
-  const rules = poolIn(pool).categories.flatMap(({ name, values }) => values.map(value => [name, value.name, value.least, value.most]));
+  const { rounds, texts } = assembly;
+  if (rounds.length > 1) return { pool: poolWithBounds(round.pool, bounds), texts };
+  const rules = [...bounds].flatMap(([category, values]) => [...values].map(([value, its]) => [category, value, ...its]));
   const others = { ...texts, 'rules.csv': csvText([['category', 'name', 'min', 'max'], ...rules]) };
-  return { pool: isForOffice(people.length, size) ? poolOfFiles(call, others) : pool, texts: others };
+  return { pool: poolOfFiles(call, others), texts: others };
 }
 
 // Takes the bounds of the form.

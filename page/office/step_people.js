@@ -173,21 +173,20 @@ function askedByForm() {
   const title = part('title').value.trim();
   if (!title) missing.push('Give the assembly a title.');
   const size = part('size').value.trim();
-  const isSize = /^[0-9]{1,4}$/.test(size) && Number(size) >= 1 && Number(size) <= MOST_MEMBERS_OF_TEXTS;
-  if (!isSize) missing.push(`Give the number of members of the panel, from 1 to ${MOST_MEMBERS_OF_TEXTS}.`);
+  const isSize = /^[0-9]{1,4}$/.test(size) && Number(size) >= 1 && Number(size) <= MOST_MEMBERS;
+  if (!isSize) missing.push(`Give the number of members of the panel, from 1 to ${MOST_MEMBERS}.`);
   const rights = { 'people-file': given.people, 'quotas-file': given.quotas, title, size: isSize };
   for (const [id, isRight] of Object.entries(rights)) part(id).setAttribute('aria-invalid', String(!isRight));
   const household = [...part('column-list').querySelectorAll('input:checked')].map(box => box.value);
   sameTold = [...part('same-list').querySelectorAll('input:checked')].map(box => [Number(box.dataset.row), box.dataset.id]);
-  return { missing, asked: { household, name: [], email: [], same: sameTold, title, size: Number(size), most: MOST_PEOPLE_OF_TEXTS } };
+  return { missing, asked: { household, name: [], email: [], same: sameTold, title, size: Number(size) } };
 }
 
-// The assembly of what was made, with its first round. The pool that an office can have is made of its files; a larger one is written here.
+// The assembly of what was made, with its first round.
 function assemblyOf(call, made, { title, size }) {
   const { table: { name, mark, delimiter, heading }, people, owns, texts } = made;
   const members = people.map(person => ({ ...owns.get(person.row), cells: person.cells.slice(0, heading.length) }));
-  const pool = isForOffice(people.length, size) ? poolOfFiles(call, texts) : firstPool(made, size);
-  return { ...newAssembly(), title, size, table: { name, mark, delimiter, heading }, people: members, texts, rounds: [newRound(pool)] };
+  return { ...newAssembly(), title, size, table: { name, mark, delimiter, heading }, people: members, texts, rounds: [newRound(poolOfFiles(call, texts))] };
 }
 
 // Makes the files of the office, and the first round. What is published stays as it is.
@@ -220,15 +219,13 @@ function showMade() {
   if (!assembly.rounds.length) return;
   const { texts, people, size } = assembly;
   const letters = saveButton('letters.csv', saveLetters);
-  const others = isForOffice(people.length, size) ? ['register.csv', 'rules.csv', 'charter.toml'] : [];
   const fresh = texts['letters-new.csv'] ? ['letters-new.csv'] : [];
-  const words = fresh.map(() => 'letters-new.csv has those who are new: write letters to these alone.');
-  words.push(others.length ? 'The other files are for the program at a desk.'
-    : 'A store of the program takes at most 400 people and a panel of 200, so this assembly is kept in this page and its file alone.');
-  const buttons = [letters, ...[...fresh, ...others].map(name => saveButton(name, () => save(name, texts[name])))];
+  const others = [...fresh, 'register.csv', 'rules.csv', 'charter.toml'];
+  const words = fresh.map(() => 'letters-new.csv has those who are new: write letters to these alone. ');
+  const buttons = [letters, ...others.map(name => saveButton(name, () => save(name, texts[name])))];
   part('made').replaceChildren(
     element('p', `${assembly.title}: ${people.length} people, a panel of ${size}.`),
-    element('p', `letters.csv says who has which id and key. Write the letters of it, and keep it in the drawer. ${words.join(' ')}`),
+    element('p', `letters.csv says who has which id and key. Write the letters of it, and keep it in the drawer. ${words.join('')}The other files are for the program at a desk.`),
     element('p', buttons, { className: 'buttons' }),
   );
 }

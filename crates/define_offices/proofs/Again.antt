@@ -1,5 +1,5 @@
 -- The laws of commands that are given again, by command.
-use Rattle.std.proofs.Common.{◌≡◌, ℕ, zero, suc, ◌+◌, ◌≤◌, leb, Bool, true, false, cond, eqb, not, List, [], ◌∷◌, length, Option, Some, None, Result, Ok, Err, refl, sym, ap, ◌∙◌, arith, subst}
+use Rattle.std.proofs.Common.{◌≡◌, ℕ, zero, suc, ◌+◌, ◌≤◌, leb, Bool, true, false, cond, eqb, not, List, [], ◌∷◌, length, Option, Some, None, Result, Ok, Err, refl, sym, ap, subst}
 use Rattle.std.specs.List.{AllByRecursion}
 use Rattle.std.specs.Prelude.{codes}
 use Rattle.std.specs.Str.{bytes_eq}
@@ -8,10 +8,9 @@ use Rattle.std.proofs.lemmas.Bool.Decides.{Decides-eqb}
 use Rattle.std.proofs.lemmas.Slice.Eq.{bytes_eq-Decides}
 use Rattle.define_pools.specs.Lists.{includes_list}
 use Rattle.define_pools.specs.Pool.{BoundedValue, Category, Pool}
-use Rattle.define_bundles.specs.BundleText.{Bundle}
 use Rattle.define_draws.specs.Seal.{seal_of}
 use Rattle.define_offices.specs.Tables.{Charter, Entry, Round, Open, Solved, Sealed, Drawn, Tables, is_enrolling, named_round, round_at, taken_at, same_charter, same_rules, same_shape, same_values}
-use Rattle.define_offices.specs.Commands.{Command, SetCharter, SetRules, Register, Solve, Keep, Seal, Draw, Drop, NextRound, Show, Withdraw, SetBounds, TryDraw, Undrop, Reopen, WithdrawId, Change, CharterSet, RulesSet, BoundsSet, TakenBack, Reopened, NotDropped, NoRound, Outcome, Replies, Refuses, Stops, Unproved, Refusal, Reply}
+use Rattle.define_offices.specs.Commands.{Command, SetCharter, SetRules, Register, Solve, Keep, Seal, Draw, Drop, NextRound, Show, Withdraw, SetBounds, TryDraw, Undrop, Reopen, WithdrawId, Change, CharterSet, RulesSet, BoundsSet, TakenBack, Reopened, NotDropped, Outcome, Replies, Refuses, Stops, Unproved, Refusal, Reply}
 use Rattle.define_offices.specs.Deciding.{IsDecided, NeedsRun, are_rules_kept, asked, bounds_in, bounds_over, charter_over, decide_bounds, decide_charter, decide_rules, draw_in, fit_rows, is_charter_kept, no_round, place_of_hash, place_of_id, reopen_at, reopen_in, row_beyond, show_in, tells, undrop_in, without_change}
 use Rattle.define_offices.specs.Facts.{IsCommand, IsTables}
 use Rattle.define_offices.specs.Lines.{charter_line, rules_line}

@@ -1,9 +1,8 @@
 -- The facts of `IsTables` hold of the tables after each outcome of a command.
-use Rattle.std.proofs.Common.{◌≡◌, ℕ, zero, suc, ◌≤◌, leb, Bool, true, false, cond, eqb, not, ◌&&◌, List, [], ◌∷◌, ◌++◌, length, Option, Some, None, is_ok, Result, Ok, Err, refl, ap, arith, subst}
+use Rattle.std.proofs.Common.{◌≡◌, ℕ, zero, suc, ◌≤◌, leb, Bool, true, false, cond, eqb, not, ◌&&◌, List, [], ◌∷◌, ◌++◌, length, Option, Some, None, is_ok, Result, Ok, Err, refl, arith, subst}
 use Rattle.std.specs.List.{list_all}
 use Rattle.std.specs.Str.{bytes_eq}
 use Rattle.std.proofs.lemmas.Bool.{and_from, and_parts, eqb-true, false≢true, le-leb}
-use Rattle.std.proofs.lemmas.Slice.Eq.{bytes_eq-Decides}
 use Rattle.define_pools.proofs.Each.{list_all-push}
 use Rattle.define_offices.proofs.Shapes.{fits_as}
 use Rattle.define_pools.specs.Lists.{includes_list}
@@ -16,10 +15,10 @@ use Rattle.define_draws.specs.Draw as draws
 use Rattle.define_draws.specs.Draw.{draw, drawn_with}
 use Rattle.define_draws.specs.Seal.{is_seal}
 use Rattle.define_offices.specs.Tables.{Charter, Entry, Round, Open, Solved, Sealed, Drawn, Tables, is_enrolling, most_rows, named_round, same_rules, same_shape}
-use Rattle.define_offices.specs.Commands.{CharterSet, DroppedOut, TakenBack, Given, Outcome, Refusal, Refuses, Replies, Reply, Lines, TooLate, Withdrawn, Stops, Unproved}
+use Rattle.define_offices.specs.Commands.{DroppedOut, TakenBack, Given, Outcome, Refusal, Refuses, Replies, Reply, Lines, TooLate, Withdrawn, Stops, Unproved}
 use Rattle.define_offices.specs.Deciding.{Sorted, addition, are_rules_kept, bounds_in, bounds_over, changes, charter_over, decide_charter, decide_register, decide_rules, draw_in, drawn_ids, drop_in, fit_rows, fits_rules, is_charter_kept, is_last_open, is_seated_in, new_draw, next_after, next_in, register_by, registered, reopen_at, reopen_in, row_beyond, same_seal, seal_in, show_in, sorted_rows, tickets_or_none, undrop_in, withdraw_at, withdraw_id_at, withdraw_row, without_change}
 use Rattle.define_offices.specs.Facts.{AreRules, IsTables, KeepsRound, are_tickets, has_drop, is_charter, is_given, rows_fit}
-use Rattle.define_offices.specs.Lines.{charter_line, dropped_line, undropped_line}
+use Rattle.define_offices.specs.Lines.{dropped_line, undropped_line}
 use Rattle.define_draws.specs.Lines.{bundle_seal}
 use Rattle.define_offices.specs.Pools.{drawn_lottery, pool_of}
 use Rattle.define_offices.specs.Steps.{applied, drawn_by, dropped_out, seal_told, tables_after, taken_back, without_id}

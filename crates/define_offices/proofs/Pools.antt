@@ -1,5 +1,5 @@
 -- The pool of a round satisfies `IsPool`, and has the register's ids.
-use Rattle.std.proofs.Common.{◌≡◌, ℕ, zero, suc, ◌+◌, Bool, true, ltb, leb, ◌&&◌, ◌≤◌, eqb, List, [], ◌∷◌, map, length, Option, Some, None, Ok, unwrap_or, refl, sym, ap, ◌∙◌, arith, subst}
+use Rattle.std.proofs.Common.{◌≡◌, ℕ, zero, suc, ◌+◌, Bool, true, ltb, leb, ◌&&◌, eqb, List, [], ◌∷◌, map, length, Option, Some, None, Ok, unwrap_or, refl, sym, ap, ◌∙◌, arith, subst}
 use Rattle.std.specs.List.{list_all}
 use Rattle.std.proofs.lemmas.Bool.{and_from, and_parts, eqb-true, le-leb, leb-true, lt-ltb}
 use Rattle.define_pools.specs.declared.Limits.TheVariants.{Large}
@@ -8,7 +8,7 @@ use Rattle.define_pools.specs.Building.{are_known, ids, place_of, places_of, val
 use Rattle.define_pools.specs.Lists.{includes_list}
 use Rattle.define_pools.specs.Pool.{Category, IsPool, Pool, Volunteer, has_values, is_household, is_name, is_size, limits_for, most_volunteers}
 use Rattle.define_pools.proofs.BuildingLemmas.{is_size_of_pool, place_at}
-use Rattle.define_offices.specs.Tables.{Charter, Entry, Round, Open, Solved, Sealed, Drawn, Tables, most_rows, round_at}
+use Rattle.define_offices.specs.Tables.{Charter, Entry, Round, Open, Solved, Sealed, Drawn, Tables, round_at}
 use Rattle.define_offices.specs.Deciding.{fits_rules}
 use Rattle.define_offices.specs.Facts.{IsTables, entry_ids, is_charter, is_entry, is_most}
 use Rattle.define_offices.specs.Pools.{after_withdrawals, drawn_of, first_pool, next_pool, next_standing, numbers_of, open_pool, pool_after, pool_by, pool_if, pool_of, restood, restood_pool, round_pool, volunteer_of, with_bounds}

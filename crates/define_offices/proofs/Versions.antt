@@ -1,10 +1,10 @@
 -- A store of version 2 can keep the tables after each change that it can keep.
-use Rattle.std.proofs.Common.{◌≡◌, ℕ, zero, suc, Bool, true, eqb, not, ◌&&◌, List, [], ◌∷◌, ◌++◌, Option, Some, None, is_some, refl, ap, ◌∙◌, sym}
+use Rattle.std.proofs.Common.{◌≡◌, ℕ, zero, suc, true, not, ◌&&◌, List, [], ◌∷◌, Option, is_some, refl}
 use Rattle.std.specs.List.{list_all}
 use Rattle.std.proofs.lemmas.Bool.{and_from, and_parts}
 use Rattle.define_pools.proofs.Each.{list_all-push}
 use Rattle.define_bundles.specs.BundleText.{Bundle}
-use Rattle.define_offices.specs.Tables.{Round, Open, Solved, Sealed, Drawn, Tables, changed_at, changed_named, taken_at, taken_named, tickets_of}
+use Rattle.define_offices.specs.Tables.{Round, Open, Solved, Sealed, Drawn, Tables, changed_at, changed_named, taken_at, taken_named}
 use Rattle.define_offices.specs.Commands.{Change, CharterSet, RulesSet, Added, SolvedWith, SealTold, DrawnWith, DroppedOut, Begun, Withdrawn, BoundsSet, TakenBack, Reopened}
 use Rattle.define_offices.specs.Steps.{apply, drawn_by, dropped_out, seal_told, solved_with, taken_back}
 use Rattle.define_offices.specs.Versions.{is_second, is_second_change, is_second_charter, is_second_round}

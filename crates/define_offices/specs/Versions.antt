@@ -1,6 +1,6 @@
 -- The versions of a store. A store of version 2 can keep tables that use nothing of what version 3 brought: a charter's number of rows, a
 -- round number of tickets kept with a seal, and bounds of a round.
-use Rattle.std.specs.Prelude.{◌≡◌, ◌==◌, Bool, true, false, not, ◌&&◌, IsTrue, Option, Some, None, is_some}
+use Rattle.std.specs.Prelude.{◌==◌, Bool, true, false, not, ◌&&◌, IsTrue, Option, Some, None, is_some}
 use Rattle.std.specs.List.{list_all}
 use Rattle.define_offices.specs.Tables.{Charter, Round, Tables, tickets_of}
 use Rattle.define_offices.specs.Commands.{Change, CharterSet, RulesSet, Added, SolvedWith, SealTold, DrawnWith, DroppedOut, Begun, Withdrawn, BoundsSet, TakenBack, Reopened}
