@@ -26,7 +26,7 @@ async function setAssembly(other) {
   drawing = null;
   setChanged();
   showMade();
-  hideSections('lottery', 'none', 'draw', 'next');
+  hideSections('lottery', 'tickets', 'none', 'draw', 'next');
   part('picture').hidden = true;
   part('find').disabled = false;
   for (const id of ['lottery-state', 'lottery-found', 'none-state', 'panel', 'draw-state', 'next-state']) part(id).replaceChildren();

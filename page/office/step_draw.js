@@ -8,36 +8,12 @@ let drawing = null;
 async function openDraw() {
   const round = lastRound();
   const call = await checker;
-  drawing = { ...sealedBy(call, round), dice: 0 };
+  const sealed = sealedBy(call, round);
+  const { tickets, dice } = ticketsOf(call, sealed.bundle, round.tickets);
+  drawing = { ...sealed, dice };
   openSection('draw');
-  setDice(call, round);
-  showTickets(round);
+  part('how-many').textContent = `There ${tickets === '1' ? 'is one ticket' : `are ${tickets} tickets`}. Throw ${dice} ${dice === 1 ? 'die' : 'dice'} with ten sides, and type their digits in the order that was announced.`;
   showDigits(call, round, drawnBy(call, drawing, round));
-}
-
-// Asks how many dice are thrown at once.
-function setDice(call, round) {
-  const text = round.tickets ? textTold(call, 'tell_short_dice', round.tickets, drawing.bundle) : textTold(call, 'tell_dice', drawing.bundle);
-  const [digits, tickets] = linesOf(text);
-  drawing.dice = Number(digits[1]);
-  part('how-many').textContent = `There are ${tickets[1]} tickets. Throw ${drawing.dice} ${drawing.dice === 1 ? 'die' : 'dice'} with ten sides, and type their digits in the order that was announced.`;
-}
-
-// Ticks the number of tickets that the round has.
-function showTickets({ tickets }) {
-  for (const input of document.querySelectorAll('input[name=tickets]')) input.checked = Number(input.value) === tickets;
-}
-
-async function chooseTickets(tickets) {
-  const round = lastRound();
-  if (round.digits !== '') return;
-  try {
-    setDice(await checker, { ...round, tickets });
-    round.tickets = tickets;
-    setChanged();
-  } finally {
-    showTickets(round);
-  }
 }
 
 // Changes the digits of the open draw by a function, and shows what they draw. If memory is wanting, they stay.
@@ -66,7 +42,6 @@ function takeBackDigit() {
 function showDigits(call, round, { fields, panel, text }) {
   const groups = round.digits.match(new RegExp(`.{1,${drawing.dice}}`, 'g')) ?? [];
   part('digits').textContent = groups.join(' ') || '–';
-  for (const input of document.querySelectorAll('input[name=tickets]')) input.disabled = round.digits !== '';
   part('back').disabled = round.digits === '' || round.isDrawn;
   part('count').hidden = !panel || round.isDrawn;
   for (const button of document.querySelectorAll('#keys button')) button.disabled = Boolean(panel);
@@ -159,7 +134,6 @@ function beginDraw() {
   part('hall').addEventListener('click', () => {
     part('hall').ariaPressed = String(part('draw').classList.toggle('hall'));
   });
-  for (const input of document.querySelectorAll('input[name=tickets]')) input.addEventListener('change', () => chooseTickets(Number(input.value)));
   part('begin-next').addEventListener('click', beginNextRound);
   part('draw').addEventListener('keydown', event => {
     if (event.target.tagName === 'INPUT' || event.ctrlKey || event.altKey || event.metaKey) return;
