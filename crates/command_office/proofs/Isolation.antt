@@ -16,7 +16,7 @@ use Rattle.define_offices.specs.Facts.{IsTables}
 use Rattle.define_offices.specs.Pools.{pool_of}
 use Rattle.define_offices.specs.Steps.{tables_after, withdrawn_at}
 use Rattle.define_offices.specs.Tables.{Entry, Tables}
-use Rattle.define_offices.proofs.RowsAgain.{place_from}
+use Rattle.define_offices.proofs.RowsAgain.{place_by_hash, place_from}
 use Rattle.office_http.specs.Visits.{EndsBy, FromBytes, FromTables, IsAttended, IsReply, NoMemory, RepliesTo, Unavailable, Visit}
 use Rattle.command_office.specs.Isolation.{ChangesOwnRow, ComeAlike, EndsWell, GoAlike, RowsStayButOwn, TellsNothingOfOthers, is_own_page}
 
@@ -144,7 +144,9 @@ row_changes (e ∷ old) hash i zero place entry h at = by (bytes_eq hash e.hash)
   where
     by : (b : Bool) → bytes_eq hash e.hash ≡ b → cond b (Some (i, e)) (place_of_hash old hash (i + 1)) ≡ Some (place, entry) → RowsStayButOwn hash (e ∷ old) (withdrawn_at (e ∷ old) zero)
     by true eq k = (inr (eq, refl), rows_stay hash old)
-    by false eq k = absurd (let l = place_from old hash (i + 1) (place, entry) k in omega arith)
+    by false eq k = absurd
+        (let l = place_from (λ (row : Entry). row.hash) old hash (i + 1) (place, entry) (sym (place_by_hash old hash (i + 1)) ∙ k) in
+        omega arith)
 row_changes (e ∷ old) hash i (suc q) place entry h at = by (bytes_eq hash e.hash) h (λ k l. row_changes old hash (i + 1) q place entry k l)
   where
     by : (b : Bool) → cond b (Some (i, e)) (place_of_hash old hash (i + 1)) ≡ Some (place, entry) → (place_of_hash old hash (i + 1) ≡ Some (place, entry) → place ≡ i + 1 + q → RowsStayButOwn hash old (withdrawn_at old q)) →

@@ -133,10 +133,9 @@ pub fn command_of(alloc: Global, step: &Step<'_>) -> Result<Command, AllocError>
             round: *round,
             id: Name::new(alloc, id.as_str())?,
         }),
-        Step::Reopen { round } => match LaterRound::new(round.number()) {
-            Some(round) => Ok(Command::Reopen { round }),
-            None => unreachable!(),
-        },
+        Step::Reopen { round } => Ok(Command::Reopen {
+            round: round.copy(),
+        }),
         Step::Withdraw { id } => Ok(Command::WithdrawId {
             id: Name::new(alloc, id.as_str())?,
         }),

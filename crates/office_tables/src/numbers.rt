@@ -116,4 +116,13 @@ impl LaterRound {
     {
         self.number
     }
+
+    /// Returns an equal number.
+    pub fn copy(&self) -> LaterRound
+        ensures { result ≡ self.now }
+    {
+        LaterRound {
+            number: self.number,
+        }
+    }
 }
