@@ -24,6 +24,7 @@ async function setAssembly(other) {
   stopLongCall();
   assembly = other;
   drawing = null;
+  part('save').disabled = !assembly.rounds.length;
   setChanged();
   showMade();
   hideSections('lottery', 'tickets', 'none', 'draw', 'next');
@@ -36,6 +37,7 @@ async function setAssembly(other) {
   const free = assembly.size - seated;
   const seats = free === 1 ? 'one seat is' : `${free} seats are`;
   part('round').textContent = assembly.rounds.length === 1 ? 'Round 1.' : `Round ${assembly.rounds.length}: ${seated} members keep their seats, and ${seats} free.`;
+  part('take-back').hidden = assembly.rounds.length === 1 || round.isPublished;
   openSection('lottery');
   if (round.proof) await showLottery();
   if (round.isDrawn) {
@@ -105,6 +107,7 @@ function beginOffice() {
     if (body) frame.height = body.offsetHeight + frame.offsetHeight - frame.clientHeight;
   };
   frame.addEventListener('load', fit);
+  frame.parentElement.addEventListener('toggle', fit);
   addEventListener('resize', fit);
 }
 

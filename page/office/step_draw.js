@@ -12,7 +12,7 @@ async function openDraw() {
   const { tickets, dice } = ticketsOf(call, sealed.bundle, round.tickets);
   drawing = { ...sealed, dice };
   openSection('draw');
-  part('how-many').textContent = `There ${tickets === '1' ? 'is one ticket' : `are ${tickets} tickets`}. Throw ${dice} ${dice === 1 ? 'die' : 'dice'} with ten sides, and type their digits in the order that was announced.`;
+  part('how-many').textContent = `There ${tickets === '1' ? 'is one ticket' : `are ${tickets} tickets`}. Throw ${dice === 1 ? '1 die with ten sides, and type its digit' : `${dice} dice with ten sides, one after the other, and type each digit`}.`;
   showDigits(call, round, drawnBy(call, drawing, round));
 }
 
@@ -44,7 +44,9 @@ function showDigits(call, round, { fields, panel, text }) {
   part('digits').textContent = groups.join(' ') || '–';
   part('back').disabled = round.digits === '' || round.isDrawn;
   part('count').hidden = !panel || round.isDrawn;
+  const hadFocus = part('keys').contains(document.activeElement);
   for (const button of document.querySelectorAll('#keys button')) button.disabled = Boolean(panel);
+  if (panel && hadFocus) part('draw-title').focus();
   const rest = round.digits.length % drawing.dice;
   if (panel) say(part('draw-state'), `Ticket ${fields[1]}`, [round.isDrawn ? 'This panel is drawn.' : 'Read the digits aloud once more. Then let them count.'], true);
   else if (fields[1] !== 'MoreDigits') say(part('draw-state'), 'No draw', [text]);
@@ -65,6 +67,7 @@ async function countDraw() {
   showDigits(call, round, drawn);
   openSection('next');
   showNext();
+  goTo(part('panel').querySelector('h3'));
 }
 
 function peopleWith(ids) {
@@ -123,6 +126,14 @@ async function beginNextRound() {
   await setAssembly(assembly);
 }
 
+// Takes the last round back, of which nothing is published, and goes to the members of the round before.
+async function takeRoundBack() {
+  if (assembly.rounds.length === 1 || lastRound().isPublished) return;
+  assembly.rounds.pop();
+  await setAssembly(assembly);
+  goTo(part('next-title'));
+}
+
 function beginDraw() {
   part('keys').replaceChildren(...'1234567890'.split('').map(digit => {
     const button = element('button', digit, { type: 'button' });
@@ -135,6 +146,7 @@ function beginDraw() {
     part('hall').ariaPressed = String(part('draw').classList.toggle('hall'));
   });
   part('begin-next').addEventListener('click', beginNextRound);
+  part('take-back').addEventListener('click', takeRoundBack);
   part('draw').addEventListener('keydown', event => {
     if (event.target.tagName === 'INPUT' || event.ctrlKey || event.altKey || event.metaKey) return;
     if (/^[0-9]$/.test(event.key)) addDigit(event.key);

@@ -91,6 +91,7 @@ async function showLottery() {
   const call = await checker;
   const { bundle, seal } = sealedBy(call, round);
   part('find').disabled = round.isPublished;
+  part('take-back').hidden = assembly.rounds.length === 1 || round.isPublished;
   part('frame').srcdoc = textTold(call, 'tell_page', bundle);
   showTickets(call, bundle, round);
   const name = `round-${assembly.rounds.length}`;
