@@ -26,7 +26,7 @@ fn another_keeper_finds_the_file(rt: HostRuntime) -> Result<(), Fail> {
     let _ = fs::remove_dir_all(&rt, FOLDER);
     fs::create_dir(&rt, FOLDER)?;
     let mut first = SqliteKeeper::new(&rt);
-    assert!(rt; done(&rt, alloc, &mut first, Asked::Charter) == Some(Ending::Stops));
+    assert!(rt; done(&rt, alloc, &mut first, Asked::Rules) == Some(Ending::Stops));
     assert!(rt; first.attach(alloc, FOLDER).is_err());
     assert_eq!(rt; first.faults(), 2);
     assert!(rt; first.attach(alloc, PATH).is_ok());
