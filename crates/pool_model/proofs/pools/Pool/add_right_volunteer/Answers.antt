@@ -4,6 +4,7 @@ use Rattle.define_pools.specs.Pool.{Pool}
 use Rattle.define_pools.specs.declared.Limits.TheVariants.{Large}
 use Rattle.define_pools.specs.Building.{volunteer_kind, places_of}
 use Rattle.define_pools.proofs.BuildingLemmas.{IsPool-volunteer_added}
+use Rattle.pool_model.proofs.IdsInOrder.{stay_in_order}
 use Rattle.pool_model.proofs.pools.Pool.add_right_volunteer.Goals as goal
 
 pub invariant_of-self-2 : goal.invariant_of-self-2
@@ -14,4 +15,5 @@ invariant_of-self-2 c =
     let none : volunteer_kind Large pool id names ≡ None = ap (λ p. volunteer_kind Large p id names) c.self.view_is ∙ c.requires in
     let placed : c.in_ok-places.places.items ≡ places_of pool.categories names =
     c.in_ok-places.ensures ∙ ap (λ categories. places_of categories names) c.deref.ensures.value in
-    rw (c.in_ok-push.ensures.items, c.new-volunteer.ensures, c.in_ok-new.ensures, placed) (IsPool-volunteer_added Large pool id names c.self.invariant none (is_utf8-from_IsUtf8 id c.utf8.id))
+    rw (c.in_ok-push.ensures.items, c.new-volunteer.ensures, c.in_ok-new.ensures, placed) (IsPool-volunteer_added Large pool id names c.self.invariant.0 none (is_utf8-from_IsUtf8 id c.utf8.id),
+    stay_in_order pool.volunteers _ c.self.inside.ids_in_order c.follows_last-follows.result c.self.invariant.1 c.follows_last-follows.ensures)
