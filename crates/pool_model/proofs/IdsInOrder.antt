@@ -62,11 +62,6 @@ stay_in_order volunteers volunteer in_order follows known is h =
     let parts = and_parts in_order follows h in
     rw (map_push (λ (v : Volunteer). v.id) volunteers volunteer) (appended (ids volunteers) volunteer.id (known parts.0) (sym is ∙ parts.1))
 
--- what a test finds that looks through all only if the id does not follow the last one
-pub looked_for : (known : List (List ℕ)) (id : List ℕ) (in_order follows : Bool) → (in_order ≡ true → are_in_order known ≡ true) → follows ≡ follows_last known id → (in_order && follows) ≡ true → false ≡ includes_list known id
-looked_for known id in_order follows right is h =
-    let parts = and_parts in_order follows h in sym (is_new known id (right parts.0) (sym is ∙ parts.1))
-
 follows_at : (n : ℕ) (volunteers : List Volunteer) (volunteer : Volunteer) (id : List ℕ) → length volunteers ≡ suc n → Some volunteer ≡ slice_get volunteers n → follows_last (ids volunteers) id ≡ precedes volunteer.id id
 follows_at n [] volunteer id e h = absurd (omega arith)
 follows_at zero (first ∷ []) volunteer id e h = cc
@@ -94,8 +89,12 @@ by_both true alike o = refl
 by_both false true o = refl
 by_both false false o = refl
 
-pub precedes_tested : (xs ys : List ℕ) (r : Bool) → r ≡ is_some_and is_lt (slice_partial_cmp (λ x y. Some (nat_cmp x y)) xs ys) →
+precedes_tested : (xs ys : List ℕ) (r : Bool) → r ≡ is_some_and is_lt (slice_partial_cmp (λ x y. Some (nat_cmp x y)) xs ys) →
     (ltb (length xs) (length ys) || (eqb (length xs) (length ys) && r)) ≡ precedes xs ys
 precedes_tested xs ys r h =
     ap (λ below. ltb (length xs) (length ys) || (eqb (length xs) (length ys) && below)) (is_below xs ys r h)
     ∙ by_both (ltb (length xs) (length ys)) (eqb (length xs) (length ys)) (slice_cmp nat_cmp xs ys)
+
+pub precedes_alike : (xs ys : List ℕ) (r : Bool) → ltb (length xs) (length ys) ≡ false → eqb (length xs) (length ys) ≡ true → r ≡ is_some_and is_lt (slice_partial_cmp (λ x y. Some (nat_cmp x y)) xs ys) → r ≡ precedes xs ys
+precedes_alike xs ys r h k tested =
+    sym (ap (λ shorter. shorter || (eqb (length xs) (length ys) && r)) h ∙ ap (λ alike. alike && r) k) ∙ precedes_tested xs ys r tested

@@ -3,3 +3,4 @@ pub mod LineByLine
 pub mod WritingLemmas
 pub mod SizeLine
 pub mod PanelLines
+pub mod NumberAhead
