@@ -1,5 +1,5 @@
 -- Ids that are in order, and an id that follows the last of them: it is new, and with it they are in order.
-use Rattle.std.proofs.Common.{◌≡◌, ℕ, zero, suc, ◌-◌, Bool, true, false, cond, eqb, ltb, ◌&&◌, ◌||◌, List, [], ◌∷◌, ◌++◌, length, Some, refl, sym, ap, ◌∙◌, subst, arith}
+use Rattle.std.proofs.Common.{◌≡◌, ℕ, zero, suc, ◌-◌, ◌≤◌, Bool, true, false, cond, eqb, ltb, ◌&&◌, ◌||◌, List, [], ◌∷◌, ◌++◌, length, Some, refl, sym, ap, ◌∙◌, subst, arith}
 use Rattle.std.specs.List.{slice_get}
 use Rattle.std.specs.Str.{bytes_eq}
 use Rattle.std.specs.Cmp.{IsTotalOrder}
@@ -8,12 +8,12 @@ use Rattle.std.specs.declared.cmp.Ordering.{Ordering}
 use Rattle.std.specs.declared.cmp.Ordering.TheVariants.{Less, Equal, Greater}
 use Rattle.std.specs.Ordering.{MatchOrdering, nat_cmp, then_cmp, on, is_lt, is_some_and, ordering_then}
 use Rattle.std.proofs.lemmas.Cmp.{nat_cmp_total, nat_list_cmp_total, then_total, on_total, tied_itself, same_from_slice_cmp_tested}
-use Rattle.std.proofs.lemmas.Bool.{and_parts, and_from, or_from, false_from_ne_true, false≢true}
+use Rattle.std.proofs.lemmas.Bool.{and_parts, and_from, or_from, false_from_ne_true, false≢true, ltb-true, eq-eqb}
 use Rattle.std.proofs.lemmas.List.{map_push}
 use Rattle.std.proofs.lemmas.Slice.Eq.{bytes_eq-Decides}
 use Rattle.define_pools.specs.Lists.{includes_list}
 use Rattle.define_pools.specs.Pool.{Volunteer}
-use Rattle.define_pools.specs.Building.{ids}
+use Rattle.define_pools.specs.Building.{ids, with_household}
 use Rattle.pool_model.specs.IdOrder.{precedes, follows_last, are_in_order}
 
 abbrev compared : List ℕ → List ℕ → Ordering
@@ -95,6 +95,13 @@ precedes_tested xs ys r h =
     ap (λ below. ltb (length xs) (length ys) || (eqb (length xs) (length ys) && below)) (is_below xs ys r h)
     ∙ by_both (ltb (length xs) (length ys)) (eqb (length xs) (length ys)) (slice_cmp nat_cmp xs ys)
 
-pub precedes_alike : (xs ys : List ℕ) (r : Bool) → ltb (length xs) (length ys) ≡ false → eqb (length xs) (length ys) ≡ true → r ≡ is_some_and is_lt (slice_partial_cmp (λ x y. Some (nat_cmp x y)) xs ys) → r ≡ precedes xs ys
+pub precedes_alike : (xs ys : List ℕ) (r : Bool) → length ys ≤ length xs → length xs ≡ length ys → r ≡ is_some_and is_lt (slice_partial_cmp (λ x y. Some (nat_cmp x y)) xs ys) → r ≡ precedes xs ys
 precedes_alike xs ys r h k tested =
-    sym (ap (λ shorter. shorter || (eqb (length xs) (length ys) && r)) h ∙ ap (λ alike. alike && r) k) ∙ precedes_tested xs ys r tested
+    let not_shorter : ltb (length xs) (length ys) ≡ false = false_from_ne_true (ltb (length xs) (length ys)) (λ e. absurd (omega (arith, ltb-true (length xs) (length ys) e))) in
+    let alike : eqb (length xs) (length ys) ≡ true = eq-eqb (length xs) (length ys) k in
+    sym (ap (λ shorter. shorter || (eqb (length xs) (length ys) && r)) not_shorter ∙ ap (λ b. b && r) alike) ∙ precedes_tested xs ys r tested
+
+pub ids-housed : (volunteers : List Volunteer) (number : ℕ) (name : List ℕ) → ids (with_household volunteers number name) ≡ ids volunteers
+ids-housed [] number name = refl
+ids-housed (volunteer ∷ volunteers) zero name = refl
+ids-housed (volunteer ∷ volunteers) (suc number) name = ap (λ rest. volunteer.id ∷ rest) (ids-housed volunteers number name)

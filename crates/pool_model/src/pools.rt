@@ -321,7 +321,7 @@ impl Pool {
         let follows = follows_last(&self.volunteers, id.as_bytes());
         let volunteer = Volunteer::new(Name::new(alloc, id)?, places);
         self.volunteers.push(volunteer)?;
-        self.ids_in_order = self.ids_in_order && follows;
+        self.ids_in_order &= follows;
         Ok(())
     }
 

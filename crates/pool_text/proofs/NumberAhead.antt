@@ -1,8 +1,8 @@
 -- As ids are different, the search for an id may begin behind the volunteers who were passed.
-use Rattle.std.proofs.Common.{◌≡◌, ℕ, zero, suc, ◌+◌, ◌≤◌, Bool, true, false, cond, ltb, leb, not, ◌||◌, List, [], ◌∷◌, drop, length, Option, Some, None, is_some, option_map, unwrap_or, refl, sym, ap, ◌∙◌, arith, position}
+use Rattle.std.proofs.Common.{◌≡◌, ℕ, zero, suc, ◌+◌, ◌<◌, ◌≤◌, Bool, true, false, cond, ltb, leb, not, ◌||◌, List, [], ◌∷◌, drop, length, Option, Some, None, is_some, option_map, unwrap_or, refl, sym, ap, ◌∙◌, arith, position}
 use Rattle.std.specs.List.{position_or_len}
 use Rattle.std.specs.Str.{bytes_eq}
-use Rattle.std.proofs.lemmas.Bool.{lt-ltb, and_parts, or_parts, not-true}
+use Rattle.std.proofs.lemmas.Bool.{lt-ltb, ltb-true, leb-true, and_parts, or_parts, not-true, false_from_ne_true, cond_both, false≢true}
 use Rattle.std.proofs.lemmas.Bool.Decides.{nat_tests}
 use Rattle.std.proofs.lemmas.Slice.Eq.{bytes_eq-Decides}
 use Rattle.define_pools.proofs.Tests.{ltb-more}
@@ -68,10 +68,30 @@ number_behind (suc passed) (volunteer ∷ volunteers) id h k =
       | false ↦ λ e. ahead_later passed rest ∙ ap later (number_behind passed volunteers id parts.1 (omega arith)) ∙ added passed behind
     ]) refl
 
+pub none_past : (passed : ℕ) (volunteers : List Volunteer) (id : List ℕ) → length volunteers < passed → None ≡ ahead passed (number_of volunteers id)
+none_past passed volunteers id h =
+    let n = position_or_len (λ (v : Volunteer). bytes_eq id v.id) volunteers in
+    cond_both (ltb n (length volunteers)) (Some n) None (λ o. None ≡ ahead passed o)
+        (λ e. let not_ahead : leb passed n ≡ false = false_from_ne_true (leb passed n) (λ k. absurd (omega (arith, ltb-true n (length volunteers) e, leb-true passed n k))) in sym (ap (λ b. cond b (Some n) None) not_ahead))
+        (λ e. refl)
+
+-- the number found behind those who were passed
+pub some_behind : (passed : ℕ) (volunteers : List Volunteer) (id : List ℕ) (number : ℕ) → all_different (ids volunteers) ≡ true → passed ≤ length volunteers → Some number ≡ number_of (drop passed volunteers) id →
+    Some (passed + number) ≡ ahead passed (number_of volunteers id)
+some_behind passed volunteers id number h k found = sym (number_behind passed volunteers id h k ∙ ap (option_map (λ n. passed + n)) (sym found))
+
+pub none_found : (passed : ℕ) (volunteers : List Volunteer) (id : List ℕ) → all_different (ids volunteers) ≡ true → passed ≤ length volunteers → None ≡ number_of (drop passed volunteers) id →
+    None ≡ ahead passed (number_of volunteers id)
+none_found passed volunteers id h k found = sym (number_behind passed volunteers id h k ∙ ap (option_map (λ n. passed + n)) (sym found))
+
 pub found_ahead : (passed : ℕ) (o : Option ℕ) → is_some (ahead passed o) ≡ is_ahead passed o
 found_ahead passed None = refl
 found_ahead passed (Some n) =
     elim (leb passed n) as (λ b. is_some (cond b (Some n) None) ≡ b) [ | true ↦ refl | false ↦ refl ]
+
+-- a number ahead is found
+pub not_none : (passed : ℕ) (o : Option ℕ) → is_ahead passed o ≡ true → None ≡ ahead passed o → ⊥
+not_none passed o h none = false≢true (ap is_some none ∙ found_ahead passed o ∙ h)
 
 pub same_number : (passed : ℕ) (o : Option ℕ) (number : ℕ) → Some number ≡ ahead passed o → number ≡ unwrap_or o 0
 same_number passed None number h = cc
