@@ -72,8 +72,8 @@ pub none_past : (passed : ℕ) (volunteers : List Volunteer) (id : List ℕ) →
 none_past passed volunteers id h =
     let n = position_or_len (λ (v : Volunteer). bytes_eq id v.id) volunteers in
     cond_both (ltb n (length volunteers)) (Some n) None (λ o. None ≡ ahead passed o)
-        (λ e. let not_ahead : leb passed n ≡ false = false_from_ne_true (leb passed n) (λ k. absurd (omega (arith, ltb-true n (length volunteers) e, leb-true passed n k))) in sym (ap (λ b. cond b (Some n) None) not_ahead))
-        (λ e. refl)
+    (λ e. let not_ahead : leb passed n ≡ false = false_from_ne_true (leb passed n) (λ k. absurd (omega (arith, ltb-true n (length volunteers) e, leb-true passed n k))) in sym (ap (λ b. cond b (Some n) None) not_ahead))
+    (λ e. refl)
 
 -- the number found behind those who were passed
 pub some_behind : (passed : ℕ) (volunteers : List Volunteer) (id : List ℕ) (number : ℕ) → all_different (ids volunteers) ≡ true → passed ≤ length volunteers → Some number ≡ number_of (drop passed volunteers) id →
@@ -87,7 +87,7 @@ none_found passed volunteers id h k found = sym (number_behind passed volunteers
 pub found_ahead : (passed : ℕ) (o : Option ℕ) → is_some (ahead passed o) ≡ is_ahead passed o
 found_ahead passed None = refl
 found_ahead passed (Some n) =
-    elim (leb passed n) as (λ b. is_some (cond b (Some n) None) ≡ b) [ | true ↦ refl | false ↦ refl ]
+    elim (leb passed n) as (λ b. is_some (cond b (Some n) None) ≡ b) [ true ↦ refl | false ↦ refl ]
 
 -- a number ahead is found
 pub not_none : (passed : ℕ) (o : Option ℕ) → is_ahead passed o ≡ true → None ≡ ahead passed o → ⊥
@@ -96,4 +96,4 @@ not_none passed o h none = false≢true (ap is_some none ∙ found_ahead passed 
 pub same_number : (passed : ℕ) (o : Option ℕ) (number : ℕ) → Some number ≡ ahead passed o → number ≡ unwrap_or o 0
 same_number passed None number h = cc
 same_number passed (Some n) number h =
-    (elim (leb passed n) as (λ b. Some number ≡ cond b (Some n) None → number ≡ n) [ | true ↦ λ e. cc | false ↦ λ e. cc ]) h
+    (elim (leb passed n) as (λ b. Some number ≡ cond b (Some n) None → number ≡ n) [ true ↦ λ e. cc | false ↦ λ e. cc ]) h

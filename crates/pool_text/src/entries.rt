@@ -270,12 +270,7 @@ fn add_standing(pool: &mut Pool, passed: usize, standing: Standing, id: &[u8]) -
 
 /// Sets the household of the volunteer of this id, whom no household line has passed. Returns how many volunteers the household lines have
 /// then passed.
-fn add_household(
-    pool: &mut Pool,
-    passed: usize,
-    id: &[u8],
-    name: &str,
-) -> Result<usize, AllocError>
+fn add_household(pool: &mut Pool, passed: usize, id: &[u8], name: &str) -> Result<usize, AllocError>
     requires found { IsTrue (is_number_ahead passed (number_in pool.old.volunteers id.now)) }
     requires right { name_kind name.now ≡ None }
     ensures set { OnOk result (pool.new ≡ household_set pool.old (unwrap_or (number_in pool.old.volunteers id.now) 0) name.now) }

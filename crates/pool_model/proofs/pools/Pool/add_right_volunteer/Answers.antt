@@ -18,6 +18,8 @@ invariant_of-self-2 c =
     let placed : c.in_ok-places.places.items ≡ places_of pool.categories names =
     c.in_ok-places.ensures ∙ ap (λ categories. places_of categories names) c.deref.ensures.value in
     let added : Volunteer = record { id = id; values = places_of pool.categories names; standing = Open; household = None } in
-    let follows = c.follows_last-follows.ensures ∙ ap (λ known. follows_last (ids known) c.as_bytes.result.now) c.deref-2.ensures.value ∙ ap (follows_last (ids pool.volunteers)) c.as_bytes.ensures in
-    rw (c.in_ok-push.ensures.items, c.new-volunteer.ensures, c.in_ok-new.ensures, placed) (IsPool-volunteer_added Large pool id names c.self.invariant.0 none (is_utf8-from_IsUtf8 id c.utf8.id),
-    stay_in_order pool.volunteers added c.self.inside.ids_in_order c.follows_last-follows.result c.self.invariant.1 follows)
+    let follows = c.follows_last-follows.ensures ∙ ap (λ known. follows_last (ids known) c.as_bytes.result.now) c.deref-2.ensures.value ∙ ap (follows_last (ids pool.volunteers)) c.as_bytes.ensures.value in
+    rw (c.in_ok-push.ensures.items, c.new-volunteer.ensures, c.in_ok-new.ensures, placed) (
+      IsPool-volunteer_added Large pool id names c.self.invariant.0 none (is_utf8-from_IsUtf8 id c.utf8.id),
+      stay_in_order pool.volunteers added c.self.inside.ids_in_order c.follows_last-follows.result c.self.invariant.1 follows,
+    )

@@ -17,5 +17,5 @@ returns-else-not-is_past_all c =
       | then-self w ↦
           let follows = ap (λ volunteers. follows_last (ids volunteers) id) (sym w.deref.ensures.value) ∙ sym w.follows_last-is_past_all.ensures ∙ sym w.is_past_all-is ∙ past in
           ap not past ∙ sym (is_new known id (c.self.invariant.1 w.if-self.true) follows) ∙ ap (λ (p : Pool). includes_list (ids p.volunteers) id) c.self.view_is
-      | else-self w ↦ absurd (false≢true (sym w.is_past_all-is ∙ past))
+      | else-self w ↦ absurd (false≢true (sym w.if-self.false ∙ sym w.is_past_all-is ∙ past))
     ]
