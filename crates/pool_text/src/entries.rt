@@ -184,6 +184,7 @@ fn awaits_volunteers(pool: &Pool, passed: Passed) -> bool
 
 /// True if a volunteer has this id, and the volunteer's number is at least `passed`, which is how many volunteers the household lines, or
 /// the standing lines, have passed.
+#[tactic(auto, using(crate::proofs::NumberAhead::found_ahead))]
 fn is_ahead(pool: &Pool, passed: usize, id: &[u8]) -> bool
     ensures { result ≡ is_number_ahead passed (number_in pool.now.volunteers id.now) }
 {
@@ -193,6 +194,7 @@ fn is_ahead(pool: &Pool, passed: usize, id: &[u8]) -> bool
 
 /// Returns the number of the volunteer of this id, if there is one and the number is at least `passed`. The lines name volunteers in the
 /// pool's order, so all lines of one sort together look at each volunteer about once.
+#[tactic(auto, using(crate::proofs::NumberAhead::none_past, crate::proofs::NumberAhead::some_behind, crate::proofs::NumberAhead::none_found))]
 fn number_ahead(volunteers: &[Volunteer], passed: usize, id: &[u8]) -> Option<usize>
     requires { IsTrue (all_different (ids volunteers.now)) }
     ensures value { result ≡ ahead passed (number_in volunteers.now id.now) }
@@ -253,6 +255,7 @@ fn add_entry(
 
 /// Sets the standing of the volunteer of this id, whom no standing line has passed. Returns how many volunteers the standing lines have
 /// then passed.
+#[tactic(auto, using(crate::proofs::NumberAhead::same_number, crate::proofs::NumberAhead::not_none))]
 fn add_standing(pool: &mut Pool, passed: usize, standing: Standing, id: &[u8]) -> usize
     requires { IsTrue (is_number_ahead passed (number_in pool.old.volunteers id.now)) }
     ensures set { pool.new ≡ standing_set pool.old (unwrap_or (number_in pool.old.volunteers id.now) 0) standing }
@@ -270,6 +273,7 @@ fn add_standing(pool: &mut Pool, passed: usize, standing: Standing, id: &[u8]) -
 
 /// Sets the household of the volunteer of this id, whom no household line has passed. Returns how many volunteers the household lines have
 /// then passed.
+#[tactic(auto, using(crate::proofs::NumberAhead::same_number, crate::proofs::NumberAhead::not_none))]
 fn add_household(pool: &mut Pool, passed: usize, id: &[u8], name: &str) -> Result<usize, AllocError>
     requires found { IsTrue (is_number_ahead passed (number_in pool.old.volunteers id.now)) }
     requires right { name_kind name.now ≡ None }
