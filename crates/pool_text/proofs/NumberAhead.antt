@@ -2,7 +2,7 @@
 use Rattle.std.proofs.Common.{◌≡◌, ℕ, zero, suc, ◌+◌, ◌<◌, ◌≤◌, Bool, true, false, cond, ltb, leb, not, ◌||◌, List, [], ◌∷◌, drop, length, Option, Some, None, is_some, option_map, unwrap_or, refl, sym, ap, ◌∙◌, arith, position}
 use Rattle.std.specs.List.{position_or_len}
 use Rattle.std.specs.Str.{bytes_eq}
-use Rattle.std.proofs.lemmas.Bool.{lt-ltb, ltb-true, leb-true, and_parts, or_parts, not-true, false_from_ne_true, cond_both, false≢true}
+use Rattle.std.proofs.lemmas.Bool.{lt-ltb, le-leb, ltb-true, leb-true, and_parts, or_parts, not-true, false_from_ne_true, cond_both, false≢true}
 use Rattle.std.proofs.lemmas.Bool.Decides.{nat_tests}
 use Rattle.std.proofs.lemmas.Slice.Eq.{bytes_eq-Decides}
 use Rattle.define_pools.proofs.Tests.{ltb-more}
@@ -40,7 +40,8 @@ none_behind (suc passed) (volunteer ∷ volunteers) id h =
 
 from_first : (o : Option ℕ) → ahead 0 o ≡ option_map (λ n. 0 + n) o
 from_first None = refl
-from_first (Some n) = refl
+from_first (Some n) =
+    let e : n ≡ 0 + n = omega arith in ap (λ b. cond b (Some n) None) (le-leb 0 n (omega arith)) ∙ ap Some e
 
 ahead_later : (passed : ℕ) (o : Option ℕ) → ahead (suc passed) (later o) ≡ later (ahead passed o)
 ahead_later passed None = refl
@@ -64,7 +65,8 @@ number_behind (suc passed) (volunteer ∷ volunteers) id h k =
       | true ↦ λ e.
           let same : id ≡ volunteer.id = (bytes_eq-Decides id volunteer.id).0 e in
           let none : behind ≡ None = none_behind passed volunteers id (ap (includes_list (ids volunteers)) same ∙ not-true (includes_list (ids volunteers) volunteer.id) parts.0) in
-          sym (ap (option_map (λ n. suc passed + n)) none)
+          let before : leb (suc passed) 0 ≡ false = false_from_ne_true (leb (suc passed) 0) (λ k. absurd (omega (arith, leb-true (suc passed) 0 k))) in
+          ap (λ b. cond b (Some 0) None) before ∙ sym (ap (option_map (λ n. suc passed + n)) none)
       | false ↦ λ e. ahead_later passed rest ∙ ap later (number_behind passed volunteers id parts.1 (omega arith)) ∙ added passed behind
     ]) refl
 
