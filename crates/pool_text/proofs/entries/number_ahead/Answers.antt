@@ -1,8 +1,16 @@
-use Rattle.pool_text.proofs.NumberAhead.{some_behind, none_found}
+use Rattle.std.proofs.Common.{ap, ◌∙◌}
+use Rattle.define_bundles.specs.PoolReading.{number_of}
+use Rattle.pool_text.proofs.NumberAhead.{rest_of, some_behind, none_found}
 use Rattle.pool_text.proofs.entries.number_ahead.Goals as goal
 
 pub returns-in-Some-clause-value : goal.returns-in-Some-clause-value
-returns-in-Some-clause-value c = some_behind c.args.passed c.args.volunteers.now c.args.id.now c.in-Some.number c.requires c.if-volunteers-passed.false c.in-Some.ensures.value
+returns-in-Some-clause-value c =
+    let volunteers = c.args.volunteers.now in let id = c.args.id.now in
+    let found = c.in-Some.ensures.value ∙ ap (λ rest. number_of rest id) (rest_of c.args.passed volunteers c.if-volunteers-passed.false) in
+    some_behind c.args.passed volunteers id c.in-Some.number c.requires c.if-volunteers-passed.false found
 
 pub returns-in-None-clause-value : goal.returns-in-None-clause-value
-returns-in-None-clause-value c = none_found c.args.passed c.args.volunteers.now c.args.id.now c.requires c.if-volunteers-passed.false c.in-None.ensures.value
+returns-in-None-clause-value c =
+    let volunteers = c.args.volunteers.now in let id = c.args.id.now in
+    let found = c.in-None.ensures.value ∙ ap (λ rest. number_of rest id) (rest_of c.args.passed volunteers c.if-volunteers-passed.false) in
+    none_found c.args.passed volunteers id c.requires c.if-volunteers-passed.false found
