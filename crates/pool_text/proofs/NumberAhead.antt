@@ -1,5 +1,5 @@
 -- As ids are different, the search for an id may begin behind the volunteers who were passed.
-use Rattle.std.proofs.Common.{◌≡◌, ℕ, zero, suc, ◌+◌, ◌-◌, ◌<◌, ◌≤◌, Bool, true, false, cond, ltb, leb, not, ◌||◌, List, [], ◌∷◌, drop, take, length, Option, Some, None, is_some, option_map, unwrap_or, refl, sym, ap, ◌∙◌, arith, position}
+use Rattle.std.proofs.Common.{◌≡◌, ℕ, zero, suc, ◌+◌, ◌<◌, ◌≤◌, Bool, true, false, cond, ltb, leb, not, ◌||◌, List, [], ◌∷◌, drop, length, Option, Some, None, is_some, option_map, unwrap_or, refl, sym, ap, ◌∙◌, arith, position}
 use Rattle.std.specs.List.{position_or_len}
 use Rattle.std.specs.Str.{bytes_eq}
 use Rattle.std.proofs.lemmas.Bool.{lt-ltb, le-leb, ltb-true, leb-true, and_parts, or_parts, not-true, false_from_ne_true, cond_both, false≢true}
@@ -99,14 +99,3 @@ pub same_number : (passed : ℕ) (o : Option ℕ) (number : ℕ) → Some number
 same_number passed None number h = cc
 same_number passed (Some n) number h =
     (elim (leb passed n) as (λ b. Some number ≡ cond b (Some n) None → number ≡ n) [ true ↦ λ e. cc | false ↦ λ e. cc ]) h
-
--- the slice that begins at `passed`
-pub rest_of : (passed : ℕ) (volunteers : List Volunteer) → passed ≤ length volunteers → take (length volunteers - passed) (drop passed volunteers) ≡ drop passed volunteers
-rest_of zero [] h = refl
-rest_of zero (volunteer ∷ volunteers) h =
-    let e : suc (length volunteers) - 0 ≡ suc (length volunteers - 0) = omega arith in
-    rw e (ap (λ rest. volunteer ∷ rest) (rest_of zero volunteers (omega arith)))
-rest_of (suc passed) [] h = absurd (omega arith)
-rest_of (suc passed) (volunteer ∷ volunteers) h =
-    let e : suc (length volunteers) - suc passed ≡ length volunteers - passed = omega arith in
-    rw e (rest_of passed volunteers (omega arith))
