@@ -1,5 +1,5 @@
 use Rattle.std.proofs.Common.{◌≡◌, subst}
-use Rattle.command_meanings.specs.TakenNodes.{NodesAreTaken}
+use Rattle.command_meanings.specs.{NodesAreTaken}
 use Rattle.command_browser.specs.Proving.{Proves}
 use Rattle.command_browser.proofs.proving.proved.Goals as goal
 
