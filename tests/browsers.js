@@ -110,8 +110,10 @@ class Firefox {
     const it = new Firefox();
     it.home = fs.mkdtempSync(path.join(os.tmpdir(), 'firefox-'));
     const port = 20000 + process.pid % 20000;
-    const prefs = { 'marionette.port': port, 'app.update.enabled': false, 'datareporting.policy.dataSubmissionEnabled': false };
-    fs.writeFileSync(`${it.home}/user.js`, Object.entries(prefs).map(([name, value]) => `user_pref("${name}", ${value});\n`).join(''));
+    it.downloads = `${it.home}/downloads`;
+    const prefs = { 'marionette.port': port, 'app.update.enabled': false, 'datareporting.policy.dataSubmissionEnabled': false, 'browser.download.folderList': 2, 'browser.download.dir': it.downloads };
+    fs.mkdirSync(it.downloads);
+    fs.writeFileSync(`${it.home}/user.js`, Object.entries(prefs).map(([name, value]) => `user_pref("${name}", ${JSON.stringify(value)});\n`).join(''));
     const env = { ...process.env, HOME: it.home, MOZ_HEADLESS: '1' };
     it.child = spawn('firefox-esr', ['--headless', '--no-remote', '--marionette', '--profile', it.home], { stdio: 'ignore', env });
     await it.connect(port);

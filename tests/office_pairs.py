@@ -4,7 +4,7 @@
 usage: tests/office_pairs.py [SEED COUNT]
 
 The pairs are those of tests/prepare: files of which nothing can be made, odd files, files with odd rows in each layout and encoding, cells that a
-spreadsheet might run, the examples, and lists with the letters of an earlier call. Then come COUNT pairs that are made of these by changed, lost and
+spreadsheet might run, the examples, registers of 400 and of 401 people, and lists with the letters of an earlier call. Then come COUNT pairs that are made of these by changed, lost and
 doubled bytes and letters. Each pair has a number, and the random bytes that prepare.py takes are those of the number: SHA-256 digests of "NUMBER 0",
 "NUMBER 1" and so on.
 
@@ -104,6 +104,12 @@ def cells_pair():
     return 'cells', tests.file_of(people, (';', 'utf-8', '\n', True)), 'category,name,min,max\n-size,-1,0,9\n-size,=2,0,9\n', []
 
 
+def large_pair(count, size):
+    """As many people as are counted, for a panel of this size."""
+    people = 'name,gender\n' + ''.join(f'n{number},male\n' for number in range(count))
+    return f'{count} people', people, tests.QUOTAS, ['--title', 'x', '--size', str(size)]
+
+
 def list_of(rows, layout=(',', 'utf-8', '\n', False)):
     return tests.file_of([tests.LISTED, *rows], layout)
 
@@ -145,7 +151,7 @@ def known_pairs(seed):
         for people, quotas, words, sentence in cases:
             if '--letters' not in words:
                 yield f'{kind}: {sentence}', people, quotas, words, None
-    for pair in (*whole_pairs(seed), cells_pair()):
+    for pair in (*whole_pairs(seed), cells_pair(), large_pair(400, 200), large_pair(401, 1000)):
         yield *pair, None
     example = [tests.content(os.path.join(TOP, 'examples', name)) for name in ('people.csv', 'quotas.csv', 'letters.csv')]
     words = ['--household', 'Street,Postcode', '--title', 'Town assembly', '--size', '4']

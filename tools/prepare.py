@@ -21,7 +21,8 @@ Into the folder of --out go new files; a file that is there is never overwritten
     letters.csv      who has which id and key, with every column of PEOPLE, for the office's own drawer. It is written as PEOPLE is, but for an
                      apostrophe before what a spreadsheet might run as a formula
     letters-new.csv  with --letters: the rows of letters.csv who have a new id and key
-    charter.toml     for `sortition import-charter`, if --title and --size are given
+    charter.toml     for `sortition import-charter`, if --title and --size are given. With more than 400 people it says that the register takes
+                     up to 4,000
 
 With --letters, the letters.csv of an earlier call, who is in it keeps id, key and the household's code: `letters.py` says how people are found.
 A row of it whose person isn't among the people any more stays at the end of letters.csv, so that its id is never given to another one.
@@ -46,9 +47,11 @@ from sheets import (Hopeless, Remarks, Table, answered, column_of, csv_text, fol
                     look_of, near, read_table, rows_named, unlike, why_not_a_name, write_all)
 
 KEY_LETTERS = '3479acdefhjkmnprtwxy'   # no two of these look alike
-MOST_PEOPLE, MOST_CATEGORIES, MOST_VALUES, MOST_MEMBERS = 400, 20, 50, 200   # the office's limits
+MOST_PEOPLE, MOST_CATEGORIES, MOST_VALUES, MOST_MEMBERS = 4000, 20, 50, 1000  # the office's limits
+USUAL_PEOPLE, USUAL_MEMBERS = 400, 200  # the same, if the charter has no `volunteers`
 CROWD = 6                              # so many people at one address are rather a house than a household
 CHARTER = '# What the assembly is called, and how many members its panel has.\ntitle = {}\nsize = {}\n'
+LARGE = f'# How many rows the register takes.\nvolunteers = {MOST_PEOPLE}\n'
 
 # How headings of an address are spelled, without blanks and signs: those of a home, those of a place, and a number right behind a street.
 HOME_HEADING = re.compile('(home|postal|full)?(street|address|strasse|adresse|anschrift|ulice|adresa|rue|calle|via|indirizzo)(name|line)?[0-9]*'
@@ -434,7 +437,7 @@ def columns_asked(text: str) -> List[str]:
 
 def size_asked(text: str) -> int:
     """The number of a panel's members."""
-    if not re.fullmatch('[0-9]{1,3}', text) or not 1 <= int(text) <= MOST_MEMBERS:
+    if not re.fullmatch('[0-9]{1,4}', text) or not 1 <= int(text) <= MOST_MEMBERS:
         raise argparse.ArgumentTypeError(f'{text!r} is no number from 1 to {MOST_MEMBERS}')
     return int(text)
 
@@ -457,7 +460,7 @@ def words_of(words: Sequence[str]) -> argparse.Namespace:
     parser.add_argument('--name', help='the columns of a name (else those whose heading ends in "name")', **columns)
     parser.add_argument('--email', help='the columns of an e-mail (else those with "mail" in the heading)', **columns)
     parser.add_argument('--title', help='what the assembly is called, for charter.toml')
-    parser.add_argument('--size', type=size_asked, help=f'how many members a panel has, 1 to {MOST_MEMBERS}')
+    parser.add_argument('--size', type=size_asked, help=f'how many members a panel has, 1 to {USUAL_MEMBERS}, or to {MOST_MEMBERS} with more than {USUAL_PEOPLE} people')
     parser.add_argument('--letters', metavar='OLD', help='the letters.csv of an earlier call: who is in it keeps id and key')
     parser.add_argument('--same', metavar='ROW=ID,..', type=same_asked, default=[], help='rows of PEOPLE who have these ids in OLD')
     parser.add_argument('--out', metavar='FOLDER', default='office', help='where the files go (default: office)')
@@ -476,13 +479,15 @@ def uses_of(table: Table, categories: Categories, asked: argparse.Namespace) -> 
     return Uses(names, home, mails, [column_of(table, category, 'which is a category of the quotas') for category in categories])
 
 
-def charter_text(asked: argparse.Namespace, remarks: Remarks) -> Optional[str]:
-    """The text of charter.toml, or None if not all of it is given."""
+def charter_text(asked: argparse.Namespace, people: int, remarks: Remarks) -> Optional[str]:
+    """The text of charter.toml for so many people, or None if not all of it is given."""
     if asked.title is None or asked.size is None:
         tell = remarks.note if asked.title is asked.size is None else remarks.say
         tell('charter.toml isn\'t made: that takes --title and --size')
         return None
-    return CHARTER.format(json.dumps(asked.title, ensure_ascii=False), asked.size)
+    if people <= USUAL_PEOPLE and asked.size > USUAL_MEMBERS:
+        raise Hopeless(f'the size is {asked.size}, and with {people} people a panel has at most {USUAL_MEMBERS} members')
+    return CHARTER.format(json.dumps(asked.title, ensure_ascii=False), asked.size) + LARGE * (people > USUAL_PEOPLE)
 
 
 def prepare(asked: argparse.Namespace, remarks: Remarks) -> List[str]:
@@ -508,10 +513,10 @@ def prepare(asked: argparse.Namespace, remarks: Remarks) -> List[str]:
     lines = [f'rules.csv: categories {len(categories)}, values {len(rules)}',
              f'register.csv: people {len(people)} of {len(table.rows)}, households {len({own.household for own in owns.values()} - {""})}',
              *lines_about_letters(people, before)]
-    charter = charter_text(asked, remarks)
+    charter = charter_text(asked, len(people), remarks)
     if charter is not None:
         texts['charter.toml'] = charter
-        lines.append(f'charter.toml: title {asked.title!r}, size {asked.size}')
+        lines.append(f'charter.toml: title {asked.title!r}, size {asked.size}' + f', volunteers {MOST_PEOPLE}' * (len(people) > USUAL_PEOPLE))
     write_all(asked.out, texts)
     return [os.path.join(asked.out, line) for line in lines]
 

@@ -57,7 +57,8 @@ function isSeat(it) {
 }
 
 function isDraw(it) {
-  return isText(it.digits) && isText(it.seal) && isText(it.ticket) && Array.isArray(it.panel) && it.panel.every(isText);
+  const tickets = it.tickets === undefined || isText(it.tickets);
+  return isText(it.digits) && isText(it.seal) && isText(it.ticket) && tickets && Array.isArray(it.panel) && it.panel.every(isText);
 }
 
 const LATER = "Please try again later.";
@@ -115,7 +116,9 @@ function labelled(label, value) {
 function itemsOfDraw(seal, { status, draw }) {
   if (status === 404) return [element("li", "This round is not drawn yet.")];
   if (draw === null) return [element("li", `Whether this round is drawn can't be said now. ${trouble(status)}`)];
-  const items = [labelled("Digits of the dice", draw.digits), labelled("Ticket", draw.ticket), element("li", `Drawn: ${draw.panel.join(", ")}`)];
+  const items = [labelled("Digits of the dice", draw.digits), labelled("Ticket", draw.ticket)];
+  if (draw.tickets !== undefined) items.push(labelled("Drawn in a round number of tickets", draw.tickets));
+  items.push(element("li", `Drawn: ${draw.panel.join(", ")}`));
   if (seal !== null && draw.seal !== seal) items.push(element("li", "The seal of the draw is not that of this lottery. Please tell the office."));
   return items;
 }

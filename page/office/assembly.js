@@ -83,7 +83,7 @@ function checkRound(call, assembly, round, place) {
   const isOfPeople = assembly.people.length === ids.length && assembly.people.every(person => ids.includes(person.id));
   if (!isOfPeople) throw new Error('the pool has other people than the letters');
   if (place > 0) checkFollows(call, assembly.rounds[place - 1], round);
-  else if (isForOffice(ids.length, assembly.size) && poolOfFiles(call, assembly.texts) !== round.pool) throw new Error('the pool isn’t that of the office’s files');
+  else if (poolOfFiles(call, assembly.texts) !== round.pool) throw new Error('the pool isn’t that of the office’s files');
   if (!round.proof) {
     if (round.isDrawn || round.isPublished) throw new Error('it is drawn or published, and has no proof');
     return;

@@ -24,9 +24,10 @@ async function setAssembly(other) {
   stopLongCall();
   assembly = other;
   drawing = null;
+  part('save').disabled = !assembly.rounds.length;
   setChanged();
   showMade();
-  hideSections('lottery', 'none', 'draw', 'next');
+  hideSections('lottery', 'tickets', 'none', 'draw', 'next');
   part('picture').hidden = true;
   part('find').disabled = false;
   for (const id of ['lottery-state', 'lottery-found', 'none-state', 'panel', 'draw-state', 'next-state']) part(id).replaceChildren();
@@ -36,6 +37,7 @@ async function setAssembly(other) {
   const free = assembly.size - seated;
   const seats = free === 1 ? 'one seat is' : `${free} seats are`;
   part('round').textContent = assembly.rounds.length === 1 ? 'Round 1.' : `Round ${assembly.rounds.length}: ${seated} members keep their seats, and ${seats} free.`;
+  part('take-back').hidden = assembly.rounds.length === 1 || round.isPublished;
   openSection('lottery');
   if (round.proof) await showLottery();
   if (round.isDrawn) {
@@ -105,6 +107,7 @@ function beginOffice() {
     if (body) frame.height = body.offsetHeight + frame.offsetHeight - frame.clientHeight;
   };
   frame.addEventListener('load', fit);
+  frame.parentElement.addEventListener('toggle', fit);
   addEventListener('resize', fit);
 }
 

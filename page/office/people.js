@@ -3,7 +3,7 @@
 // The people of a city's first table: which columns have a use, who goes into the register, and who may be there twice. A person has the number
 // of the row, its cells, and the answers in the order of the categories. What `tools/prepare.py` says of people, this says too.
 
-const MOST_PEOPLE = 400;                     // the office's limit
+const MOST_PEOPLE = 4000;                    // the office's limit
 
 // How headings of an address are spelled, without blanks and signs: those of a home, those of a place, and a number right behind a street.
 const HOME_HEADING = new RegExp('^(?:(home|postal|full)?(street|address|strasse|adresse|anschrift|ulice|adresa|rue|calle|via|indirizzo)(name|line)?[0-9]*'
@@ -134,11 +134,11 @@ function withoutRepeats(table, people, uses, remarks) {
   return kept;
 }
 
-// The people who go into the register: at least one, and at most `most`.
-function keptPeople(table, categories, uses, most, remarks) {
+// The people who go into the register: at least one, and as many as the office takes.
+function keptPeople(table, categories, uses, remarks) {
   const people = withoutRepeats(table, peopleOf(table, categories, uses.answers, remarks), uses, remarks);
-  if (people.length < 1 || people.length > most) {
-    throw new Hopeless(`${table.name}: ${people.length} people are left, and the register takes 1 to ${most}`);
+  if (people.length < 1 || people.length > MOST_PEOPLE) {
+    throw new Hopeless(`${table.name}: ${people.length} people are left, and the register takes 1 to ${MOST_PEOPLE}`);
   }
   return people;
 }

@@ -1,7 +1,7 @@
 'use strict';
 
-// The texts of pools: of a first round that is too large for an office, and with other bounds. docs/FORMATS.md has the form. The proved code reads
-// each text, and refuses one that is no pool.
+// The texts of pools: what they say, and with other bounds. docs/FORMATS.md has the form. The proved code reads each text, and refuses one that is no
+// pool.
 
 // The lines of a text, in fields.
 function linesOf(text) {
@@ -10,35 +10,6 @@ function linesOf(text) {
 
 function textOfLines(lines) {
   return lines.map(fields => `${fields.join('\t')}\n`).join('');
-}
-
-const MOST_MEMBERS = 200;                    // of a panel, the office's limit
-
-// The limits of every pool. One that an office can't have is written in version 3.
-const MOST_PEOPLE_OF_TEXTS = 4000, MOST_MEMBERS_OF_TEXTS = 1000;
-
-// True if an office of the program takes so many people, and a panel of so many members.
-function isForOffice(people, members) {
-  return people <= MOST_PEOPLE && members <= MOST_MEMBERS;
-}
-
-// The pool of the first round, of a size and of what `madeFiles` made.
-function firstPool({ categories, people, owns }, size) {
-  const byRow = new Map(people.map(person => [person.row, person]));
-  const members = [...owns].map(([row, own]) => ({ ...own, answers: byRow.get(row).answers }));
-  const homes = members.filter(member => member.household !== '');
-  const bounds = [...categories].flatMap(([category, values]) => [
-    ['category', category],
-    ...[...values].map(([value, [least, most]]) => ['value', value, least, most]),
-  ]);
-  return textOfLines([
-    ['pool', !isForOffice(members.length, size) ? 3 : homes.length ? 2 : 1],
-    ['size', size],
-    ...bounds,
-    ...members.map(member => ['volunteer', member.id, ...member.answers]),
-    ...homes.map(member => ['household', member.id, member.household]),
-    ['end'],
-  ]);
 }
 
 // What a pool says: its size; its categories, each with a name and values, each with a name and bounds; the ids; and the standings of those who are

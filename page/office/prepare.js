@@ -3,7 +3,10 @@
 // The office's files of the two tables that a city has: the rules, the register, the letters and the charter. For the same tables and the same
 // random bytes they are those of `tools/prepare.py`, and so is what is said. Nothing of this is proved. The program's own calls read the files.
 
+const MOST_MEMBERS = 1000;                        // the office's limit
+const USUAL_PEOPLE = 400, USUAL_MEMBERS = 200;    // the limits if the charter has no `volunteers`
 const CHARTER_HEAD = '# What the assembly is called, and how many members its panel has.\n';
+const LARGE = `# How many rows the register takes.\nvolunteers = ${MOST_PEOPLE}\n`;
 
 // The text of register.csv, in the order of what the office gives.
 function registerText(people, categories, owns, hasHouseholds) {
@@ -37,18 +40,22 @@ function linesAboutLetters(people, before) {
   return lines;
 }
 
-// The text of charter.toml, or null if not all of it is given.
-function charterText({ title, size }, remarks) {
-  if (title !== null && size !== null) return `${CHARTER_HEAD}title = ${JSON.stringify(title)}\nsize = ${size}\n`;
-  const words = 'charter.toml isn\'t made: that takes --title and --size';
-  if (title === null && size === null) remarks.note(words);
-  else remarks.say(words);
-  return null;
+// The text of charter.toml for so many people, or null if not all of it is given.
+function charterText({ title, size }, people, remarks) {
+  if (title === null || size === null) {
+    const words = 'charter.toml isn\'t made: that takes --title and --size';
+    if (title === size) remarks.note(words);
+    else remarks.say(words);
+    return null;
+  }
+  if (people <= USUAL_PEOPLE && size > USUAL_MEMBERS) {
+    throw new Hopeless(`the size is ${size}, and with ${people} people a panel has at most ${USUAL_MEMBERS} members`);
+  }
+  return `${CHARTER_HEAD}title = ${JSON.stringify(title)}\nsize = ${size}\n${people > USUAL_PEOPLE ? LARGE : ''}`;
 }
 
 // Makes the files of the people, the quotas and the letters of an earlier call, each a name with bytes; the letters may be null. `asked` has the columns
-// of an address, of a name and of an e-mail, which rows have which ids of the letters, a title, a size and the most people; lists may be empty, and title
-// and size null. Throws Hopeless if nothing can be made. Returns the texts by name, a line for each that says what it has, and what else the page shows:
+// of an address, of a name and of an e-mail, which rows have which ids of the letters, a title and a size; lists may be empty, and title and size null. Throws Hopeless if nothing can be made. Returns the texts by name, a line for each that says what it has, and what else the page shows:
 // the table of the people, the people and what the office gave them.
 function madeFiles(files, asked, remarks, bytes) {
   const whyNot = asked.title === null ? null : whyNotAName(asked.title);
@@ -61,7 +68,7 @@ function madeFiles(files, asked, remarks, bytes) {
   }
   const uses = usesOf(table, categories, asked);
   lookForAddresses(table, categories, uses.address, remarks);
-  const people = keptPeople(table, categories, uses, asked.most ?? MOST_PEOPLE, remarks);
+  const people = keptPeople(table, categories, uses, remarks);
   lookAtQuotas(quotas.name, categories, people, asked.size, remarks);
   const before = beforeOf(files.letters, table, people, categories, uses, asked.same ?? [], remarks);
   const owns = ownsOf(table, people, uses.address, before, remarks, bytes);
@@ -79,10 +86,10 @@ function madeFiles(files, asked, remarks, bytes) {
     `register.csv: people ${people.length} of ${table.rows.length}, households ${households.size}`,
     ...linesAboutLetters(people, before),
   ];
-  const charter = charterText(asked, remarks);
+  const charter = charterText(asked, people.length, remarks);
   if (charter !== null) {
     texts['charter.toml'] = charter;
-    lines.push(`charter.toml: title ${quoted(asked.title)}, size ${asked.size}`);
+    lines.push(`charter.toml: title ${quoted(asked.title)}, size ${asked.size}${people.length > USUAL_PEOPLE ? `, volunteers ${MOST_PEOPLE}` : ''}`);
   }
   return { texts, lines, table, categories, people, owns };
 }

@@ -61,9 +61,14 @@ function openSection(id) {
   const section = part(id);
   if (!section.hidden) return;
   section.hidden = false;
-  const heading = section.querySelector('h2');
+  goTo(section.querySelector('h2'));
+}
+
+// Goes to a heading, so that what stands below it is seen too.
+function goTo(heading) {
   heading.tabIndex = -1;
-  heading.focus();
+  heading.focus({ preventScroll: true });
+  heading.scrollIntoView({ block: 'center' });
 }
 
 function hideSections(...ids) {

@@ -8,36 +8,12 @@ let drawing = null;
 async function openDraw() {
   const round = lastRound();
   const call = await checker;
-  drawing = { ...sealedBy(call, round), dice: 0 };
+  const sealed = sealedBy(call, round);
+  const { tickets, dice } = ticketsOf(call, sealed.bundle, round.tickets);
+  drawing = { ...sealed, dice };
   openSection('draw');
-  setDice(call, round);
-  showTickets(round);
+  part('how-many').textContent = `There ${tickets === '1' ? 'is one ticket' : `are ${tickets} tickets`}. Throw ${dice === 1 ? '1 die with ten sides, and type its digit' : `${dice} dice with ten sides, one after the other, and type each digit`}.`;
   showDigits(call, round, drawnBy(call, drawing, round));
-}
-
-// Asks how many dice are thrown at once.
-function setDice(call, round) {
-  const text = round.tickets ? textTold(call, 'tell_short_dice', round.tickets, drawing.bundle) : textTold(call, 'tell_dice', drawing.bundle);
-  const [digits, tickets] = linesOf(text);
-  drawing.dice = Number(digits[1]);
-  part('how-many').textContent = `There are ${tickets[1]} tickets. Throw ${drawing.dice} ${drawing.dice === 1 ? 'die' : 'dice'} with ten sides, and type their digits in the order that was announced.`;
-}
-
-// Ticks the number of tickets that the round has.
-function showTickets({ tickets }) {
-  for (const input of document.querySelectorAll('input[name=tickets]')) input.checked = Number(input.value) === tickets;
-}
-
-async function chooseTickets(tickets) {
-  const round = lastRound();
-  if (round.digits !== '') return;
-  try {
-    setDice(await checker, { ...round, tickets });
-    round.tickets = tickets;
-    setChanged();
-  } finally {
-    showTickets(round);
-  }
 }
 
 // Changes the digits of the open draw by a function, and shows what they draw. If memory is wanting, they stay.
@@ -66,10 +42,11 @@ function takeBackDigit() {
 function showDigits(call, round, { fields, panel, text }) {
   const groups = round.digits.match(new RegExp(`.{1,${drawing.dice}}`, 'g')) ?? [];
   part('digits').textContent = groups.join(' ') || '–';
-  for (const input of document.querySelectorAll('input[name=tickets]')) input.disabled = round.digits !== '';
   part('back').disabled = round.digits === '' || round.isDrawn;
   part('count').hidden = !panel || round.isDrawn;
+  const hadFocus = part('keys').contains(document.activeElement);
   for (const button of document.querySelectorAll('#keys button')) button.disabled = Boolean(panel);
+  if (panel && hadFocus) part('draw-title').focus();
   const rest = round.digits.length % drawing.dice;
   if (panel) say(part('draw-state'), `Ticket ${fields[1]}`, [round.isDrawn ? 'This panel is drawn.' : 'Read the digits aloud once more. Then let them count.'], true);
   else if (fields[1] !== 'MoreDigits') say(part('draw-state'), 'No draw', [text]);
@@ -90,6 +67,7 @@ async function countDraw() {
   showDigits(call, round, drawn);
   openSection('next');
   showNext();
+  goTo(part('panel').querySelector('h3'));
 }
 
 function peopleWith(ids) {
@@ -148,6 +126,14 @@ async function beginNextRound() {
   await setAssembly(assembly);
 }
 
+// Takes the last round back, of which nothing is published, and goes to the members of the round before.
+async function takeRoundBack() {
+  if (assembly.rounds.length === 1 || lastRound().isPublished) return;
+  assembly.rounds.pop();
+  await setAssembly(assembly);
+  goTo(part('next-title'));
+}
+
 function beginDraw() {
   part('keys').replaceChildren(...'1234567890'.split('').map(digit => {
     const button = element('button', digit, { type: 'button' });
@@ -159,8 +145,8 @@ function beginDraw() {
   part('hall').addEventListener('click', () => {
     part('hall').ariaPressed = String(part('draw').classList.toggle('hall'));
   });
-  for (const input of document.querySelectorAll('input[name=tickets]')) input.addEventListener('change', () => chooseTickets(Number(input.value)));
   part('begin-next').addEventListener('click', beginNextRound);
+  part('take-back').addEventListener('click', takeRoundBack);
   part('draw').addEventListener('keydown', event => {
     if (event.target.tagName === 'INPUT' || event.ctrlKey || event.altKey || event.metaKey) return;
     if (/^[0-9]$/.test(event.key)) addDigit(event.key);

@@ -5,29 +5,29 @@
 // The limits of the commands `prove`, `why` and `loosen-by-proof` without words.
 const PIVOTS = 1000000, NODES = 200000;
 
-const ALL_PUBLISHED = ['The bundle: the lottery with every panel', 'The proof: anybody can add it up', 'The seal: it says that the bundle stays as it is'];
+const ALL_PUBLISHED = ['The bundle: the lottery with every panel', 'The proof: anybody can add it up', 'The seal: it says that the bundle stays as it is', 'The number of tickets'];
 
-// Finds the lottery of the round, with a proof. One that is published stays.
+const ticketChoices = () => [...document.querySelectorAll('input[name=tickets]')];
+
+// Finds the lottery of the round, with a proof. One that is published stays, and a search that is running goes on.
 async function findLottery() {
   const round = lastRound();
-  if (round.isPublished) return;
+  if (round.isPublished || running) return;
   round.proof = '';
-  hideSections('none', 'draw', 'next');
+  hideSections('tickets', 'none', 'draw', 'next');
   part('lottery-found').replaceChildren();
   try {
     const { text, seconds } = await longCall(await moduleBytes, 'tell_prove', [PIVOTS, NODES, round.pool], showRunning(part('lottery-state'), 'Looking for the lottery'));
-    if (round !== lastRound()) return;
-    await takeProof(round, text, seconds);
+    if (round === lastRound()) await takeProof(round, text, `It took ${seconds.toFixed(1)} seconds, and the proof was checked.`);
   } catch (error) {
     tellFailed(part('lottery-state'), error);
   }
 }
 
-// Takes what `prove` answered.
-async function takeProof(round, text, seconds) {
+// Takes what `prove` answered. `took` says what it took.
+async function takeProof(round, text, took) {
   const call = await checker;
   const verdict = textTold(call, 'tell_verify', text).trimEnd();
-  const took = `It took ${seconds.toFixed(1)} seconds, and the proof was checked.`;
   if (verdict === 'valid') {
     round.proof = text;
     say(part('lottery-state'), 'The lottery is found', [
@@ -39,10 +39,50 @@ async function takeProof(round, text, seconds) {
     say(part('lottery-state'), 'No panel meets all quotas', [took]);
     await showWhy(round);
   } else if (text.startsWith('spent')) {
-    say(part('lottery-state'), 'No lottery was found', ['The search is used up. The program at a desk can look longer: sortition prove, with --pivots and --nodes.']);
+    sayNotFound(round, 'The search of this page is used up.');
   } else {
     say(part('lottery-state'), 'The pool can’t be read', [text]);
   }
+}
+
+// Says that no lottery was found. The program at a desk can look longer, and its proof can be chosen.
+function sayNotFound(round, why) {
+  const file = element('input', '', { type: 'file', id: 'proof-file', accept: '.proof' });
+  file.addEventListener('change', () => file.files.length && takeProofFile(round, file.files[0]));
+  say(part('lottery-state'), 'No lottery was found', [why, 'The program at a desk can look longer: save the pool, give it to sortition prove, with --pivots and --nodes, and choose the proof that it prints.'], false,
+    saveButtons([`round-${assembly.rounds.length}.pool`], () => round.pool),
+    element('label', 'The proof that the program printed', { htmlFor: 'proof-file' }), file);
+}
+
+async function takeProofFile(round, file) {
+  const text = await file.text();
+  const isValid = textTold(await checker, 'tell_verify', text).startsWith('valid');
+  if (isValid && poolTextIn(text) === round.pool) await takeProof(round, text, 'The proof was checked.');
+  else sayNotFound(round, `${file.name} is no proof of this pool.`);
+}
+
+// How many tickets there are with one of the choices, and how many dice are thrown for one.
+function ticketsOf(call, bundle, choice) {
+  const [dice, tickets] = linesOf(choice ? textTold(call, 'tell_short_dice', choice, bundle) : textTold(call, 'tell_dice', bundle));
+  return { tickets: BigInt(tickets[1]).toLocaleString('en'), dice: Number(dice[1]) };
+}
+
+// Shows how many tickets can be chosen, until the lottery is published.
+function showTickets(call, bundle, round) {
+  for (const input of ticketChoices()) {
+    const choice = Number(input.value);
+    const { tickets, dice } = ticketsOf(call, bundle, choice);
+    input.checked = choice === round.tickets;
+    input.disabled = round.isPublished;
+    input.nextElementSibling.textContent = `${choice ? `${tickets} tickets` : `all ${tickets} tickets of the lottery, exactly as fair`}: ${dice} ${dice === 1 ? 'die' : 'dice'} with ten sides`;
+  }
+  part('tickets').hidden = false;
+}
+
+function chooseTickets(choice) {
+  const round = lastRound();
+  if (!round.isPublished) round.tickets = choice;
+  setChanged();
 }
 
 // Shows the lottery of the last round: its picture, and what to publish.
@@ -51,7 +91,9 @@ async function showLottery() {
   const call = await checker;
   const { bundle, seal } = sealedBy(call, round);
   part('find').disabled = round.isPublished;
+  part('take-back').hidden = assembly.rounds.length === 1 || round.isPublished;
   part('frame').srcdoc = textTold(call, 'tell_page', bundle);
+  showTickets(call, bundle, round);
   const name = `round-${assembly.rounds.length}`;
   const files = { [`${name}.bundle`]: () => bundle, [`${name}.proof`]: () => round.proof, [`${name}.html`]: () => textTold(call, 'tell_page', bundle) };
   const ticks = ALL_PUBLISHED.map(words => {
@@ -89,7 +131,7 @@ function boundsGiven() {
   for (const row of part('bounds').querySelectorAll('tr[data-value]')) {
     const [category, value] = [row.dataset.category, row.dataset.value];
     if (!bounds.has(category)) bounds.set(category, new Map());
-    bounds.get(category).set(value, [...row.querySelectorAll('input')].map(input => Number(input.value)));
+    bounds.get(category).set(value, [...row.querySelectorAll('input')].map(input => input.valueAsNumber));
   }
   return bounds;
 }
@@ -138,12 +180,11 @@ function showLoosened(round, text) {
 
 // The pool and the files of the office with other bounds. Those of the first round are made anew.
 function withBounds(call, round, bounds) {
-  const pool = poolWithBounds(round.pool, bounds);
-  const { rounds, people, size, texts } = assembly;
-  if (rounds.length > 1) return { pool, texts };
-  const rules = poolIn(pool).categories.flatMap(({ name, values }) => values.map(value => [name, value.name, value.least, value.most]));
+  const { rounds, texts } = assembly;
+  if (rounds.length > 1) return { pool: poolWithBounds(round.pool, bounds), texts };
+  const rules = [...bounds].flatMap(([category, values]) => [...values].map(([value, its]) => [category, value, ...its]));
   const others = { ...texts, 'rules.csv': csvText([['category', 'name', 'min', 'max'], ...rules]) };
-  return { pool: isForOffice(people.length, size) ? poolOfFiles(call, others) : pool, texts: others };
+  return { pool: poolOfFiles(call, others), texts: others };
 }
 
 // Takes the bounds of the form.
@@ -167,6 +208,7 @@ async function takeBounds() {
 
 function beginLottery() {
   part('find').addEventListener('click', findLottery);
+  for (const input of ticketChoices()) input.addEventListener('change', () => chooseTickets(Number(input.value)));
   part('bounds-form').addEventListener('submit', event => {
     event.preventDefault();
     takeBounds();

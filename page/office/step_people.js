@@ -63,7 +63,8 @@ async function takeFile(file, kind) {
   const its = kind ?? (areQuotas(read) ? 'quotas' : areLetters(read) ? 'letters' : 'people');
   if (its === 'letters') setLetters(read);
   else given[its] = read;
-  part(`${its}-name`).textContent = `${read.name}, ${read.bytes.length.toLocaleString('en')} bytes`;
+  const count = tableIfRead(read)?.rows.length;
+  part(`${its}-name`).textContent = `${read.name}: ${count === undefined ? 'no table' : `${count.toLocaleString('en')} ${count === 1 ? 'row' : 'rows'}`}`;
   showColumns();
   forgetSame();
   forgetMade();
@@ -125,9 +126,11 @@ function showColumns() {
   }));
 }
 
-// Takes off what was made of other files or words.
+// Takes off what was made of other files or words, and what was missing.
 function forgetMade() {
   if (assembly.rounds.some(round => round.isPublished)) return;
+  for (const words of part('people-form').querySelectorAll('.wrong')) words.textContent = '';
+  for (const field of part('people-form').querySelectorAll('[aria-invalid]')) field.removeAttribute('aria-invalid');
   part('remarks').replaceChildren();
   part('made').replaceChildren();
 }
@@ -165,29 +168,32 @@ function showRemarks({ isMade, remarks, reasons = [] }) {
   else say(part('remarks'), 'The files are made', [], true, ...parts);
 }
 
-// What the form asks for, with words for what is missing.
+// What the form asks for, with words for what is missing, which stand beside the fields too.
 function askedByForm() {
-  const missing = [];
-  if (!given.people) missing.push('Choose the file of the people.');
-  if (!given.quotas) missing.push('Choose the file of the quotas.');
   const title = part('title').value.trim();
-  if (!title) missing.push('Give the assembly a title.');
   const size = part('size').value.trim();
-  const isSize = /^[0-9]{1,4}$/.test(size) && Number(size) >= 1 && Number(size) <= MOST_MEMBERS_OF_TEXTS;
-  if (!isSize) missing.push(`Give the number of members of the panel, from 1 to ${MOST_MEMBERS_OF_TEXTS}.`);
-  const rights = { 'people-file': given.people, 'quotas-file': given.quotas, title, size: isSize };
-  for (const [id, isRight] of Object.entries(rights)) part(id).setAttribute('aria-invalid', String(!isRight));
+  const isSize = /^[0-9]{1,4}$/.test(size) && Number(size) >= 1 && Number(size) <= MOST_MEMBERS;
+  const fields = [
+    ['people-file', given.people, 'Choose the file of the people.'],
+    ['quotas-file', given.quotas, 'Choose the file of the quotas.'],
+    ['title', title, 'Give the assembly a title.'],
+    ['size', isSize, `Give the number of members of the panel, from 1 to ${MOST_MEMBERS.toLocaleString('en')}.`],
+  ];
+  for (const [id, isRight, words] of fields) {
+    part(id).setAttribute('aria-invalid', String(!isRight));
+    part(`${id}-wrong`).textContent = isRight ? '' : words;
+  }
+  const missing = fields.filter(([, isRight]) => !isRight).map(([, , words]) => words);
   const household = [...part('column-list').querySelectorAll('input:checked')].map(box => box.value);
   sameTold = [...part('same-list').querySelectorAll('input:checked')].map(box => [Number(box.dataset.row), box.dataset.id]);
-  return { missing, asked: { household, name: [], email: [], same: sameTold, title, size: Number(size), most: MOST_PEOPLE_OF_TEXTS } };
+  return { missing, asked: { household, name: [], email: [], same: sameTold, title, size: Number(size) } };
 }
 
-// The assembly of what was made, with its first round. The pool that an office can have is made of its files; a larger one is written here.
+// The assembly of what was made, with its first round.
 function assemblyOf(call, made, { title, size }) {
   const { table: { name, mark, delimiter, heading }, people, owns, texts } = made;
   const members = people.map(person => ({ ...owns.get(person.row), cells: person.cells.slice(0, heading.length) }));
-  const pool = isForOffice(people.length, size) ? poolOfFiles(call, texts) : firstPool(made, size);
-  return { ...newAssembly(), title, size, table: { name, mark, delimiter, heading }, people: members, texts, rounds: [newRound(pool)] };
+  return { ...newAssembly(), title, size, table: { name, mark, delimiter, heading }, people: members, texts, rounds: [newRound(poolOfFiles(call, texts))] };
 }
 
 // Makes the files of the office, and the first round. What is published stays as it is.
@@ -207,6 +213,7 @@ async function makeFiles() {
   showRemarks(made);
   showSame(made.remarks.said);
   if (made.isMade) await setAssembly(assemblyOf(await checker, made, asked));
+  if (made.remarks.said.length || !made.isMade) goTo(part('remarks').querySelector('.title'));
 }
 
 // Saves the letters. From now on whoever is in them keeps id and key, also if the tables are given anew.
@@ -220,15 +227,14 @@ function showMade() {
   if (!assembly.rounds.length) return;
   const { texts, people, size } = assembly;
   const letters = saveButton('letters.csv', saveLetters);
-  const others = isForOffice(people.length, size) ? ['register.csv', 'rules.csv', 'charter.toml'] : [];
   const fresh = texts['letters-new.csv'] ? ['letters-new.csv'] : [];
-  const words = fresh.map(() => 'letters-new.csv has those who are new: write letters to these alone.');
-  words.push(others.length ? 'The other files are for the program at a desk.'
-    : 'A store of the program takes at most 400 people and a panel of 200, so this assembly is kept in this page and its file alone.');
-  const buttons = [letters, ...[...fresh, ...others].map(name => saveButton(name, () => save(name, texts[name])))];
+  const others = [...fresh, 'register.csv', 'rules.csv', 'charter.toml'];
+  const words = fresh.map(() => 'letters-new.csv has those who are new: write letters to these alone. ');
+  const buttons = [letters, ...others.map(name => saveButton(name, () => save(name, texts[name])))];
   part('made').replaceChildren(
     element('p', `${assembly.title}: ${people.length} people, a panel of ${size}.`),
-    element('p', `letters.csv says who has which id and key. Write the letters of it, and keep it in the drawer. ${words.join(' ')}`),
+    element('p', `letters.csv says who has which id: what is published has the ids in place of names. Write everybody their id, and keep the file in the drawer. ${words.join('')}`),
+    element('p', 'The other files, and the keys, are only for the program at a desk.'),
     element('p', buttons, { className: 'buttons' }),
   );
 }

@@ -140,8 +140,9 @@ fn refused_line(alloc: Global, stage: usize, fault: &Fault) -> Result<Verdict, A
     Verdict::refused(alloc, stage, fault.reason(), &[fault.line()])
 }
 
-/// True if the stage's numbers are within reach.
-fn is_in_reach(stage: &Stage) -> bool
+/// True if the stage's numbers are within reach: its reach, which is the sum of the absolute values of its cap and weights, is at most
+/// 2^56.
+pub fn is_in_reach(stage: &Stage) -> bool
     ensures { result ≡ is_stage_in_reach stage.now }
 {
     let mut reach = stage.cap().unsigned_abs();

@@ -20,7 +20,8 @@ use Rattle.command_meanings.specs.CheckCover.{CheckCoverMeans}
 use Rattle.command_meanings.specs.Draw.{DrawMeans, drawn_lines, refused_draw_line, ticket_line, wrong_total_line}
 use Rattle.command_meanings.specs.ItsBundle.{BundleMeans, no_lottery_line}
 use Rattle.command_meanings.specs.Lines.{panel_line}
-use Rattle.command_meanings.specs.Seal.{SealMeans, bundle_seal}
+use Rattle.command_meanings.specs.Seal.{SealMeans}
+use Rattle.define_draws.specs.Lines.{bundle_seal}
 use Rattle.command_meanings.specs.Verify.{VerifyMeans}
 use Rattle.command_shell.specs.BundlesOrProofs.{bundle_in}
 use Rattle.command_meanings.specs.Page.{DrawnPageMeans, DrawnPageOfBundle, PageMeans, PageOfBundle, about}

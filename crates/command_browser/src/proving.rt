@@ -1,17 +1,16 @@
 //! `prove` by its engine alone, which starts no threads. `selection` has the call.
 
 ghost use Rattle.std.specs.Prelude.{◌≡◌, IfOk};
-ghost use Rattle.command_proofs.specs.Proved.{IsValidOf, ending, proof_said};
+ghost use Rattle.command_proofs.specs.Proved.{IsValidOf};
 ghost use Rattle.command_shell.specs.Answers.{Stops, saying};
 ghost use Rattle.command_shell.specs.declared.status.Cause.TheVariants as cause;
 ghost use Rattle.define_pools.specs.Pool.{Pool as SeenPool};
-ghost use Rattle.proof_text.specs.Parts.{seen};
 ghost use Rattle.command_browser.specs.Proving.{ProvesByEngine, no_proof_line};
 
-use command_proofs::{Made, proof_within};
-use command_shell::{Answer, Cause, Command, Meaning, Printed};
+use command_proofs::{Made, proof_answer, proof_within};
+use command_shell::{Answer, Cause, Command, Meaning};
 use pool_model::Pool;
-use proof_text::{Parts, Proof, write_proof};
+use proof_text::Proof;
 use prove_limits::Budget;
 use std::alloc::{AllocError, Global};
 
@@ -56,26 +55,6 @@ fn valid_proof(alloc: Global, proof: &Proof) -> Result<Answer, AllocError>
 {
     proof.facts();
     proof_answer(alloc, proof)
-}
-
-/// Returns the answer with the text of a proof.
-fn proof_answer(alloc: Global, proof: &Proof) -> Result<Answer, AllocError>
-    ensures { IfOk result (λ answer. saying answer ≡ proof_said proof.now) }
-{
-    Ok(Answer::Prints {
-        printed: ending_of(proof.parts()),
-        text: write_proof(alloc, proof)?,
-    })
-}
-
-/// Returns how `prove` ends with a valid proof of these parts.
-fn ending_of(parts: &Parts) -> Printed
-    ensures { result ≡ ending (seen parts.now) }
-{
-    match parts {
-        Parts::Lottery(_, _) => Printed::Done,
-        Parts::NoPanel(_, _) => Printed::NoPanel,
-    }
 }
 
 /// Returns the answer that the engine makes no proof.

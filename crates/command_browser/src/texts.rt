@@ -1,11 +1,8 @@
 //! The texts that commands answer about some bytes: those that the shell's `call` prints if its source holds these bytes.
 
 ghost use Rattle.std.specs.Prelude.{◌≡◌, IfOk, IsUtf8, None, Some};
-ghost use Rattle.command_shell.specs.Answers.{Stops, bytes_of, saying};
-ghost use Rattle.command_shell.specs.declared.status.Cause.TheVariants.{Input};
+ghost use Rattle.command_shell.specs.Answers.{bytes_of, saying};
 ghost use Rattle.command_shell.specs.Formats.{bundle_format};
-ghost use Rattle.command_shell.specs.Lines.{input_line as words_of_input};
-ghost use Rattle.command_shell.specs.Subjects.{About};
 ghost use Rattle.command_meanings.specs.Draw.{DrawMeans};
 ghost use Rattle.command_meanings.specs.Question.{QuestionMeans};
 ghost use Rattle.command_meanings.specs.ShortDraw.{ShortDrawMeans};
@@ -17,11 +14,10 @@ ghost use Rattle.command_browser.specs.Told.{TextAbout, TextOf, WithTickets, Wit
 
 use command_bundles::{Draw, ShortDraw};
 use command_questions::{DrawnPage, InTickets, Question};
-use command_shell::{Answer, Cause, Command, Subject, input_line};
+use command_shell::{Answer, Command, answer_about};
 use short_tickets::TicketCount;
 use std::alloc::{AllocError, Global};
 use std::str;
-use text_lines::{TextFault, TextStop};
 
 /// The most bytes that an input may have.
 const INPUT_LIMIT: usize = 16_777_216;
@@ -182,27 +178,6 @@ pub(crate) fn text_of<C: Command>(
     }
     let answer = answer_about(alloc, command, bytes)?;
     Ok(text_in(answer))
-}
-
-/// Returns the command's answer about the value that `bytes` spell, or the line of their first fault.
-fn answer_about<C: Command>(alloc: Global, command: &C, bytes: &[u8]) -> Result<Answer, AllocError>
-    ensures { IfOk result (λ answer. About C.About.format (C.means command.now) bytes.now (saying answer)) }
-{
-    match C::About::read(alloc, bytes) {
-        Ok(about) => command.answer(alloc, &about, bytes),
-        Err(TextStop::Fault(fault)) => at_fault(alloc, fault),
-        Err(TextStop::OutOfMemory) => Err(AllocError),
-    }
-}
-
-/// Returns the answer for a text whose first fault is `fault`.
-fn at_fault(alloc: Global, fault: TextFault) -> Result<Answer, AllocError>
-    ensures { IfOk result (λ answer. saying answer ≡ Stops Input (words_of_input (record { line = fault.line; kind = fault.kind }))) }
-{
-    Ok(Answer::Stops {
-        cause: Cause::Input,
-        line: input_line(alloc, fault.line, fault.kind)?,
-    })
 }
 
 /// Returns the text or the line of an answer.

@@ -17,7 +17,7 @@ use Rattle.command_shell.specs.declared.status.Printed.TheVariants.{Done}
 use Rattle.command_shell.specs.declared.status.Cause.TheVariants.{Input, Rule}
 use Rattle.command_shell.specs.Answers.{HasOneAnswer, IsRight, Prints, Saying, Stops}
 use Rattle.command_meanings.specs.Draw.{drawn_lines, refused_draw_line}
-use Rattle.command_meanings.specs.Seal.{bundle_seal}
+use Rattle.define_draws.specs.Lines.{bundle_seal}
 use Rattle.command_meanings.specs.ShortDraw.{ShortDrawMeans}
 use Rattle.command_bundles.specs.Stopped.{TellsStop}
 use Rattle.command_bundles.proofs.Members.{panel_in_range}

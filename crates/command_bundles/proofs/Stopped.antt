@@ -11,7 +11,7 @@ use Rattle.sealed_draw.specs.declared.drawn.DrawStop.TheVariants.{SealDiffers, B
 use Rattle.command_shell.specs.declared.status.Cause.TheVariants.{Rule}
 use Rattle.command_shell.specs.Answers.{IsRight, Saying, Stops}
 use Rattle.command_meanings.specs.Draw.{DrawMeans, refused_draw_line}
-use Rattle.command_meanings.specs.Seal.{bundle_seal}
+use Rattle.define_draws.specs.Lines.{bundle_seal}
 use Rattle.command_bundles.specs.Stopped.{TellsStop}
 
 is_right : (bundle : Bundle) (given digits : List ℕ) (answer : Saying) (refused : Refused) → TotalAgrees bundle.answer.lottery →

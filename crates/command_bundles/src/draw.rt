@@ -6,11 +6,11 @@ ghost use Rattle.command_shell.specs.Answers.{IsRight, saying};
 ghost use Rattle.command_meanings.specs.Draw.{DrawMeans};
 ghost use Rattle.command_bundles.specs.Stopped.{TellsStop};
 
-use crate::lines::{drawn_lines, number_rule_line, seal_rule_line};
+use crate::lines::{number_rule_line, seal_rule_line};
 use bundle_text::Bundle;
 use command_meanings::draw_has_one_answer;
 use command_shell::{Answer, Cause, Command, Meaning, Printed, WRONG_TOTAL, input_line};
-use sealed_draw::{DrawStop, draw, seal, total_agrees};
+use sealed_draw::{DrawStop, draw, drawn_lines, seal, total_agrees};
 use std::alloc::{AllocError, Global};
 
 /// `draw`: prints the panel that is drawn from a bundle.

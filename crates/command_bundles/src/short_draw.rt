@@ -7,10 +7,9 @@ ghost use Rattle.command_shell.specs.Answers.{HasOneAnswer, IsRight, saying};
 ghost use Rattle.command_meanings.specs.ShortDraw.{ShortDrawMeans};
 
 use crate::draw::stopped;
-use crate::lines::drawn_lines;
 use bundle_text::Bundle;
 use command_shell::{Answer, Cause, Command, Meaning, Printed, WRONG_TOTAL, input_line};
-use sealed_draw::{seal, total_agrees};
+use sealed_draw::{drawn_lines, seal, total_agrees};
 use short_tickets::{TicketCount, draw_short};
 use std::alloc::{AllocError, Global};
 

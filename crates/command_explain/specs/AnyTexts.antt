@@ -14,13 +14,11 @@ use Rattle.define_bundles.specs.PoolText.{spelling}
 use Rattle.define_pools.specs.Pool.{IsPool, Pool}
 use Rattle.define_proofs.specs.ProofReading.{read_proof}
 use Rattle.define_proofs.specs.ProofText.{IsProof, proof_spelling}
+use Rattle.command_shell.specs.BundlesOrProofs.{begins_as_proof}
 use Rattle.command_shell.specs.Formats.{begins_as_bundle}
 use Rattle.command_shell.specs.Subjects.{Format}
 use Rattle.command_explain.specs.declared.any_text.AnyText.{AnyText}
 use Rattle.command_explain.specs.declared.any_text.AnyText.TheVariants.{Right, Faulty}
-
-abbrev pub begins_as_proof : List ℕ → Bool
-begins_as_proof bytes = bytes_eq (codes "proof") (take 5 bytes)
 
 abbrev pub begins_as_cover : List ℕ → Bool
 begins_as_cover bytes = bytes_eq (codes "cover") (take 5 bytes)

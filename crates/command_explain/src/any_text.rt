@@ -5,7 +5,7 @@ ghost use Rattle.command_explain.specs.AnyTexts.{IsRightOrFaulty, looked_as, loo
 
 use bundle_text::Bundle;
 use command_bundles::GivenCover;
-use command_shell::Subject;
+use command_shell::{BUNDLE, PROOF, Subject};
 use define_bundles::{bundle_or_fault, pool_or_fault};
 use define_covers::texts::cover_or_fault;
 use define_proofs::proof_or_fault;
@@ -13,12 +13,6 @@ use pool_model::Pool;
 use proof_text::Proof;
 use std::alloc::{AllocError, Global};
 use text_lines::{TextFault, TextStop};
-
-/// A text that begins with this word is read as a bundle.
-const BUNDLE: &[u8] = b"bundle";
-
-/// A text that begins with this word is read as a proof.
-const PROOF: &[u8] = b"proof";
 
 /// A text that begins with this word is read as a cover.
 const COVER: &[u8] = b"cover";

@@ -1,5 +1,4 @@
 pub mod RunEndings
 pub mod SharedEndings
 pub mod OneAnswer
-pub mod PanelLines
 pub mod LegEndings

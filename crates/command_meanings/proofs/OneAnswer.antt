@@ -18,7 +18,8 @@ use Rattle.command_meanings.specs.Draw.{DrawMeans, drawn_lines, refused_draw_lin
 use Rattle.command_meanings.specs.ItsBundle.{BundleMeans, no_lottery_line}
 use Rattle.command_meanings.specs.Lines.{panel_line}
 use Rattle.command_meanings.specs.Panel.{IsFirstPanel, PanelMeans}
-use Rattle.command_meanings.specs.Seal.{SealMeans, bundle_seal, seal_line}
+use Rattle.command_meanings.specs.Seal.{SealMeans, seal_line}
+use Rattle.define_draws.specs.Lines.{bundle_seal}
 use Rattle.command_meanings.specs.Verify.{VerifyMeans, shown_line}
 
 -- if each right answer equals `due`, at most one answer is right

@@ -2,6 +2,7 @@
 -- computed from its text, so a panel is drawn only from a bundle whose seal was given.
 use Rattle.std.specs.Prelude.{◌≡◌, ℕ, List, [], ◌∷◌, ◌++◌, codes, Ok, Err}
 use Rattle.std.specs.Fmt.{decimal}
+use Rattle.define_lines.specs.Lines.{text_of}
 use Rattle.define_pools.specs.Lottery.{TotalAgrees}
 use Rattle.define_bundles.specs.BundleText.{Bundle}
 use Rattle.define_draws.specs.declared.DiceStop.TheVariants.{BadDigit, MoreDigits}
@@ -9,11 +10,11 @@ use Rattle.define_draws.specs.Draw.{Drawn, Refused, draw}
 use Rattle.command_shell.specs.Answers.{RightAnswers, no_answer}
 use Rattle.command_shell.specs.Lines.{input_line, line}
 use Rattle.command_meanings.specs.Lines.{panel_line}
-use Rattle.command_meanings.specs.Seal.{bundle_seal}
+use Rattle.define_draws.specs.Lines.{bundle_seal, ticket_line as line_of_ticket}
 
--- the line of the ticket, with how many digits were read
+-- the line of the ticket with how many digits were read, with its LF
 abbrev pub ticket_line : Drawn → List ℕ
-ticket_line drawn = line (codes "ticket" ∷ decimal drawn.ticket ∷ decimal drawn.used ∷ [])
+ticket_line drawn = text_of (line_of_ticket drawn.ticket drawn.used ∷ [])
 
 -- the line of the ticket, then the line of the ids of the panel's members
 abbrev pub drawn_lines : Bundle → Drawn → List ℕ

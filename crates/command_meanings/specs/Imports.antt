@@ -1,7 +1,7 @@
 -- What the import commands and `keep` answer. The file from the source is read as a command of the office, and the answer is the outcome
 -- of that command; or the file has a fault; or it is to be read as a register, and there are no rules. Builds on `define_imports` and
 -- Steps. The contract of `office` cites it with one line for all imports.
-use Rattle.std.specs.Prelude.{◌≡◌, ℕ, List, Option, Some, None, Result, Ok, Err}
+use Rattle.std.specs.Prelude.{◌≡◌, ℕ, nat_le, if◌then◌else◌, List, Option, Some, None, Result, Ok, Err}
 use Rattle.command_shell.specs.Answers.{Saying, Stops as StopsBy}
 use Rattle.command_shell.specs.Lines.{input_line}
 use Rattle.command_shell.specs.declared.status.Cause.TheVariants.{Input}
@@ -10,7 +10,7 @@ use Rattle.define_imports.specs.Cells.{Fault}
 use Rattle.define_imports.specs.Charters.{read_charter}
 use Rattle.define_imports.specs.Registers.{ReadsRows}
 use Rattle.define_imports.specs.Rules.{ReadsRules}
-use Rattle.define_offices.specs.Commands.{Change, Command, Given, Incomplete, Keep, Register, SetCharter, SetRules}
+use Rattle.define_offices.specs.Commands.{Change, Command, Given, Incomplete, Keep, Register, SetBounds, SetCharter, SetRules}
 use Rattle.define_lines.specs.Lines as lines
 use Rattle.define_offices.specs.declared.Part.TheVariants as part
 use Rattle.define_offices.specs.Tables.{Tables}
@@ -35,10 +35,14 @@ abbrev pub keeping : ℕ → Result Proof lines.Fault → Result Command Fault
 keeping round (Ok proof) = Ok (Keep round proof)
 keeping round (Err fault) = Err (record { place = fault.line; kind = fault.kind })
 
+-- the command for rules: they are set for the assembly, or, from round 2 on, as bounds of this round
+abbrev pub rules_for : ℕ → List Category → Command
+rules_for round rules = if nat_le 2 round then SetBounds round rules else SetRules rules
+
 -- the file is read as this command of the office, or has this first fault
 abbrev pub ReadsFile : Import → Tables → List ℕ → Result Command Fault → Type 0
 ReadsFile import.Charter tables bytes read = read ≡ as_command SetCharter (read_charter bytes)
-ReadsFile import.Rules tables bytes read = (said : Result (List Category) Fault) × ReadsRules bytes said × (read ≡ as_command SetRules said)
+ReadsFile (import.Rules round) tables bytes read = (said : Result (List Category) Fault) × ReadsRules bytes said × (read ≡ as_command (rules_for round) said)
 ReadsFile import.Register tables bytes read = ReadsRegister tables.rules bytes read
 ReadsFile (import.Proof round) tables bytes read = read ≡ keeping round (read_proof bytes)
 

@@ -1,8 +1,10 @@
 -- The lines of `panel` and `lottery`; `make`, `draw` and `loosen` print some of them too. Builds on the shell's lines and the tables of a
 -- run. Panel, Lottery and Draw cite them, and so do the meanings of `loosen` and of the commands over a store.
-use Rattle.std.specs.Prelude.{ℕ, List, [], ◌∷◌, ◌++◌, length, map, codes, Option, Some, None}
+use Rattle.std.specs.Prelude.{ℕ, List, [], ◌∷◌, ◌++◌, length, codes, Option, Some, None}
 use Rattle.std.specs.Fmt.{decimal, signed_decimal}
-use Rattle.define_pools.specs.Pool.{Pool, volunteer}
+use Rattle.define_lines.specs.Lines.{text_of}
+use Rattle.define_pools.specs.Pool.{Pool}
+use Rattle.define_draws.specs.Lines.{panel_line as line_of_panel}
 use Rattle.define_rows.specs.declared.Op.{Op}
 use Rattle.define_rows.specs.declared.Op.TheVariants.{Mul, Sub, Add}
 use Rattle.define_rows.specs.declared.Pass.{Pass}
@@ -10,9 +12,9 @@ use Rattle.define_rows.specs.Table.{Table}
 use Rattle.define_runs.specs.Spreading.{TotalPass}
 use Rattle.command_shell.specs.Lines.{line}
 
--- the line of a panel: the ids of its members
+-- the line of a panel, the ids of its members, with its LF
 abbrev pub panel_line : Pool → List ℕ → List ℕ
-panel_line pool panel = line (codes "panel" ∷ map (λ i. (volunteer pool.volunteers i).id) panel)
+panel_line pool panel = text_of (line_of_panel pool panel ∷ [])
 
 -- how far a run got: how many stages, columns and pivots its table has; three zeros before there is a table
 abbrev pub place : Option Table → List (List ℕ)

@@ -4,14 +4,14 @@
 use Rattle.std.specs.Prelude.{◌≡◌, ℕ, List, Option, Some, None, Ok}
 use Rattle.define_bundles.specs.BundleText.{Bundle}
 use Rattle.define_draws.specs.Draw.{Drawn, draw}
-use Rattle.define_pools.specs.Lottery.{Lottery, TotalAgrees}
-use Rattle.define_draws.specs.Short.{shortened}
+use Rattle.define_offices.specs.Pools.{lottery_in}
+use Rattle.define_pools.specs.Lottery.{TotalAgrees}
 use Rattle.bundle_page.specs.Page.{drawn_page_text, page_text}
 use Rattle.command_shell.specs.Answers.{RightAnswers, no_answer}
 use Rattle.command_meanings.specs.ShortDraw.{ShortDrawMeans}
 use Rattle.command_meanings.specs.Draw.{DrawMeans, HasWrongTotal}
 use Rattle.command_meanings.specs.ItsBundle.{no_lottery_line}
-use Rattle.command_meanings.specs.Seal.{bundle_seal}
+use Rattle.define_draws.specs.Lines.{bundle_seal}
 use Rattle.command_shell.specs.declared.bundle_or_proof.BundleOrProof.{BundleOrProof}
 use Rattle.command_shell.specs.BundlesOrProofs.{bundle_in}
 
@@ -31,11 +31,6 @@ PageOfBundle bundle = record no_answer {
 }
 
 -- ---- the page about a bundle and the draw of some digits
-
--- the lottery that the digits draw from: the bundle's own, or that lottery shortened to a round number of tickets
-abbrev pub lottery_in : Option ℕ → Lottery → Lottery
-lottery_in None lottery = lottery
-lottery_in (Some tickets) lottery = shortened lottery tickets
 
 -- which answers are right for the draw alone: those of `draw`, or of `short-draw` if a number of tickets is given
 abbrev pub draw_means : Option ℕ → List ℕ → List ℕ → Bundle → RightAnswers

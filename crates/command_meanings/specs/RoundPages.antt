@@ -4,8 +4,8 @@ use Rattle.std.specs.Prelude.{ℕ, List, [], length, Option, Some, None, Result,
 use Rattle.bundle_page.specs.Page.{drawn_part, page_with, round_head}
 use Rattle.define_bundles.specs.BundleText.{Bundle}
 use Rattle.define_offices.specs.Commands.{Refusal, NoRound, WrongPhase}
-use Rattle.define_offices.specs.Lines.{bundle_seal}
-use Rattle.define_offices.specs.Pools.{drawn_of}
+use Rattle.define_draws.specs.Lines.{bundle_seal}
+use Rattle.define_offices.specs.Pools.{drawn_lottery, drawn_of}
 use Rattle.define_offices.specs.Tables.{Charter, Round, Open, Solved, Sealed, Drawn, Tables, bundle_of, named_round}
 use Rattle.define_offices.specs.declared.Phase.TheVariants as phase
 
@@ -14,13 +14,13 @@ abbrev pub title_of : Option Charter → List ℕ
 title_of None = []
 title_of (Some charter) = charter.title
 
--- the part about the draw of a round whose bundle has this seal. A round is drawn from all tickets of its lottery. Later dropouts are in
--- the report, not here
+-- the part about the draw of a round whose bundle has this seal. A round is drawn from all tickets of its lottery, or in the round number
+-- of tickets that was kept with its seal. Later dropouts are in the report, not here
 abbrev pub draw_of_round : Round → List ℕ → List ℕ
 draw_of_round Open seal = []
 draw_of_round (Solved bundle) seal = []
-draw_of_round (Sealed bundle) seal = []
-draw_of_round (Drawn bundle digits dropped) seal = drawn_part bundle seal digits bundle.answer.lottery.total (drawn_of bundle digits)
+draw_of_round (Sealed bundle tickets) seal = []
+draw_of_round (Drawn bundle tickets digits dropped) seal = drawn_part bundle seal digits (drawn_lottery bundle tickets).total (drawn_of bundle tickets digits)
 
 -- the page of a round with this bundle, or why there is none. A round has a bundle exactly if it is past `Open`
 abbrev pub page_with_bundle : List ℕ → ℕ → Round → Option Bundle → Result (List ℕ) Refusal

@@ -7,7 +7,7 @@ use Rattle.define_draws.specs.Draw.{Drawn, Refused, draw}
 use Rattle.define_draws.specs.Short.{shortened}
 use Rattle.command_shell.specs.Answers.{RightAnswers, no_answer}
 use Rattle.command_meanings.specs.Draw.{HasWrongTotal, drawn_lines, refused_draw_line}
-use Rattle.command_meanings.specs.Seal.{bundle_seal}
+use Rattle.define_draws.specs.Lines.{bundle_seal}
 
 -- the text is the two lines of the ticket and panel that are drawn
 pub record PrintsShortDrawn (tickets : ℕ) (given digits : List ℕ) (bundle : Bundle) (text : List ℕ) : Type 0 where

@@ -6,7 +6,10 @@ pub enum Import {
     /// What the assembly is called, and how many members its panel has.
     Charter,
     /// The categories, with their values and bounds.
-    Rules,
+    Rules {
+        /// 1 for the rules of the assembly. From 2 on the number of an open round, whose bounds are set.
+        round: usize,
+    },
     /// Volunteers.
     Register,
     /// A proof of a lottery over the pool of an open round, or that there is no quota panel.

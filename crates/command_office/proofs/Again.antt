@@ -7,10 +7,10 @@ use Rattle.define_desk.specs.Desk.{Served, WithdrawalPage, leaving, page_of, ser
 use Rattle.define_desk.specs.Replies.{not_allowed, told}
 use Rattle.define_desk.specs.Requests.{Request}
 use Rattle.define_draws.specs.Seal.{seal_of}
-use Rattle.define_offices.specs.Commands.{Change, Command, Draw, Drop, Keep, NextRound, Outcome, Register, Replies, Reply, Seal, SetCharter, SetRules, Show, Solve, Withdraw}
+use Rattle.define_offices.specs.Commands.{Change, Command, Draw, Drop, Keep, NextRound, Outcome, Refuses, Register, Reopen, Reopened, Replies, Reply, Seal, SetBounds, SetCharter, SetRules, Show, Solve, Stops, TakenBack, TryDraw, Undrop, Unproved, Withdraw, WithdrawId}
 use Rattle.define_offices.specs.Deciding.{IsDecided, asked, place_of_hash, with_hash, withdraw_at}
 use Rattle.define_offices.specs.Facts.{IsCommand, IsTables}
-use Rattle.define_offices.specs.Repeats.{CharterAgain, RepeatsChangeNothing as OthersAgain, RulesAgain}
+use Rattle.define_offices.specs.Repeats.{BoundsAgain, CharterAgain, IsRepeatable, LeadThroughSparing, ReopenAgain, RepeatsChangeNothing as OthersAgain, RulesAgain, SparedRepeatsChangeNothing as SparedAgain, TakesNothingBack, UndropAgain, reply_again, takes_back, undoes}
 use Rattle.define_offices.specs.Steps.{AtOnce, ByRun, Comes, LeadThrough, applied, apply, tables_after}
 use Rattle.define_offices.specs.Tables.{Entry, Tables}
 use Rattle.define_offices.proofs.Later.{RowsStay, through_extends}
@@ -22,40 +22,82 @@ has_outcome tables command outcome comes = record { comes = comes; only = λ oth
 
 -- ---- commands
 
-module _ (charters : CharterAgain) (rules_again : RulesAgain) (others : OthersAgain) (before : Tables) (reply : Reply) (between : List Command) (later : Tables) (keeps : IsTables before) (are : AllByRecursion IsCommand between) where
-  at_once : (start : Tables) → between ≡ [] → LeadThrough start between later → later ≡ start
-  at_once start none leads = subst (λ commands. LeadThrough start commands later) none leads
-
-  pub given_again : (command : Command) (change : Option Change) → IsCommand command → Comes before command (Replies change reply) → LeadThrough (applied before change) between later → MayComeAgain command change between →
+module _ (charters : CharterAgain) (rules_again : RulesAgain) (bounds_again : BoundsAgain) (before : Tables) (reply : Reply) (between : List Command) (later : Tables) (keeps : IsTables before) where
+  -- A command is given again: at once, or when it has its reply again.
+  given_again : (command : Command) (change : Option Change) → IsCommand command → Comes before command (Replies change reply) → (between ≡ [] → later ≡ applied before change) →
+      ((made : Change) → change ≡ Some made → IsRepeatable command → asked later command ≡ IsDecided (Replies None (reply_again later command reply))) → MayComeAgain command change between →
       HasOutcome later command (Replies None (replied_again later command reply))
-  given_again (SetCharter charter) change fits comes leads may =
-      has_outcome later (SetCharter charter) _ (AtOnce (ap (λ t. asked t (SetCharter charter)) (at_once (applied before change) may leads) ∙ charters before charter change reply comes))
-  given_again (SetRules rules) change fits comes leads may =
-      has_outcome later (SetRules rules) _ (AtOnce (ap (λ t. asked t (SetRules rules)) (at_once (applied before change) may leads) ∙ rules_again before rules change reply comes))
-  given_again (Register rows) None fits comes leads may = absurd (may refl)
-  given_again (Register rows) (Some change) fits comes leads may = has_outcome later (Register rows) _ (AtOnce (others before (Register rows) change reply between later tt keeps fits are comes leads))
-  given_again (Solve number limits) None fits comes leads may = absurd (may refl)
-  given_again (Solve number limits) (Some change) fits comes leads may = has_outcome later (Solve number limits) _ (AtOnce (others before (Solve number limits) change reply between later tt keeps fits are comes leads))
-  given_again (Keep number proof) None fits comes leads may = absurd (may refl)
-  given_again (Keep number proof) (Some change) fits comes leads may = has_outcome later (Keep number proof) _ (AtOnce (others before (Keep number proof) change reply between later tt keeps fits are comes leads))
-  given_again (Seal number) None fits comes leads may = absurd (may refl)
-  given_again (Seal number) (Some change) fits comes leads may = has_outcome later (Seal number) _ (AtOnce (others before (Seal number) change reply between later tt keeps fits are comes leads))
-  given_again (Draw number given digits) None fits comes leads may = absurd (may refl)
-  given_again (Draw number given digits) (Some change) fits comes leads may = has_outcome later (Draw number given digits) _ (AtOnce (others before (Draw number given digits) change reply between later tt keeps fits are comes leads))
-  given_again (Drop number id) None fits comes leads may = absurd (may refl)
-  given_again (Drop number id) (Some change) fits comes leads may = has_outcome later (Drop number id) _ (AtOnce (others before (Drop number id) change reply between later tt keeps fits are comes leads))
-  given_again (NextRound after) None fits comes leads may = absurd (may refl)
-  given_again (NextRound after) (Some change) fits comes leads may = has_outcome later (NextRound after) _ (AtOnce (others before (NextRound after) change reply between later tt keeps fits are comes leads))
-  given_again (Show number) None fits comes leads may = absurd (may refl)
-  given_again (Show number) (Some change) fits comes leads may = has_outcome later (Show number) _ (AtOnce (others before (Show number) change reply between later tt keeps fits are comes leads))
-  given_again (Withdraw key) None fits comes leads may = absurd (may refl)
-  given_again (Withdraw key) (Some change) fits comes leads may = has_outcome later (Withdraw key) _ (AtOnce (others before (Withdraw key) change reply between later tt keeps fits are comes leads))
+  given_again (SetCharter charter) change fits comes at_once again may =
+      has_outcome later (SetCharter charter) _ (AtOnce (ap (λ t. asked t (SetCharter charter)) (at_once may) ∙ charters before charter change reply comes))
+  given_again (SetRules rules) change fits comes at_once again may =
+      has_outcome later (SetRules rules) _ (AtOnce (ap (λ t. asked t (SetRules rules)) (at_once may) ∙ rules_again before rules change reply comes))
+  given_again (SetBounds number bounds) change fits comes at_once again may =
+      has_outcome later (SetBounds number bounds) _ (AtOnce (ap (λ t. asked t (SetBounds number bounds)) (at_once may) ∙ bounds_again before number bounds change reply keeps fits comes))
+  given_again (Register rows) None fits comes at_once again may = absurd (may refl)
+  given_again (Register rows) (Some change) fits comes at_once again may = has_outcome later (Register rows) _ (AtOnce (again change refl tt))
+  given_again (Solve number limits) None fits comes at_once again may = absurd (may refl)
+  given_again (Solve number limits) (Some change) fits comes at_once again may = has_outcome later (Solve number limits) _ (AtOnce (again change refl tt))
+  given_again (Keep number proof) None fits comes at_once again may = absurd (may refl)
+  given_again (Keep number proof) (Some change) fits comes at_once again may = has_outcome later (Keep number proof) _ (AtOnce (again change refl tt))
+  given_again (Seal number tickets) None fits comes at_once again may = absurd (may refl)
+  given_again (Seal number tickets) (Some change) fits comes at_once again may = has_outcome later (Seal number tickets) _ (AtOnce (again change refl tt))
+  given_again (Draw number given digits) None fits comes at_once again may = absurd (may refl)
+  given_again (Draw number given digits) (Some change) fits comes at_once again may = has_outcome later (Draw number given digits) _ (AtOnce (again change refl tt))
+  given_again (Drop number id) None fits comes at_once again may = absurd (may refl)
+  given_again (Drop number id) (Some change) fits comes at_once again may = has_outcome later (Drop number id) _ (AtOnce (again change refl tt))
+  given_again (NextRound after) None fits comes at_once again may = absurd (may refl)
+  given_again (NextRound after) (Some change) fits comes at_once again may = has_outcome later (NextRound after) _ (AtOnce (again change refl tt))
+  given_again (Show number) None fits comes at_once again may = absurd (may refl)
+  given_again (Show number) (Some change) fits comes at_once again may = has_outcome later (Show number) _ (AtOnce (again change refl tt))
+  given_again (Withdraw key) None fits comes at_once again may = absurd (may refl)
+  given_again (Withdraw key) (Some change) fits comes at_once again may = has_outcome later (Withdraw key) _ (AtOnce (again change refl tt))
+  given_again (TryDraw number given digits) None fits comes at_once again may = absurd (may refl)
+  given_again (TryDraw number given digits) (Some change) fits comes at_once again may = has_outcome later (TryDraw number given digits) _ (AtOnce (again change refl tt))
+  given_again (WithdrawId id) None fits comes at_once again may = absurd (may refl)
+  given_again (WithdrawId id) (Some change) fits comes at_once again may = has_outcome later (WithdrawId id) _ (AtOnce (again change refl tt))
+  given_again (Undrop number id) change fits comes at_once again may = absurd may
+  given_again (Reopen number) change fits comes at_once again may = absurd may
+
+  -- after commands that take no change back
+  pub after_others : OthersAgain → AllByRecursion IsCommand between → AllByRecursion TakesNothingBack between → (command : Command) (change : Option Change) → IsCommand command →
+      Comes before command (Replies change reply) → LeadThrough (applied before change) between later → MayComeAgain command change between →
+      HasOutcome later command (Replies None (replied_again later command reply))
+  after_others others are back command change fits comes leads may =
+      given_again command change fits comes (λ none. subst (λ commands. LeadThrough (applied before change) commands later) none leads)
+      (λ made is repeatable. others before command made reply between later repeatable keeps fits are back (subst (λ c. Comes before command (Replies c reply)) is comes)
+      (subst (λ c. LeadThrough (applied before c) between later) is leads)) may
+
+  -- after any commands of which none took the change back
+  pub after_spared : SparedAgain → AllByRecursion IsCommand between → (command : Command) (change : Option Change) → IsCommand command → Comes before command (Replies change reply) →
+      LeadThroughSparing command (applied before change) between later → MayComeAgain command change between → HasOutcome later command (Replies None (replied_again later command reply))
+  after_spared spared are command change fits comes leads may =
+      given_again command change fits comes (λ none. subst (λ commands. LeadThroughSparing command (applied before change) commands later) none leads)
+      (λ made is repeatable. spared before command made reply between later repeatable keeps fits are (subst (λ c. Comes before command (Replies c reply)) is comes)
+      (subst (λ c. LeadThroughSparing command (applied before c) between later) is leads)) may
 
 -- a command that left the tables as they were has the same outcome again
 same_again : (before : Tables) (command : Command) (outcome : Outcome) → Comes before command outcome → tables_after before outcome ≡ before → HasOutcome (tables_after before outcome) command outcome
 same_again before command outcome comes same = subst (λ t. HasOutcome t command outcome) (sym same) (has_outcome before command outcome comes)
 
 -- ---- the withdrawal at the desk
+
+-- no change takes a withdrawal back
+not_undone : (key : List ℕ) (change : Change) → undoes change (Withdraw key) ≡ false
+not_undone key (TakenBack round id) = refl
+not_undone key (Reopened round) = refl
+not_undone key other = refl
+
+never_taken : (key : List ℕ) (outcome : Outcome) → takes_back outcome (Withdraw key) ≡ false
+never_taken key (Replies None reply) = refl
+never_taken key (Replies (Some change) reply) = not_undone key change
+never_taken key (Refuses refusal) = refl
+never_taken key (Stops ending) = refl
+never_taken key (Unproved refusal) = refl
+
+spares_withdrawal : (key : List ℕ) (before : Tables) (commands : List Command) (after : Tables) → LeadThrough before commands after → LeadThroughSparing (Withdraw key) before commands after
+spares_withdrawal key before [] after leads = leads
+spares_withdrawal key before (command ∷ later) after (next, (step, rest)) =
+    (next, (record { leads = step; spares = never_taken key step.outcome }, spares_withdrawal key next later after rest))
 
 -- the row with the key's digest in later tables
 record OwnLater (register : List Entry) (hash : List ℕ) (entry : Entry) : Type 0 where
@@ -111,12 +153,12 @@ withdraw_decided : (tables : Tables) (key : List ℕ) (outcome : Outcome) → Co
 withdraw_decided tables key outcome (AtOnce h) = replies_so _ outcome h
 withdraw_decided tables key outcome (ByRun number limits pool ending same needs ends comes) = absurd (cc)
 
-served_again : OthersAgain → (before : Tables) (key : List ℕ) (change : Change) (reply : Reply) (between : List Command) (later : Tables) → IsTables before → AllByRecursion IsCommand between →
+served_again : SparedAgain → (before : Tables) (key : List ℕ) (change : Change) (reply : Reply) (between : List Command) (later : Tables) → IsTables before → AllByRecursion IsCommand between →
     Comes before (Withdraw key) (Replies (Some change) reply) → LeadThrough (apply before change) between later →
     (request : Request) → page_of request.path ≡ Some WithdrawalPage → request.method ≡ codes "POST" → request.keys ≡ key ∷ [] → served later request ≡ leaving later (served before request).reply
-served_again others before key change reply between later keeps are comes leads request page method keys =
+served_again spared before key change reply between later keeps are comes leads request page method keys =
     let first = withdraw_decided before key (Replies (Some change) reply) comes in
-    let again = replies_so _ (Replies None reply) (others before (Withdraw key) change reply between later tt keeps tt are comes leads) in
+    let again = replies_so _ (Replies None reply) (spared before (Withdraw key) change reply between later tt keeps tt are comes (spares_withdrawal key (apply before change) between later leads)) in
     let row = row_there before (seal_of key) (Some change) reply (place_of_hash before.register (seal_of key) 0) refl first in
     let grown = through_extends before (Withdraw key ∷ between) later (apply before change, (record { outcome = Replies (Some change) reply; comes = comes; leaves = refl }, leads)) in
     let own = own_later before.register later.register (seal_of key) row.entry grown.rows row.there in
@@ -126,9 +168,14 @@ served_again others before key change reply between later keeps are comes leads 
     served_for later request key page method keys ∙ (ap (λ found. withdrawal_by later found (withdraw_at later (place_of_hash later.register (seal_of key) 0))) own.there ∙ ap (withdrawal_by later (Some own.later)) again) in
     two ∙ ap (leaving later) (ap (λ id. told (withdrawn_body id)) (sym own.id) ∙ sym (ap (λ (s : Served). s.reply) one))
 
-pub repeats_change_nothing : CharterAgain → RulesAgain → OthersAgain → RepeatsChangeNothing
-repeats_change_nothing charters rules others = record {
-  replies = λ before command change reply between later keeps fits are comes leads may. given_again charters rules others before reply between later keeps are command change fits comes leads may;
+pub repeats_change_nothing : CharterAgain → RulesAgain → BoundsAgain → OthersAgain → SparedAgain → UndropAgain → ReopenAgain → RepeatsChangeNothing
+repeats_change_nothing charters rules bounds others spared undrop reopen = record {
+  replies = λ before command change reply between later keeps fits are back comes leads may.
+      after_others charters rules bounds before reply between later keeps others are back command change fits comes leads may;
+  spared = λ before command change reply between later keeps fits are comes leads may.
+      after_spared charters rules bounds before reply between later keeps spared are command change fits comes leads may;
+  undrop = undrop;
+  reopen = reopen;
   others = same_again;
-  withdrawal = served_again others;
+  withdrawal = served_again spared;
 }

@@ -1,5 +1,5 @@
--- What status 0 and status 1 mean for each command: a lottery that is answered is leximin greatest, a draw is of the sealed bundle, and there is
--- no quota panel.
+-- What status 0 and status 1 mean for each command: a lottery that is answered is leximin greatest, a draw is of the sealed bundle, and
+-- there is no quota panel.
 use Rattle.std.specs.Prelude.{◌⊎◌, is_ok, option_and_then, option_map, ⊤}
 use Rattle.std.proofs.Common.{◌≡◌, ◌∙◌, ℕ, Bool, true, false, cond, List, [], Option, Some, None, Result, Ok, Err, refl, ap, sym, subst, inl, inr, zero, suc, not}
 use Rattle.std.specs.Str.{bytes_eq}
@@ -14,11 +14,12 @@ use Rattle.define_draws.specs.declared.Named.{Named}
 use Rattle.define_pools.proofs.LeximinParts.{leximin}
 use Rattle.define_lines.specs.Lines as lines
 use Rattle.define_made_pools.specs.MadePools.{made_pool}
-use Rattle.define_offices.specs.Commands.{Change, Command, Draw, Keep, Lines, NoPanel, Outcome, Refusal, Refuses, Replies, Solve}
-use Rattle.define_offices.specs.Deciding.{IsDecided, draw_in, new_draw}
+use Rattle.define_offices.specs.Commands.{Change, Command, Draw, Keep, Lines, NoPanel, Outcome, Refusal, Refuses, Replies, Solve, Stops, TryDraw, Unproved}
+use Rattle.define_offices.specs.Deciding.{IsDecided, draw_in, new_draw, without_change}
 use Rattle.define_offices.specs.Facts.{IsTables, KeepsRound}
+use Rattle.define_offices.specs.Pools.{drawn_lottery}
 use Rattle.define_offices.specs.Steps.{AtOnce, ByRun, Comes, applied}
-use Rattle.define_offices.specs.Tables.{Drawn as DrawnRound, Open, Round, Sealed, Solved, Tables, bundle_of, named_round}
+use Rattle.define_offices.specs.Tables.{Drawn as DrawnRound, Open, Round, Sealed, Solved, Tables, bundle_of, named_round, tickets_of}
 use Rattle.define_pools.specs.Certificate.{Answer}
 use Rattle.define_pools.specs.Lottery.{Lottery}
 use Rattle.define_pools.specs.Pool.{Pool, panels}
@@ -36,7 +37,7 @@ use Rattle.command_shell.specs.Subjects.{About, AboutFault, AboutValue, Format}
 use Rattle.command_shell.specs.Told.{Gains, HeldAll}
 use Rattle.command_meanings.specs.ItsBundle.{BundleMeans}
 use Rattle.command_meanings.specs.Prove.{IsGiven, PrintsNoPanel, ProvesNone, RunFindsNone, given_in, lottery_limits, pool_in}
-use Rattle.command_meanings.specs.Seal.{bundle_seal}
+use Rattle.define_draws.specs.Lines.{bundle_seal}
 use Rattle.command_shell.specs.BundlesOrProofs.{bundle_in}
 use Rattle.command_meanings.specs.Page.{DrawnPageOfBundle, PageOfBundle, about}
 use Rattle.command_meanings.specs.Imports.{Does, HasFault, ImportMeans, NoRules, keeping}
@@ -193,16 +194,18 @@ module _ (told : StoreTold) where
   sealed_draw seal digits bundle lottery drawn draws =
       record { sealed = is_sealed (bundle_seal bundle) seal digits lottery drawn (is_seal (bundle_seal bundle) seal) refl draws; drawn = drawn; draws = draws }
 
-  -- a round is drawn from its bundle
+  -- a round is drawn from its bundle's lottery, or from it in the number of tickets that was kept with the seal
   record RoundDraw (seal digits : List ℕ) (found : Option Round) : Type 0 where
+    kept : Round
     bundle : Bundle
-    is : option_and_then bundle_of found ≡ Some bundle
-    draws : IsSealedDraw seal digits bundle bundle.answer.lottery
+    is : found ≡ Some kept
+    has : bundle_of kept ≡ Some bundle
+    draws : IsSealedDraw seal digits bundle (drawn_lottery bundle (tickets_of kept))
 
-  newly_drawn : (number : ℕ) (bundle : Bundle) (seal digits : List ℕ) (result : Result Drawn Refused) (change : Option Change) (text : List ℕ) → draw bundle.answer.lottery (bundle_seal bundle) seal digits ≡ result →
-      new_draw number bundle seal digits result ≡ Replies change (Lines text) → IsSealedDraw seal digits bundle bundle.answer.lottery
-  newly_drawn number bundle seal digits (Ok drawn) change text is h = sealed_draw seal digits bundle bundle.answer.lottery drawn is
-  newly_drawn number bundle seal digits (Err refused) change text is h = absurd (cc)
+  newly_drawn : (number : ℕ) (bundle : Bundle) (lottery : Lottery) (seal digits : List ℕ) (result : Result Drawn Refused) (change : Option Change) (text : List ℕ) → draw lottery (bundle_seal bundle) seal digits ≡ result →
+      new_draw number bundle seal digits result ≡ Replies change (Lines text) → IsSealedDraw seal digits bundle lottery
+  newly_drawn number bundle lottery seal digits (Ok drawn) change text is h = sealed_draw seal digits bundle lottery drawn is
+  newly_drawn number bundle lottery seal digits (Err refused) change text is h = absurd (cc)
 
   outcomes : (one other : Outcome) → IsDecided one ≡ IsDecided other → one ≡ other
   outcomes one other h = cc
@@ -228,19 +231,41 @@ module _ (told : StoreTold) where
   drawn_in tables keeps number seal digits None change text at h = absurd (cc)
   drawn_in tables keeps number seal digits (Some Open) change text at h = absurd (cc)
   drawn_in tables keeps number seal digits (Some (Solved bundle)) change text at h = absurd (cc)
-  drawn_in tables keeps number seal digits (Some (Sealed bundle)) change text at h =
-      record { bundle = bundle; is = refl; draws = newly_drawn number bundle seal digits (draw bundle.answer.lottery (bundle_seal bundle) seal digits) change text refl h }
-  drawn_in tables keeps number seal digits (Some (DrawnRound bundle kept dropped)) change text at h =
+  drawn_in tables keeps number seal digits (Some (Sealed bundle tickets)) change text at h = record {
+    kept = Sealed bundle tickets;
+    bundle = bundle;
+    is = refl;
+    has = refl;
+    draws = newly_drawn number bundle (drawn_lottery bundle tickets) seal digits (draw (drawn_lottery bundle tickets) (bundle_seal bundle) seal digits) change text refl h;
+  }
+  drawn_in tables keeps number seal digits (Some (DrawnRound bundle tickets kept dropped)) change text at h =
       let (sealed, same) = by_seal (is_seal (bundle_seal bundle) seal) (bytes_eq kept digits) _ _ _ text change h in
       let equal = (bytes_eq-Decides kept digits).0 same in
-      let named = subst (λ ds. is_ok (name_ticket bundle.answer.lottery.total ds) ≡ true) equal (keeps_named tables keeps number (DrawnRound bundle kept dropped) at).1.named in
-      let (drawn, draws) = drawn_so bundle.answer.lottery (bundle_seal bundle) seal digits (name_ticket bundle.answer.lottery.total digits) refl named sealed in
-      record { bundle = bundle; is = refl; draws = sealed_draw seal digits bundle bundle.answer.lottery drawn draws }
+      let lottery = drawn_lottery bundle tickets in
+      let named = subst (λ ds. is_ok (name_ticket lottery.total ds) ≡ true) equal (keeps_named tables keeps number (DrawnRound bundle tickets kept dropped) at).1.named in
+      let (drawn, draws) = drawn_so lottery (bundle_seal bundle) seal digits (name_ticket lottery.total digits) refl named sealed in
+      record { kept = DrawnRound bundle tickets kept dropped; bundle = bundle; is = refl; has = refl; draws = sealed_draw seal digits bundle lottery drawn draws }
 
   round_drawn : (tables : Tables) → IsTables tables → (number : ℕ) (seal digits : List ℕ) (change : Option Change) (text : List ℕ) → Comes tables (Draw number seal digits) (Replies change (Lines text)) →
       RoundDraw seal digits (named_round tables.rounds number)
   round_drawn tables keeps number seal digits change text (AtOnce h) = drawn_in tables keeps number seal digits (named_round tables.rounds number) change text refl (outcomes _ (Replies change (Lines text)) h)
   round_drawn tables keeps number seal digits change text (ByRun n l pool ending same needs ends comes) = absurd (cc)
+
+  -- an outcome that is told without its change tells the same lines, and comes with no change
+  tried_so : (outcome : Outcome) (change : Option Change) (text : List ℕ) → without_change outcome ≡ Replies change (Lines text) →
+      (made : Option Change) × ((outcome ≡ Replies made (Lines text)) × (change ≡ None))
+  tried_so (Replies made (Lines own)) change text h = let same : own ≡ text = cc in (made, (ap (λ t. Replies made (Lines t)) same, cc))
+  tried_so (Replies made NoPanel) change text h = absurd (cc)
+  tried_so (Refuses refusal) change text h = absurd (cc)
+  tried_so (Stops ending) change text h = absurd (cc)
+  tried_so (Unproved refusal) change text h = absurd (cc)
+
+  round_tried : (tables : Tables) → IsTables tables → (number : ℕ) (seal digits : List ℕ) (change : Option Change) (text : List ℕ) → Comes tables (TryDraw number seal digits) (Replies change (Lines text)) →
+      RoundDraw seal digits (named_round tables.rounds number) × (change ≡ None)
+  round_tried tables keeps number seal digits change text (AtOnce h) =
+      let (made, (is, none)) = tried_so (draw_in tables number seal digits (named_round tables.rounds number)) change text (outcomes _ (Replies change (Lines text)) h) in
+      (drawn_in tables keeps number seal digits (named_round tables.rounds number) made text refl is, none)
+  round_tried tables keeps number seal digits change text (ByRun n l pool ending same needs ends comes) = absurd (cc)
 
   pub drawn : (it : Option Asked) (text : List ℕ) → IsRightAnswer it told (Prints Done text) → DrawsSealed it told
   drawn (Some (asks.Text (texts.Draw seal digits))) text right =
@@ -253,7 +278,10 @@ module _ (told : StoreTold) where
       (own.value, held_bundle own.value own.bytes own.held own.spells, sealed_draw seal digits own.value _ prints.drawn prints.draws)
   drawn (Some (asks.Step store (steps.Draw round seal digits))) text right =
       let it = round_drawn right.tables right.loaded.is round seal digits right.change text (comes_text (Draw round seal digits) right.tables right.change text right.means) in
-      (right.tables, it.bundle, right.loaded, it.is, it.draws)
+      (right.tables, it.kept, it.bundle, right.loaded, it.is, it.has, it.draws)
+  drawn (Some (asks.Step store (steps.Try round seal digits))) text right =
+      let (it, none) = round_tried right.tables right.loaded.is round seal digits right.change text (comes_text (TryDraw round seal digits) right.tables right.change text right.means) in
+      ((right.tables, it.kept, it.bundle, right.loaded, it.is, it.has, it.draws), unchanged told.keeper.object.before told.keeper.object.after right.change none right.stored)
   drawn other text right = tt
 
   -- ---- status 1

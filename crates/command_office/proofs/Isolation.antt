@@ -16,7 +16,7 @@ use Rattle.define_offices.specs.Facts.{IsTables}
 use Rattle.define_offices.specs.Pools.{pool_of}
 use Rattle.define_offices.specs.Steps.{tables_after, withdrawn_at}
 use Rattle.define_offices.specs.Tables.{Entry, Tables}
-use Rattle.define_offices.proofs.RowsAgain.{place_from}
+use Rattle.define_offices.proofs.RowsAgain.{place_by_hash, place_from}
 use Rattle.office_http.specs.Visits.{EndsBy, FromBytes, FromTables, IsAttended, IsReply, NoMemory, RepliesTo, Unavailable, Visit}
 use Rattle.command_office.specs.Isolation.{ChangesOwnRow, ComeAlike, EndsWell, GoAlike, RowsStayButOwn, TellsNothingOfOthers, is_own_page}
 
@@ -136,7 +136,7 @@ rows_stay hash [] = tt
 rows_stay hash (entry ∷ register) = (inl refl, rows_stay hash register)
 
 stays : (hash : List ℕ) (tables : Tables) → ChangesOwnRow hash tables tables
-stays hash tables = record { charter = refl; rules = refl; rounds = refl; rows = rows_stay hash tables.register }
+stays hash tables = record { charter = refl; rules = refl; rounds = refl; bounds = refl; rows = rows_stay hash tables.register }
 
 row_changes : (register : List Entry) (hash : List ℕ) (i q place : ℕ) (entry : Entry) → place_of_hash register hash i ≡ Some (place, entry) → place ≡ i + q → RowsStayButOwn hash register (withdrawn_at register q)
 row_changes [] hash i q place entry h at = absurd (cc)
@@ -144,7 +144,9 @@ row_changes (e ∷ old) hash i zero place entry h at = by (bytes_eq hash e.hash)
   where
     by : (b : Bool) → bytes_eq hash e.hash ≡ b → cond b (Some (i, e)) (place_of_hash old hash (i + 1)) ≡ Some (place, entry) → RowsStayButOwn hash (e ∷ old) (withdrawn_at (e ∷ old) zero)
     by true eq k = (inr (eq, refl), rows_stay hash old)
-    by false eq k = absurd (let l = place_from old hash (i + 1) (place, entry) k in omega arith)
+    by false eq k = absurd
+        (let l = place_from (λ (row : Entry). row.hash) old hash (i + 1) (place, entry) (sym (place_by_hash old hash (i + 1)) ∙ k) in
+        omega arith)
 row_changes (e ∷ old) hash i (suc q) place entry h at = by (bytes_eq hash e.hash) h (λ k l. row_changes old hash (i + 1) q place entry k l)
   where
     by : (b : Bool) → cond b (Some (i, e)) (place_of_hash old hash (i + 1)) ≡ Some (place, entry) → (place_of_hash old hash (i + 1) ≡ Some (place, entry) → place ≡ i + 1 + q → RowsStayButOwn hash old (withdrawn_at old q)) →
@@ -161,7 +163,7 @@ outcome_changes tables hash (Some (place, entry)) at = by entry.withdrawn (is_la
   where
     by : (already may : Bool) → ChangesOwnRow hash tables (tables_after tables (cond already (Replies None (Lines [])) (cond may (Replies (Some (Withdrawn place)) (Lines [])) (Refuses TooLate))))
     by true may = stays hash tables
-    by false true = record { charter = refl; rules = refl; rounds = refl; rows = row_changes tables.register hash 0 place place entry at (omega arith) }
+    by false true = record { charter = refl; rules = refl; rounds = refl; bounds = refl; rows = row_changes tables.register hash 0 place place entry at (omega arith) }
     by false false = stays hash tables
 
 key_changes : (tables : Tables) (key : List ℕ) (row : Option Entry) →

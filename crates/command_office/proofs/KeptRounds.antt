@@ -51,8 +51,8 @@ module _ (tables : Tables) (number : ℕ) (proof : Proof) where
   by_round outcome None at h = Denied _ (sym h)
   by_round outcome (Some Open) at h = over_pool outcome at (pool_of tables number) refl h
   by_round outcome (Some (Solved bundle)) at h = Had (Solved bundle) bundle at refl (sym h)
-  by_round outcome (Some (Sealed bundle)) at h = Had (Sealed bundle) bundle at refl (sym h)
-  by_round outcome (Some (Drawn bundle digits dropped)) at h = Had (Drawn bundle digits dropped) bundle at refl (sym h)
+  by_round outcome (Some (Sealed bundle tickets)) at h = Had (Sealed bundle tickets) bundle at refl (sym h)
+  by_round outcome (Some (Drawn bundle tickets digits dropped)) at h = Had (Drawn bundle tickets digits dropped) bundle at refl (sym h)
 
   decided_so : (own outcome : Outcome) → IsDecided own ≡ IsDecided outcome → own ≡ outcome
   decided_so own outcome h = cc

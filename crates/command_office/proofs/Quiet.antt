@@ -135,5 +135,5 @@ module _ (tables : Tables) (answer : Saying) (change : Option Change) (n0 : stat
   import_quiet (imports.Proof round) bytes (HasFault fault reads is none) = none
   import_quiet (imports.Proof round) bytes (NoRules register none is kept) = kept
   import_quiet imports.Charter bytes means = file_quiet imports.Charter bytes refl means
-  import_quiet imports.Rules bytes means = file_quiet imports.Rules bytes refl means
+  import_quiet (imports.Rules round) bytes means = file_quiet (imports.Rules round) bytes refl means
   import_quiet imports.Register bytes means = file_quiet imports.Register bytes refl means

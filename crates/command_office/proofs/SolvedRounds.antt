@@ -48,8 +48,8 @@ module _ (tables : Tables) (number : ℕ) (limits : Limits) where
   ran_over None pool ending at h ends = absurd (cc)
   ran_over (Some Open) pool ending at h ends = record { pool = pool; open_now = at; is = over_pool (pool_of tables number) pool h; ends = ends }
   ran_over (Some (Solved bundle)) pool ending at h ends = absurd (cc)
-  ran_over (Some (Sealed bundle)) pool ending at h ends = absurd (cc)
-  ran_over (Some (Drawn bundle digits dropped)) pool ending at h ends = absurd (cc)
+  ran_over (Some (Sealed bundle tickets)) pool ending at h ends = absurd (cc)
+  ran_over (Some (Drawn bundle tickets digits dropped)) pool ending at h ends = absurd (cc)
 
   ran : (n : ℕ) (l : Limits) (pool : Pool) (ending : Ending) → Solve number limits ≡ Solve n l → asked tables (Solve number limits) ≡ NeedsRun pool → RunEnds pool l ending → Ran ending
   ran n l pool ending same needs ends =
@@ -90,8 +90,8 @@ module _ (tables : Tables) (number : ℕ) (limits : Limits) where
   had_bundle None change text at h = absurd (cc)
   had_bundle (Some Open) change text at h = absurd (text_over (pool_of tables number) change text h)
   had_bundle (Some (Solved bundle)) change text at h = HadBundle (Solved bundle) bundle at refl (cc)
-  had_bundle (Some (Sealed bundle)) change text at h = HadBundle (Sealed bundle) bundle at refl (cc)
-  had_bundle (Some (Drawn bundle digits dropped)) change text at h = HadBundle (Drawn bundle digits dropped) bundle at refl (cc)
+  had_bundle (Some (Sealed bundle tickets)) change text at h = HadBundle (Sealed bundle tickets) bundle at refl (cc)
+  had_bundle (Some (Drawn bundle tickets digits dropped)) change text at h = HadBundle (Drawn bundle tickets digits dropped) bundle at refl (cc)
 
   -- If the outcome of a run is a reply with a text, the reply has a change.
   no_stay : (n : ℕ) (pool : Pool) (ending : Ending) (change : Option Change) (text : List ℕ) → Stays (Replies change (Lines text)) → Replies change (Lines text) ≡ solved n pool ending → ⊥

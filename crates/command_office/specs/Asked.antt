@@ -95,21 +95,49 @@ abbrev pub prove_from : Given → Option (List ℕ) → Option Asked
 prove_from given (Some store) = round_proof_asked given store
 prove_from given None = option_map asks.Prove (prove_in given)
 
+abbrev pub tickets_from : ℕ → Option ℕ
+tickets_from number = if nat_le 1 number && nat_le number 1000000000 then Some number else None
+
+-- the seal of a round, with which this number of tickets is kept, if there is one
+abbrev pub seal_step_asked : Given → Option ℕ → Option Asked
+seal_step_asked given tickets = option_and_then (λ round. step_asked (steps.Seal round tickets) given) (round_in given)
+
+-- the same for the number that the words give, if they give one; None if it is not from 1 to 1000000000
+abbrev pub round_seal_from : Given → Option ℕ → Option Asked
+round_seal_from given None = seal_step_asked given None
+round_seal_from given (Some number) = option_and_then (λ tickets. seal_step_asked given (Some tickets)) (tickets_from number)
+
+-- the seal of the bundle that is read; None if a number of tickets is given
+abbrev pub text_seal_from : Given → Option ℕ → Option Asked
+text_seal_from given None = text_command_asked given
+text_seal_from given (Some number) = None
+
 -- `seal`: of a round of the store if the words name one, else of the bundle that is read
 abbrev pub seal_from : Given → Option (List ℕ) → Option Asked
-seal_from given (Some store) = option_and_then (λ round. step_asked (steps.Seal round) given) (round_in given)
-seal_from given None = text_command_asked given
+seal_from given (Some store) = round_seal_from given (number_of (codes "tickets") given)
+seal_from given None = text_seal_from given (number_of (codes "tickets") given)
+
+-- the draw from a round; if the flag `try` is given, nothing is kept
+abbrev pub draw_step : Bool → ℕ → List ℕ → List ℕ → Step
+draw_step true round seal digits = steps.Try round seal digits
+draw_step false round seal digits = steps.Draw round seal digits
 
 abbrev pub round_draw_asked : Given → Option Asked
 round_draw_asked given =
     option_and_then (λ seal.
-    option_and_then (λ digits. option_and_then (λ round. step_asked (steps.Draw round seal digits) given) (round_in given)) (text_of (codes "digits") given))
+    option_and_then (λ digits. option_and_then (λ round. step_asked (draw_step (flag_of (codes "try") given) round seal digits) given) (round_in given))
+    (text_of (codes "digits") given))
     (text_of (codes "seal") given)
+
+-- the draw from the bundle that is read, which keeps nothing; None if the flag `try` is given
+abbrev pub text_draw_from : Given → Bool → Option Asked
+text_draw_from given true = None
+text_draw_from given false = text_command_asked given
 
 -- `draw`: from a round of the store if the words name one, else from the bundle that is read
 abbrev pub draw_from : Given → Option (List ℕ) → Option Asked
 draw_from given (Some store) = round_draw_asked given
-draw_from given None = text_command_asked given
+draw_from given None = text_draw_from given (flag_of (codes "try") given)
 
 -- the page of a round; None if digits or a number of tickets are given
 abbrev pub round_page_from : Given → Option (List ℕ) → Option ℕ → Option Asked
@@ -131,6 +159,25 @@ solve_asked given =
 abbrev pub drop_asked : Given → Option Asked
 drop_asked given =
     option_and_then (λ round. option_and_then (λ id. step_asked (steps.Drop round id) given) (text_of (codes "id") given)) (round_in given)
+
+abbrev pub undrop_asked : Given → Option Asked
+undrop_asked given =
+    option_and_then (λ round. option_and_then (λ id. step_asked (steps.Undrop round id) given) (text_of (codes "id") given)) (round_in given)
+
+abbrev pub later_round_from : ℕ → Option ℕ
+later_round_from number = if nat_le 2 number then Some number else None
+
+-- None if the round is missing or below 2
+abbrev pub reopen_asked : Given → Option Asked
+reopen_asked given = option_and_then (λ round. step_asked (steps.Reopen round) given) (option_and_then later_round_from (round_in given))
+
+abbrev pub withdraw_asked : Given → Option Asked
+withdraw_asked given = option_and_then (λ id. step_asked (steps.Withdraw id) given) (text_of (codes "id") given)
+
+-- the number of a round, 1 if none is given
+abbrev pub round_or_first : Option ℕ → ℕ
+round_or_first None = 1
+round_or_first (Some round) = round
 
 abbrev pub serve_from : ℕ → ℕ → Option Serve
 serve_from port connections =
@@ -157,12 +204,15 @@ command_asked name.Make given = make_asked given
 command_asked name.Solve given = solve_asked given
 command_asked name.Drop given = drop_asked given
 command_asked name.NextRound given = option_and_then (λ after. step_asked (steps.NextRound after) given) (number_of (codes "after") given)
+command_asked name.Undrop given = undrop_asked given
+command_asked name.Reopen given = reopen_asked given
+command_asked name.Withdraw given = withdraw_asked given
 command_asked name.Show given = option_and_then (λ round. step_asked (steps.Show round) given) (round_in given)
 command_asked name.Report given = round_text_asked stored.Report given
 command_asked name.Pool given = round_text_asked stored.Pool given
 command_asked name.Keep given = option_and_then (λ round. import_asked (imports.Proof round) given) (round_in given)
 command_asked name.ImportCharter given = import_asked imports.Charter given
-command_asked name.ImportRules given = import_asked imports.Rules given
+command_asked name.ImportRules given = import_asked (imports.Rules (round_or_first (round_in given))) given
 command_asked name.ImportRegister given = import_asked imports.Register given
 command_asked name.Serve given = serve_asked given
 command_asked other given = text_command_asked given

@@ -22,8 +22,9 @@ use Rattle.define_pools.specs.Leximin.{IsLeximin}
 use Rattle.define_made_pools.specs.MadePools.{made_pool}
 use Rattle.define_made_pools.specs.Summary.{summary_text}
 use Rattle.define_offices.specs.Commands.{SolvedWith}
+use Rattle.define_offices.specs.Pools.{drawn_lottery}
 use Rattle.define_offices.specs.Steps.{apply}
-use Rattle.define_offices.specs.Tables.{Tables, bundle_of, named_round}
+use Rattle.define_offices.specs.Tables.{Round, Tables, bundle_of, named_round, tickets_of}
 use Rattle.define_pools.specs.Certificate.{Answer, Certifies}
 use Rattle.define_pools.specs.Lottery.{Lottery}
 use Rattle.define_pools.specs.Pool.{Pool, panels}
@@ -45,7 +46,7 @@ use Rattle.command_meanings.specs.Lottery.{LotteryMeans}
 use Rattle.command_meanings.specs.Make.{MakeMeans, sizes_of}
 use Rattle.command_meanings.specs.Panel.{visits_of}
 use Rattle.command_meanings.specs.Prove.{ProvesWithin}
-use Rattle.command_meanings.specs.Seal.{bundle_seal}
+use Rattle.define_draws.specs.Lines.{bundle_seal}
 use Rattle.command_meanings.specs.Sharing.{MayFind, SharedLotteryMeans}
 use Rattle.command_proofs.specs.declared.verify.Verify.{Verify}
 use Rattle.command_texts.specs.TextMeans.{OneAnswer, TextMeans}
@@ -141,13 +142,19 @@ pub record IsSealedDraw (seal digits : List ℕ) (bundle : Bundle) (lottery : Lo
   pub drawn : Drawn
   pub draws : draw lottery (bundle_seal bundle) seal digits ≡ Ok drawn
 
--- what status 0 means for a draw: from the bundle that the source held, from its lottery in a given number of tickets, or from a round of a store. For `page --drawn` see `DrawnPageMeans`
+-- the digits draw from this round of the tables that were loaded: from its sealed lottery, or from that lottery in the number of tickets that was kept with the seal
+abbrev pub DrawsRound : ℕ → List ℕ → List ℕ → StoreTold → Type 0
+DrawsRound round seal digits told = (tables : Tables) × (kept : Round) × (bundle : Bundle) × IsLoaded told.keeper.object.before tables ×
+    (named_round tables.rounds round ≡ Some kept) × (bundle_of kept ≡ Some bundle) × IsSealedDraw seal digits bundle (drawn_lottery bundle (tickets_of kept))
+
+-- what status 0 means for a draw: from the bundle that the source held, from its lottery in a given number of tickets, or from a round of a store, also with `--try`, which keeps nothing.
+-- For `page --drawn` see `DrawnPageMeans`
 abbrev pub DrawsSealed : Option Asked → StoreTold → Type 0
 DrawsSealed (Some (asks.Text (texts.Draw seal digits))) told = (bundle : Bundle) × HeldBundle told.call.source bundle × IsSealedDraw seal digits bundle bundle.answer.lottery
 DrawsSealed (Some (asks.Text (texts.ShortDraw tickets seal digits))) told =
     (bundle : Bundle) × HeldBundle told.call.source bundle × IsSealedDraw seal digits bundle (shortened bundle.answer.lottery tickets)
-DrawsSealed (Some (asks.Step store (steps.Draw round seal digits))) told = (tables : Tables) × (bundle : Bundle) × IsLoaded told.keeper.object.before tables ×
-    (option_and_then bundle_of (named_round tables.rounds round) ≡ Some bundle) × IsSealedDraw seal digits bundle bundle.answer.lottery
+DrawsSealed (Some (asks.Step store (steps.Draw round seal digits))) told = DrawsRound round seal digits told
+DrawsSealed (Some (asks.Step store (steps.Try round seal digits))) told = DrawsRound round seal digits told × KeepsTables told.keeper
 DrawsSealed other told = ⊤
 
 -- ---- the promises of a call whose words ask for `it`, other than `serve`, or for nothing
@@ -194,7 +201,8 @@ pub record OfSeveralCalls : Type 0 where
   -- broken links, 503 and 507 aside: the desk's reply to a key depends on the key's own row and dropouts, the last round's phase, and what is published; it changes no row but this one.
   -- What is published is much: a sealed bundle has the id and the values of every volunteer of its pool
   pub isolation : TellsNothingOfOthers
-  -- a command that made a change, given again, changes nothing: a charter or rules at once, any other at any later time. One that changed nothing has the same outcome at once
+  -- a command that made a change, given again, changes nothing, as long as nothing took this change back: a charter, rules or bounds at once, any other at any later time. What takes a
+  -- change back is refused if it is given again at once. A command that changed nothing has the same outcome at once
   pub repeats : RepeatsChangeNothing
   -- if a keeper tells its tables, began with `first_tables`, and only these calls changed them: they are the fold of the calls' commands, and each lottery in them is leximin greatest
   pub records : CallsAreRecorded

@@ -61,6 +61,7 @@ pub record ChangesOwnRow (hash : List ℕ) (before after : Tables) : Type 0 wher
   pub charter : after.charter ≡ before.charter
   pub rules : after.rules ≡ before.rules
   pub rounds : after.rounds ≡ before.rounds
+  pub bounds : after.bounds ≡ before.bounds
   pub rows : RowsStayButOwn hash before.register after.register
 
 -- ---- the laws

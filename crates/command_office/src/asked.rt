@@ -7,9 +7,11 @@ ghost use Rattle.command_office.specs.Asked.{
   asked,
   asked_by as words_of_asked,
   draw_from as words_of_draw,
+  draw_step as words_of_draw_step,
   drop_asked as words_of_drop,
   import_asked as words_of_import,
   limits_from as words_of_limits,
+  later_round_from as words_of_later_round,
   legs_asked as words_of_legs,
   limits_in,
   lottery_asked as words_of_lottery,
@@ -17,17 +19,26 @@ ghost use Rattle.command_office.specs.Asked.{
   make_asked as words_of_make,
   page_from as words_of_page,
   prove_from as words_of_prove,
+  reopen_asked as words_of_reopen,
   round_draw_asked as words_of_round_draw,
+  round_or_first as words_of_first,
   round_page_from as words_of_round_page,
   round_proof_asked as words_of_round_proof,
+  round_seal_from as words_of_round_seal,
   seal_from as words_of_seal,
+  seal_step_asked as words_of_seal_step,
   serve_asked as words_of_serve,
   serve_from as words_of_serve_from,
   solve_asked as words_of_solve,
   step_asked as words_of_step,
   round_text_asked as words_of_round_text,
   text_command_asked as words_of_text_command,
+  text_draw_from as words_of_text_draw,
+  text_seal_from as words_of_text_seal,
+  tickets_from as words_of_tickets,
+  undrop_asked as words_of_undrop,
   volunteers_in,
+  withdraw_asked as words_of_withdraw,
   workers_from as words_of_workers,
   workers_in,
 };
@@ -41,6 +52,7 @@ use command_stores::ProveRound;
 use command_texts::{TextCommand, prove_in, text_asked};
 use command_words::{CommandName, Given, Word, WordsStop, read_words};
 use define_runs::{Limits, Workers};
+use office_tables::{LaterRound, Tickets};
 use std::alloc::Global;
 
 /// The text for `errs` if options don't go together, or if a number is out of its range though `clap` accepted it. The second case never
@@ -134,6 +146,9 @@ fn asked_by<'a>(given: &Given<'a>) -> Option<Asked<'a>>
             let after = given.number("after")? as usize;
             step_of(given, Step::NextRound { after })
         }
+        CommandName::Undrop => undrop_of(given),
+        CommandName::Reopen => reopen_of(given),
+        CommandName::Withdraw => withdraw_of(given),
         CommandName::Show => {
             let round = round_of(given)?;
             step_of(given, Step::Show { round })
@@ -145,7 +160,10 @@ fn asked_by<'a>(given: &Given<'a>) -> Option<Asked<'a>>
             import_of(given, Import::Proof { round })
         }
         CommandName::ImportCharter => import_of(given, Import::Charter),
-        CommandName::ImportRules => import_of(given, Import::Rules),
+        CommandName::ImportRules => {
+            let round = round_or_first(round_of(given));
+            import_of(given, Import::Rules { round })
+        }
         CommandName::ImportRegister => import_of(given, Import::Register),
         CommandName::Serve => serve_of(given),
         CommandName::Verify
@@ -197,10 +215,44 @@ fn seal_from<'a>(given: &Given<'a>, store: Option<Word<'a>>) -> Option<Asked<'a>
     ensures { result ≡ words_of_seal given.now store.entry }
 {
     match store {
-        Some(_) => {
-            let round = round_of(given)?;
-            step_of(given, Step::Seal { round })
+        Some(_) => round_seal_from(given, given.number("tickets")),
+        None => text_seal_from(given, given.number("tickets")),
+    }
+}
+
+/// Returns the seal of a round, with the number of tickets that is kept with it if the words give one.
+fn round_seal_from<'a>(given: &Given<'a>, number: Option<u64>) -> Option<Asked<'a>>
+    ensures { result ≡ words_of_round_seal given.now number }
+{
+    match number {
+        None => seal_step_of(given, None),
+        Some(number) => {
+            let tickets = tickets_from(number)?;
+            seal_step_of(given, Some(tickets))
         }
+    }
+}
+
+fn seal_step_of<'a>(given: &Given<'a>, tickets: Option<Tickets>) -> Option<Asked<'a>>
+    ensures { result ≡ words_of_seal_step given.now tickets }
+{
+    let round = round_of(given)?;
+    step_of(given, Step::Seal { round, tickets })
+}
+
+/// Returns this number of tickets, or None if it isn't from 1 to 1,000,000,000.
+fn tickets_from(number: u64) -> Option<Tickets>
+    ensures { result ≡ words_of_tickets number }
+{
+    Tickets::new(u32::try_from(number).ok()?)
+}
+
+/// Returns the seal of the bundle that is read, with which no number of tickets is kept.
+fn text_seal_from<'a>(given: &Given<'a>, number: Option<u64>) -> Option<Asked<'a>>
+    ensures { result ≡ words_of_text_seal given.now number }
+{
+    match number {
+        Some(_) => None,
         None => text_command_of(given),
     }
 }
@@ -211,8 +263,15 @@ fn draw_from<'a>(given: &Given<'a>, store: Option<Word<'a>>) -> Option<Asked<'a>
 {
     match store {
         Some(_) => round_draw_of(given),
-        None => text_command_of(given),
+        None => text_draw_from(given, given.flag("try")),
     }
+}
+
+/// Returns the draw from the bundle that is read, which keeps nothing anyway.
+fn text_draw_from<'a>(given: &Given<'a>, tried: bool) -> Option<Asked<'a>>
+    ensures { result ≡ words_of_text_draw given.now tried }
+{
+    if tried { None } else { text_command_of(given) }
 }
 
 fn round_draw_of<'a>(given: &Given<'a>) -> Option<Asked<'a>>
@@ -221,12 +280,27 @@ fn round_draw_of<'a>(given: &Given<'a>) -> Option<Asked<'a>>
     let seal = given.text("seal")?;
     let digits = given.text("digits")?;
     let round = round_of(given)?;
-    let step = Step::Draw {
-        round,
-        seal,
-        digits,
-    };
+    let step = draw_step(given.flag("try"), round, seal, digits);
     step_of(given, step)
+}
+
+/// Returns the draw from a round, which keeps nothing if it is tried.
+fn draw_step<'a>(tried: bool, round: usize, seal: Word<'a>, digits: Word<'a>) -> Step<'a>
+    ensures { result ≡ words_of_draw_step tried round seal.entry digits.entry }
+{
+    if tried {
+        Step::Try {
+            round,
+            seal,
+            digits,
+        }
+    } else {
+        Step::Draw {
+            round,
+            seal,
+            digits,
+        }
+    }
 }
 
 /// Returns the page of a round of the store if the words name one, and else of the bundle or proof that is read.
@@ -272,6 +346,45 @@ fn drop_of<'a>(given: &Given<'a>) -> Option<Asked<'a>>
     let round = round_of(given)?;
     let id = given.text("id")?;
     step_of(given, Step::Drop { round, id })
+}
+
+fn undrop_of<'a>(given: &Given<'a>) -> Option<Asked<'a>>
+    ensures { result ≡ words_of_undrop given.now }
+{
+    let round = round_of(given)?;
+    let id = given.text("id")?;
+    step_of(given, Step::Undrop { round, id })
+}
+
+fn reopen_of<'a>(given: &Given<'a>) -> Option<Asked<'a>>
+    ensures { result ≡ words_of_reopen given.now }
+{
+    let round = later_round_from(round_of(given)?)?;
+    step_of(given, Step::Reopen { round })
+}
+
+/// Returns the round of this number, or None if it is below 2.
+fn later_round_from(number: usize) -> Option<LaterRound>
+    ensures { result ≡ words_of_later_round number }
+{
+    LaterRound::new(number)
+}
+
+fn withdraw_of<'a>(given: &Given<'a>) -> Option<Asked<'a>>
+    ensures { result ≡ words_of_withdraw given.now }
+{
+    let id = given.text("id")?;
+    step_of(given, Step::Withdraw { id })
+}
+
+/// Returns the number of a round, 1 if none is given.
+fn round_or_first(round: Option<usize>) -> usize
+    ensures { result ≡ words_of_first round }
+{
+    match round {
+        Some(round) => round,
+        None => 1,
+    }
 }
 
 /// Returns a command of the office over the store that the words name, or None if they name none.

@@ -12,7 +12,7 @@ ghost use Rattle.command_office.specs.Records.{CallsAreRecorded};
 ghost use Rattle.command_office.specs.Workers.{WorkersChangeNothing};
 
 use command_stores::steps_answer_once;
-use define_offices::laws::repeats_change_nothing as commands_repeat;
+use define_offices::laws::{refused_again, repeats_change_nothing as commands_repeat};
 use office_desk::desk_is_isolated;
 
 /// Every call that satisfies the contract of `office` keeps the promises of `Headline`.
@@ -41,12 +41,14 @@ pub fn calls_are_recorded()
     ensures { CallsAreRecorded }
 {}
 
-/// A command that is given again changes nothing: a charter and rules at once, any other command that made a change at any later time, and a
-/// withdrawal at the desk, which has the same reply again.
+/// A command that is given again changes nothing, as long as nothing took its change back: a charter, rules and bounds at once, any other
+/// command that made a change at any later time, and a withdrawal at the desk, which has the same reply again. A command that took a change
+/// back is refused if it is given again at once.
 pub fn repeats_change_nothing()
     ensures { RepeatsChangeNothing }
 {
     commands_repeat();
+    refused_again();
 }
 
 /// All that the headline says of several calls.

@@ -7,6 +7,7 @@ ghost use Rattle.command_office.specs.Steps.{step_command};
 use command_words::Word;
 use define_runs::{Limits, Workers};
 use office_core::Command;
+use office_tables::{LaterRound, Tickets, copied_tickets};
 use pool_model::Name;
 use std::alloc::{AllocError, Global};
 
@@ -26,9 +27,20 @@ pub enum Step<'a> {
     Seal {
         /// The round's number.
         round: usize,
+        /// The round number of tickets that is kept with the seal, if one is.
+        tickets: Option<Tickets>,
     },
     /// Draws a panel from a sealed round.
     Draw {
+        /// The round's number.
+        round: usize,
+        /// The seal of the round's bundle, as it was published.
+        seal: Word<'a>,
+        /// The digits of dice.
+        digits: Word<'a>,
+    },
+    /// Prints what a draw from a sealed round would draw, and keeps nothing.
+    Try {
         /// The round's number.
         round: usize,
         /// The seal of the round's bundle, as it was published.
@@ -43,15 +55,32 @@ pub enum Step<'a> {
         /// The member's id.
         id: Word<'a>,
     },
+    /// Takes a dropout back.
+    Undrop {
+        /// The round's number.
+        round: usize,
+        /// The member's id.
+        id: Word<'a>,
+    },
     /// Begins the round after one that was drawn and from whose panel somebody dropped out.
     NextRound {
         /// The number of the round before.
         after: usize,
     },
+    /// Takes the last round away while it is open.
+    Reopen {
+        /// The round's number.
+        round: LaterRound,
+    },
     /// Prints a round's bundle.
     Show {
         /// The round's number.
         round: usize,
+    },
+    /// Lets a volunteer withdraw.
+    Withdraw {
+        /// The volunteer's id.
+        id: Word<'a>,
     },
 }
 
@@ -74,7 +103,10 @@ pub fn command_of(alloc: Global, step: &Step<'_>) -> Result<Command, AllocError>
             limits: *limits,
             workers: workers.number(),
         }),
-        Step::Seal { round } => Ok(Command::Seal { round: *round }),
+        Step::Seal { round, tickets } => Ok(Command::Seal {
+            round: *round,
+            tickets: copied_tickets(tickets),
+        }),
         Step::Draw {
             round,
             seal,
@@ -84,8 +116,27 @@ pub fn command_of(alloc: Global, step: &Step<'_>) -> Result<Command, AllocError>
             seal: Name::new(alloc, seal.as_str())?,
             digits: Vec::from_slice(alloc, digits.as_str().as_bytes())?,
         }),
+        Step::Try {
+            round,
+            seal,
+            digits,
+        } => Ok(Command::Try {
+            round: *round,
+            seal: Name::new(alloc, seal.as_str())?,
+            digits: Vec::from_slice(alloc, digits.as_str().as_bytes())?,
+        }),
         Step::Drop { round, id } => Ok(Command::Drop {
             round: *round,
+            id: Name::new(alloc, id.as_str())?,
+        }),
+        Step::Undrop { round, id } => Ok(Command::Undrop {
+            round: *round,
+            id: Name::new(alloc, id.as_str())?,
+        }),
+        Step::Reopen { round } => Ok(Command::Reopen {
+            round: round.copy(),
+        }),
+        Step::Withdraw { id } => Ok(Command::WithdrawId {
             id: Name::new(alloc, id.as_str())?,
         }),
         Step::NextRound { after } => Ok(Command::NextRound { after: *after }),

@@ -1,14 +1,9 @@
--- A line that is written field by field is the line of its fields. The members of a quota panel are volunteers of the pool.
-use Rattle.std.proofs.Common.{◌≡◌, ◌∙◌, ℕ, ◌<◌, List, [], ◌∷◌, ◌++◌, length, get_or, ap, sym, append_assoc, ltb, true, IsTrue}
-use Rattle.std.proofs.lemmas.Bool.{ltb-true}
+-- A line that is written field by field is the line of its fields.
+use Rattle.std.proofs.Common.{◌≡◌, ◌∙◌, ℕ, List, [], ◌∷◌, ◌++◌, ap, sym, append_assoc}
 use Rattle.std.proofs.lemmas.List.{append-nil}
-use Rattle.std.proofs.lemmas.List.Elements.{All-from_recursion}
-use Rattle.define_pools.specs.Pool.{Pool, is_quota_panel}
-use Rattle.define_pools.proofs.AllPanels.{quota_parts}
-use Rattle.define_pools.proofs.Each.{each_from_list_all}
 use Rattle.define_lines.specs.Lines.{line_feed, line_of, tab, tabbed, text_of}
 use Rattle.define_lines.proofs.LineLemmas.{line_written}
-use Rattle.command_meanings.proofs.PanelLines.{tabbed_then}
+use Rattle.pool_text.proofs.PanelLines.{tabbed_then}
 
 four_more : (word : List ℕ) (fields : List (List ℕ)) (a b c d : List ℕ) →
     (((((word ++ tabbed fields) ++ (tab ∷ a)) ++ (tab ∷ b)) ++ (tab ∷ c)) ++ (tab ∷ d)) ++ line_feed ∷ [] ≡ text_of (line_of (word ∷ (fields ++ a ∷ b ∷ c ∷ d ∷ [])) ∷ [])
@@ -22,10 +17,3 @@ pub written_in_turn : (word : List ℕ) (fields : List (List ℕ)) (a b c d : Li
     t0 ≡ word → t1 ≡ t0 ++ tabbed fields → t2 ≡ t1 ++ (tab ∷ a) → t3 ≡ t2 ++ (tab ∷ b) → t4 ≡ t3 ++ (tab ∷ c) → t5 ≡ t4 ++ (tab ∷ d) → t6 ≡ t5 ++ line_feed ∷ [] →
     t6 ≡ text_of (line_of (word ∷ (fields ++ a ∷ b ∷ c ∷ d ∷ [])) ∷ [])
 written_in_turn word fields a b c d t0 t1 t2 t3 t4 t5 t6 e0 e1 e2 e3 e4 e5 e6 = let whole = four_more word fields a b c d in cc
-
--- members of a quota panel are numbers of the pool's volunteers
-pub member_in_range : (pool : Pool) (panel : List ℕ) (index : ℕ) → IsTrue (is_quota_panel pool panel) → index < length panel → get_or panel index 0 < length pool.volunteers
-member_in_range pool panel index h l =
-    let below = (quota_parts pool panel h).below in
-    let each = All-from_recursion (λ i. ltb i (length pool.volunteers) ≡ true) panel (each_from_list_all (λ i. ltb i (length pool.volunteers)) panel below) in
-    ltb-true (get_or panel index 0) (length pool.volunteers) (each index 0 l)

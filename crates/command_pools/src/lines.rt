@@ -18,6 +18,7 @@ ghost use Rattle.command_meanings.specs.Lines.{
 use define_rows::{Op, Pass};
 use leximin_run::At;
 use pool_model::{Panel, Pool};
+use pool_text::push_panel;
 use std::alloc::{AllocError, Global};
 use text_lines::{end_line, push_field, push_number, push_signed};
 
@@ -27,11 +28,7 @@ pub(crate) fn panel_line(alloc: Global, pool: &Pool, panel: &Panel) -> Result<Ve
     ensures { IfOk result (λ line. line.items ≡ words_of_panel pool.now panel.now) }
 {
     let mut line = Vec::new(alloc);
-    line.extend_from_slice(b"panel")?;
-    for number in panel.members() {
-        push_field(&mut line, pool.volunteers()[*number].id().as_bytes())?;
-    }
-    end_line(&mut line)?;
+    push_panel(&mut line, pool, panel)?;
     Ok(line)
 }
 

@@ -5,10 +5,8 @@ ghost use Rattle.std.specs.Prelude.{◌≡◌, ◌<◌, IfSome, length, not};
 ghost use Rattle.command_meanings.specs.Prove.{first_beyond as first_stage_beyond};
 ghost use Rattle.define_proofs.specs.LeafSums.{is_stage_in_reach};
 
+use check_proofs::is_in_reach;
 use pool_model::Stage;
-
-/// The greatest reach of a stage, which is the sum of the absolute values of its cap and weights: 2^56.
-const MAX_REACH: u128 = 72_057_594_037_927_936;
 
 /// Returns the number of the first stage whose reach is above 2^56, counted from 1, if there is one.
 pub(crate) fn first_beyond(stages: &[Stage]) -> Option<usize>
@@ -26,15 +24,4 @@ fn place_beyond(stages: &[Stage]) -> Option<usize>
     ensures within { IfSome result (λ place. place < length stages.now) }
 {
     stages.iter().position(|stage| !is_in_reach(stage))
-}
-
-/// True if the stage's numbers are within reach.
-fn is_in_reach(stage: &Stage) -> bool
-    ensures { result ≡ is_stage_in_reach stage.now }
-{
-    let mut reach = stage.cap().unsigned_abs();
-    for weight in stage.weights() {
-        reach = reach.saturating_add(weight.unsigned_abs());
-    }
-    reach <= MAX_REACH
 }

@@ -2,7 +2,7 @@
 //! `command_meanings`.
 //!
 //! Promises: the three commands; `call_prove`; `prove_within`; and `proof_within`, which makes a valid proof of a pool, or a lottery
-//! without trees, or nothing. Their runs give nothing back to a budget.
+//! without trees, or nothing. Their runs give nothing back to a budget. `proof_answer` is lent to the page.
 #![tactic(auto)]
 
 mod beyond;
@@ -17,4 +17,5 @@ mod verify;
 pub use its_bundle::ItsBundle;
 pub use making::{Made, proof_within};
 pub use proving::{Prove, call_prove, prove_within};
+pub use settling::proof_answer;
 pub use verify::Verify;

@@ -9,10 +9,11 @@ use Rattle.command_shell.specs.declared.status.Printed.TheVariants.{Done}
 use Rattle.command_shell.specs.declared.status.Cause.TheVariants.{Input, Rule}
 use Rattle.command_shell.specs.Answers.{HasOneAnswer, Prints, RightAnswers, Saying, Stops}
 use Rattle.command_meanings.specs.Draw.{refused_draw_line}
-use Rattle.command_meanings.specs.Seal.{bundle_seal}
+use Rattle.define_draws.specs.Lines.{bundle_seal}
 use Rattle.command_shell.specs.declared.bundle_or_proof.BundleOrProof.{BundleOrProof}
 use Rattle.command_shell.specs.BundlesOrProofs.{bundle_in}
-use Rattle.command_meanings.specs.Page.{DrawnPageMeans, DrawnPageOfBundle, PageMeans, PageOfBundle, WithoutLottery, about, draw_means, lottery_in}
+use Rattle.command_meanings.specs.Page.{DrawnPageMeans, DrawnPageOfBundle, PageMeans, PageOfBundle, WithoutLottery, about, draw_means}
+use Rattle.define_offices.specs.Pools.{lottery_in}
 
 about_once : (Means : Bundle → RightAnswers) → ((bundle : Bundle) → HasOneAnswer (Means bundle)) → (it : Option Bundle) → HasOneAnswer (about Means it)
 about_once Means once (Some bundle) = once bundle

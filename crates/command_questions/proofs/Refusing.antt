@@ -13,8 +13,9 @@ use Rattle.command_shell.specs.declared.answer.Answer.{Answer}
 use Rattle.command_shell.specs.declared.status.Cause.TheVariants.{Input, Rule}
 use Rattle.command_shell.specs.declared.status.Printed.TheVariants.{Done}
 use Rattle.command_shell.specs.Answers.{IsRight, Prints, Saying, Stops, saying}
-use Rattle.command_meanings.specs.Seal.{bundle_seal}
-use Rattle.command_meanings.specs.Page.{DrawnPageOfBundle, draw_means, lottery_in}
+use Rattle.define_draws.specs.Lines.{bundle_seal}
+use Rattle.command_meanings.specs.Page.{DrawnPageOfBundle, draw_means}
+use Rattle.define_offices.specs.Pools.{lottery_in}
 
 refuses_alike : (tickets : Option ℕ) (digits : List ℕ) (bundle : Bundle) (why : Refused) → draw (lottery_in tickets bundle.answer.lottery) (bundle_seal bundle) (bundle_seal bundle) digits ≡ Err why →
     (answer : Saying) → IsRight (draw_means tickets (bundle_seal bundle) digits bundle) answer → IsRight (DrawnPageOfBundle tickets digits bundle) answer

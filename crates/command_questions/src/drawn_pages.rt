@@ -3,12 +3,13 @@
 ghost use Rattle.std.specs.Prelude.{◌≡◌, ℕ, IfOk, List, Option};
 ghost use Rattle.define_bundles.specs.BundleText.{bundle_spelling};
 ghost use Rattle.define_pools.specs.Lottery.{TotalAgrees};
-ghost use Rattle.command_meanings.specs.Seal.{bundle_seal};
+ghost use Rattle.define_draws.specs.Lines.{bundle_seal};
 ghost use Rattle.bundle_page.specs.Drawn.{seen_draw};
 ghost use Rattle.bundle_page.specs.Page.{drawn_page_text};
 ghost use Rattle.command_shell.specs.Answers.{HasOneAnswer, IsRight, saying};
 ghost use Rattle.command_shell.specs.declared.bundle_or_proof.BundleOrProof.{BundleOrProof as SeenInput};
-ghost use Rattle.command_meanings.specs.Page.{DrawnPageMeans, DrawnPageOfBundle, draw_means, lottery_in};
+ghost use Rattle.command_meanings.specs.Page.{DrawnPageMeans, DrawnPageOfBundle, draw_means};
+ghost use Rattle.define_offices.specs.Pools.{lottery_in};
 ghost use Rattle.sealed_draw.specs.Answers.{DrawSays};
 
 use crate::inputs::bundle_in;

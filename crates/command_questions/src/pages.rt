@@ -2,7 +2,7 @@
 
 ghost use Rattle.std.specs.Prelude.{◌≡◌, IfOk};
 ghost use Rattle.define_pools.specs.Lottery.{TotalAgrees};
-ghost use Rattle.command_meanings.specs.Seal.{bundle_seal};
+ghost use Rattle.define_draws.specs.Lines.{bundle_seal};
 ghost use Rattle.command_shell.specs.Answers.{HasOneAnswer, IsRight, saying};
 ghost use Rattle.bundle_page.specs.Page.{page_text};
 ghost use Rattle.command_shell.specs.declared.bundle_or_proof.BundleOrProof.{BundleOrProof as SeenInput};

@@ -1,10 +1,11 @@
 -- What `why` reads: a pool, or a proof over one. Builds on Formats and Subjects of `command_shell`, and on the definitions of the texts.
-use Rattle.std.specs.Prelude.{ℕ, Bool, List, take, codes, bytes_eq, if◌then◌else◌, Result, Ok, Err}
+use Rattle.std.specs.Prelude.{ℕ, List, if◌then◌else◌, Result, Ok, Err}
 use Rattle.define_proofs.specs.ProofVerdict.{OfLottery, OfNoPanel, Proof}
 use Rattle.define_lines.specs.Lines.{Fault}
 use Rattle.define_bundles.specs.PoolReading.{read}
 use Rattle.define_pools.specs.Pool.{Pool}
 use Rattle.define_proofs.specs.ProofReading.{read_proof}
+use Rattle.command_shell.specs.BundlesOrProofs.{begins_as_proof}
 use Rattle.command_shell.specs.Formats.{IsPoolText, IsProofText}
 use Rattle.command_shell.specs.Subjects.{Format}
 use Rattle.command_quotas.specs.declared.about.PoolOrProof.{PoolOrProof}
@@ -19,10 +20,6 @@ abbrev pub pool_in : PoolOrProof → Pool
 pool_in (either.Pool pool) = pool
 pool_in (either.Proof proof) = pool_of proof
 
--- a text that begins with `proof` is read as a proof, and any other as a pool
-abbrev pub begins_as_proof : List ℕ → Bool
-begins_as_proof bytes = bytes_eq (codes "proof") (take 5 bytes)
-
 abbrev pub as_pool : Result Pool Fault → Result PoolOrProof Fault
 as_pool (Ok pool) = Ok (either.Pool pool)
 as_pool (Err fault) = Err fault
@@ -31,6 +28,7 @@ abbrev pub as_proof : Result Proof Fault → Result PoolOrProof Fault
 as_proof (Ok proof) = Ok (either.Proof proof)
 as_proof (Err fault) = Err fault
 
+-- a text that begins with `proof` is read as a proof, and any other as a pool
 abbrev pub read_either : List ℕ → Result PoolOrProof Fault
 read_either bytes = if begins_as_proof bytes then as_proof (read_proof bytes) else as_pool (read bytes)
 

@@ -1,13 +1,10 @@
 //! What `why` reads: a pool, or a proof over one. The readers of `command_shell` read them.
 
-use command_shell::Subject;
+use command_shell::{PROOF, Subject};
 use pool_model::Pool;
 use proof_text::Proof;
 use std::alloc::Global;
 use text_lines::TextStop;
-
-/// A text that begins with this word is read as a proof.
-const PROOF: &[u8] = b"proof";
 
 /// A pool, or a proof over one. A text that begins with `proof` is read as a proof, and any other as a pool.
 #[derive(Drop)]

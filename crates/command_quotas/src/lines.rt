@@ -1,18 +1,18 @@
 //! The lines of `loosen`: how far bounds are moved in all, the values whose bounds are moved, and a quota panel of the loosened pool.
 
-ghost use Rattle.std.specs.Prelude.{◌≡◌, ◌++◌, ◌∷◌, [], length, map, nat_lt, None, IfOk, IsTrue, OnOk};
-ghost use Rattle.std.specs.List.{flat_map, list_all, zip};
-ghost use Rattle.define_lines.specs.Lines.{tabbed, text_of};
+ghost use Rattle.std.specs.Prelude.{◌≡◌, ◌++◌, ◌∷◌, [], None, IfOk, IsTrue, OnOk};
+ghost use Rattle.std.specs.List.{flat_map, zip};
+ghost use Rattle.define_lines.specs.Lines.{text_of};
 ghost use Rattle.define_quotas.specs.Teams.{is_team};
-ghost use Rattle.define_pools.specs.Pool.{volunteer};
-ghost use Rattle.command_meanings.specs.Lines.{nodes_spent_line as words_of_nodes_spent, panel_line};
+ghost use Rattle.command_meanings.specs.Lines.{nodes_spent_line as words_of_nodes_spent};
 ghost use Rattle.command_meanings.specs.LooseningLines.{bound_line, is_moved as has_moved, loosening_text as words_of_loosening, moved_line, moved_lines, total_line};
 
 use itoa::Buffer;
-use pool_model::{BoundedValue, Category, Pool, Volunteer};
+use pool_model::{BoundedValue, Category, Pool};
+use pool_text::push_panel;
 use quota_loosen::Loosened;
 use std::alloc::{AllocError, Global};
-use text_lines::{end_line, push_field, push_line, push_number};
+use text_lines::{end_line, push_line, push_number};
 
 /// Returns how far bounds are moved in all, a line for each value whose bounds are moved, and the line of the panel.
 pub(crate) fn loosening_text(
@@ -26,7 +26,7 @@ pub(crate) fn loosening_text(
     let mut text = Vec::new(alloc);
     push_total(&mut text, loosened.total())?;
     push_categories(&mut text, pool.categories(), loosened.pool().categories())?;
-    push_panel(&mut text, pool, loosened.panel().members())?;
+    push_panel(&mut text, pool, loosened.panel())?;
     Ok(text)
 }
 
@@ -111,31 +111,6 @@ fn push_bound(text: &mut Vec<u8>, category: &[u8], value: &BoundedValue) -> Resu
             upper.format(value.upper()).as_bytes(),
         ],
     )
-}
-
-/// Appends the line of a panel: the ids of its members.
-fn push_panel(text: &mut Vec<u8>, pool: &Pool, members: &[usize]) -> Result<(), AllocError>
-    requires { IsTrue (list_all (λ i. nat_lt i (length pool.now.volunteers)) members.now) }
-    ensures { OnOk result (text.new.items ≡ text.old.items ++ panel_line pool.now members.now) }
-{
-    text.extend_from_slice(b"panel")?;
-    push_members(text, pool.volunteers(), members)?;
-    end_line(text)
-}
-
-/// Appends the ids of a panel's members, each after a TAB.
-fn push_members(
-    text: &mut Vec<u8>,
-    volunteers: &[Volunteer],
-    members: &[usize],
-) -> Result<(), AllocError>
-    requires { IsTrue (list_all (λ i. nat_lt i (length volunteers.now)) members.now) }
-    ensures { OnOk result (text.new.items ≡ text.old.items ++ tabbed (map (λ i. (volunteer volunteers.now i).id) members.now)) }
-{
-    for number in members {
-        push_field(text, volunteers[*number].id().as_bytes())?;
-    }
-    Ok(())
 }
 
 /// Returns the line of a search that needs more than `nodes` visits. It has three zeros where

@@ -7,7 +7,7 @@ use std::alloc::Global;
 use text_lines::TextStop;
 
 /// A text that begins with this word is read as a proof.
-const PROOF: &[u8] = b"proof";
+pub const PROOF: &[u8] = b"proof";
 
 /// A bundle, or a proof. A text that begins with `proof` is read as a proof, and any other as a bundle.
 #[derive(Drop)]

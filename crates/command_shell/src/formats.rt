@@ -10,7 +10,7 @@ use std::alloc::Global;
 use text_lines::{TextFault, TextStop};
 
 /// A text that begins with this word is read as a bundle.
-const BUNDLE: &[u8] = b"bundle";
+pub const BUNDLE: &[u8] = b"bundle";
 
 impl Subject for Pool {
     ghost use Rattle.command_shell.specs.Formats.{pool_format};

@@ -18,10 +18,10 @@ mod subject;
 mod telling;
 
 pub use answer::Answer;
-pub use bundle_or_proof::BundleOrProof;
+pub use bundle_or_proof::{BundleOrProof, PROOF};
 pub use calling::{answer_about, call, call_answered_by, call_silent};
 pub use command::{Answering, Command, Meaning, Resources};
-pub use formats::PoolOrBundle;
+pub use formats::{BUNDLE, PoolOrBundle};
 pub use lines::{WRONG_TOTAL, input_line, no_panel};
 pub use reading::{read_input, refuse_input};
 pub use status::{Cause, Printed, Status};

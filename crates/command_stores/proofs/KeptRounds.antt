@@ -10,8 +10,8 @@ use Rattle.office_reports.specs.Rounds.{KeepsDraw}
 keeps_draw : (tables : Tables) (round : Round) → KeepsRound tables round → KeepsDraw round
 keeps_draw tables Open h = record { agrees = λ b e. absurd (cc); named = tt }
 keeps_draw tables (Solved bundle) h = record { agrees = λ b e. (let same : bundle ≡ b = cc in subst (λ (k : Bundle). TotalAgrees k.answer.lottery) same h.total_agrees); named = tt }
-keeps_draw tables (Sealed bundle) h = record { agrees = λ b e. (let same : bundle ≡ b = cc in subst (λ (k : Bundle). TotalAgrees k.answer.lottery) same h.total_agrees); named = tt }
-keeps_draw tables (Drawn bundle digits dropped) h =
+keeps_draw tables (Sealed bundle tickets) h = record { agrees = λ b e. (let same : bundle ≡ b = cc in subst (λ (k : Bundle). TotalAgrees k.answer.lottery) same h.0.total_agrees); named = tt }
+keeps_draw tables (Drawn bundle tickets digits dropped) h =
     record { agrees = λ b e. (let same : bundle ≡ b = cc in subst (λ (k : Bundle). TotalAgrees k.answer.lottery) same h.0.total_agrees); named = h.1.named }
 
 pub round_keeps : (tables : Tables) → IsTables tables → (number : ℕ) (round : Round) → named_round tables.rounds number ≡ Some round → KeepsDraw round

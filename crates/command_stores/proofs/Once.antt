@@ -3,7 +3,7 @@ use Rattle.std.proofs.Common.{◌≡◌, ◌∙◌, ℕ, List, Option, Some, Non
 use Rattle.command_shell.specs.Answers.{Saying}
 use Rattle.define_runs.specs.Run as run
 use Rattle.define_runs.specs.Run.{Ending, Limits}
-use Rattle.define_offices.specs.Commands.{Change, Command, Given, SetCharter, SetRules, Register, Solve, Keep, Seal, Draw, Drop, NextRound, Show, Withdraw, Lines, NoPanel, Outcome, Refuses, Replies, Stops, Unproved}
+use Rattle.define_offices.specs.Commands.{Change, Command, Given, SetCharter, SetRules, Register, Solve, Keep, Seal, Draw, Drop, NextRound, Show, Withdraw, SetBounds, TryDraw, Undrop, Reopen, WithdrawId, Lines, NoPanel, Outcome, Refuses, Replies, Stops, Unproved}
 use Rattle.define_offices.specs.Tables.{Tables}
 use Rattle.define_offices.proofs.Steps.{one_outcome}
 use Rattle.define_imports.specs.Cells.{Fault}
@@ -12,7 +12,7 @@ use Rattle.define_imports.specs.Rules.{ReadsRules}
 use Rattle.define_pools.specs.Pool.{Category}
 use Rattle.command_meanings.specs.declared.office.Import.{Import}
 use Rattle.command_meanings.specs.declared.office.Import.TheVariants as import
-use Rattle.command_meanings.specs.Imports.{Does, HasFault, ImportMeans, NoRules, ReadsFile, ReadsRegister, as_command, fault_answer}
+use Rattle.command_meanings.specs.Imports.{Does, HasFault, ImportMeans, NoRules, ReadsFile, ReadsRegister, as_command, fault_answer, rules_for}
 use Rattle.command_meanings.specs.Steps.{StepMeans, TellsEnding, TellsOutcome, TellsStop, change_of}
 
 -- A run's end is told by at most one answer.
@@ -30,12 +30,17 @@ stop_once (SetCharter charter) ending answer other one two = absurd one
 stop_once (SetRules rules) ending answer other one two = absurd one
 stop_once (Register rows) ending answer other one two = absurd one
 stop_once (Keep round proof) ending answer other one two = absurd one
-stop_once (Seal round) ending answer other one two = absurd one
+stop_once (Seal round tickets) ending answer other one two = absurd one
 stop_once (Draw round given digits) ending answer other one two = absurd one
 stop_once (Drop round id) ending answer other one two = absurd one
 stop_once (NextRound after) ending answer other one two = absurd one
 stop_once (Show round) ending answer other one two = absurd one
 stop_once (Withdraw key) ending answer other one two = absurd one
+stop_once (SetBounds round bounds) ending answer other one two = absurd one
+stop_once (TryDraw round given digits) ending answer other one two = absurd one
+stop_once (Undrop round id) ending answer other one two = absurd one
+stop_once (Reopen round) ending answer other one two = absurd one
+stop_once (WithdrawId id) ending answer other one two = absurd one
 
 -- An outcome is told by at most one answer.
 outcome_once : (command : Command) (outcome : Outcome) (answer other : Saying) → TellsOutcome command outcome answer → TellsOutcome command outcome other → answer ≡ other
@@ -60,8 +65,8 @@ module _ (one_rules : (bytes : List ℕ) (first second : Result (List Category) 
   one_file : (it : Import) (tables : Tables) (bytes : List ℕ) (first second : Result Command Fault) → ReadsFile it tables bytes first → ReadsFile it tables bytes second → first ≡ second
   one_file import.Charter tables bytes first second one two = one ∙ sym two
   one_file (import.Proof round) tables bytes first second one two = one ∙ sym two
-  one_file import.Rules tables bytes first second (said, reads, is) (other, reads_other, is_other) =
-      is ∙ (ap (as_command SetRules) (one_rules bytes said other reads reads_other) ∙ sym is_other)
+  one_file (import.Rules round) tables bytes first second (said, reads, is) (other, reads_other, is_other) =
+      is ∙ (ap (as_command (rules_for round)) (one_rules bytes said other reads reads_other) ∙ sym is_other)
   one_file import.Register tables bytes first second one two = one_register tables.rules bytes first second one two
     where
       one_register : (rules : Option (List Category)) (bytes : List ℕ) (first second : Result Command Fault) → ReadsRegister rules bytes first → ReadsRegister rules bytes second → first ≡ second

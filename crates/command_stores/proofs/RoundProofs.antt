@@ -25,16 +25,16 @@ use Rattle.command_stores.specs.StoreOutcomes.{SettlesLoaded}
 pub without_bundle : (kept : Round) → is_none (bundle_of kept) ≡ is_open (Some kept)
 without_bundle Open = refl
 without_bundle (Solved bundle) = refl
-without_bundle (Sealed bundle) = refl
-without_bundle (Drawn bundle digits dropped) = refl
+without_bundle (Sealed bundle tickets) = refl
+without_bundle (Drawn bundle tickets digits dropped) = refl
 
 module _ (tables : Tables) (round : ℕ) where
   open_or_not : (found : Option Round) → is_open found ≡ true → found ≡ Some Open
   open_or_not None h = absurd (cc)
   open_or_not (Some Open) h = refl
   open_or_not (Some (Solved bundle)) h = absurd (cc)
-  open_or_not (Some (Sealed bundle)) h = absurd (cc)
-  open_or_not (Some (Drawn bundle digits dropped)) h = absurd (cc)
+  open_or_not (Some (Sealed bundle tickets)) h = absurd (cc)
+  open_or_not (Some (Drawn bundle tickets digits dropped)) h = absurd (cc)
 
   -- The pool of an open round, if it has one.
   pub opened : is_open (named_round tables.rounds round) ≡ true → (pool : Option Pool) → IsIfAny (pool_of tables round) pool → TellsOpen tables round pool

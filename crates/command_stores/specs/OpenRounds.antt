@@ -10,8 +10,8 @@ abbrev pub is_open : Option Round → Bool
 is_open None = false
 is_open (Some Open) = true
 is_open (Some (Solved bundle)) = false
-is_open (Some (Sealed bundle)) = false
-is_open (Some (Drawn bundle digits dropped)) = false
+is_open (Some (Sealed bundle tickets)) = false
+is_open (Some (Drawn bundle tickets digits dropped)) = false
 
 -- what `if_any` returns for the result: the pool, or None if the result is a refusal
 abbrev pub IsIfAny : Result Pool Refusal → Option Pool → Type 0

@@ -4,19 +4,20 @@ ghost use Rattle.std.specs.Prelude.{◌≡◌, IfOk};
 ghost use Rattle.command_shell.specs.Answers.{status_number, saying};
 ghost use Rattle.command_shell.specs.Told.{object, told};
 ghost use Rattle.office_import.specs.Answers.{fault_of};
-ghost use Rattle.command_meanings.specs.Imports.{ImportMeans, fault_answer as words_of_fault};
+ghost use Rattle.command_meanings.specs.Imports.{ImportMeans, fault_answer as words_of_fault, rules_for};
 ghost use Rattle.command_stores.specs.ReadFiles.{IsProofRead, IsReadAs};
 ghost use Rattle.command_stores.specs.StoreOutcomes.{SettlesAttached, TextStoreOutcome};
 ghost use Rattle.command_stores.specs.StoreTold.{keeper_told, store_told};
-ghost use Rattle.office_core.specs.Commands.{HasWorkers};
+ghost use Rattle.office_core.specs.Commands.{HasWorkers, seen_command};
 
 use crate::calling::{answer_or_want, attach, load, tell_settled};
 use crate::refusals::refusal_answer;
 use crate::steps::settle_over;
 use command_meanings::Import;
 use command_shell::{Answer, Cause, Resources, Status, input_line, read_input, refuse_input};
-use office_core::{Command, Keeper, KeeperStop, Part, Refusal, Tables};
+use office_core::{Command, Keeper, KeeperStop, Part, Refusal, Rules, Tables};
 use office_import::{ImportFault, ImportStop, read_charter, read_register, read_rules};
+use office_tables::LaterRound;
 use outside::{Sink, Source, Watch};
 use proof_text::{Proof, read_proof};
 use std::alloc::{AllocError, Global};
@@ -101,7 +102,7 @@ fn read_file(
 {
     match import {
         Import::Charter => Ok(Command::Charter(read_charter(alloc, bytes)?)),
-        Import::Rules => Ok(Command::Rules(read_rules(alloc, bytes)?)),
+        Import::Rules { round } => Ok(rules_command(round, read_rules(alloc, bytes)?)),
         Import::Register => match tables.rules() {
             Some(rules) => Ok(Command::Register(read_register(alloc, bytes, rules)?)),
             None => Err(FileStop::NoRules),
@@ -110,6 +111,20 @@ fn read_file(
             round,
             proof: proof_of(alloc, bytes)?,
         }),
+    }
+}
+
+/// Returns the command that sets the rules of the assembly, or, from round 2 on, the bounds of this round.
+fn rules_command(round: usize, rules: Rules) -> Command
+    ensures command { seen_command result ≡ rules_for round rules }
+    ensures workers { HasWorkers result }
+{
+    match LaterRound::new(round) {
+        Some(round) => Command::Bounds {
+            round,
+            bounds: rules,
+        },
+        None => Command::Rules(rules),
     }
 }
 

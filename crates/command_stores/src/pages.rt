@@ -2,7 +2,8 @@
 
 ghost use Rattle.std.specs.Prelude.{◌≡◌, IfOk, Some};
 ghost use Rattle.bundle_page.specs.Page.{page_with as words_of_page, round_head as words_of_head};
-ghost use Rattle.define_offices.specs.Lines.{bundle_seal};
+ghost use Rattle.define_draws.specs.Lines.{bundle_seal};
+ghost use Rattle.define_offices.specs.Pools.{drawn_lottery};
 ghost use Rattle.define_offices.specs.Tables.{bundle_of};
 ghost use Rattle.command_shell.specs.Answers.{saying};
 ghost use Rattle.command_meanings.specs.RoundPages.{draw_of_round, page_of, title_of};
@@ -15,7 +16,7 @@ use bundle_text::{Bundle, write_bundle};
 use command_shell::{Answer, Printed};
 use office_core::{Phase, Refusal, Tables};
 use office_steps::pools::round_named;
-use office_tables::{Round, drawn_by};
+use office_tables::{Round, Tickets, drawn_by};
 use sealed_draw::seal;
 use std::alloc::{AllocError, Global};
 
@@ -85,9 +86,22 @@ fn draw_text(
     if round.phase() != Phase::Drawn {
         return Ok(Vec::new(alloc));
     }
-    let total = bundle.answer().lottery().total().unsigned_abs();
-    match drawn_by(alloc, bundle, round.digits())? {
-        Some(drawn) => drawn_part(alloc, bundle, seal, round.digits(), total, &drawn),
+    let tickets = round.tickets();
+    match drawn_by(alloc, bundle, tickets, round.digits())? {
+        Some(drawn) => {
+            let all = tickets_in(bundle, tickets);
+            drawn_part(alloc, bundle, seal, round.digits(), all, &drawn)
+        }
         None => Ok(Vec::new(alloc)),
+    }
+}
+
+/// Returns how many tickets a round with this bundle is drawn from.
+fn tickets_in(bundle: &Bundle, tickets: &Option<Tickets>) -> u128
+    ensures { result ≡ (drawn_lottery bundle.now tickets.now).total }
+{
+    match tickets {
+        Some(tickets) => u128::from(tickets.count()),
+        None => bundle.answer().lottery().total().unsigned_abs(),
     }
 }

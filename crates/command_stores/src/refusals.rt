@@ -3,13 +3,14 @@
 ghost use Rattle.std.specs.Prelude.{◌≡◌, ◌∷◌, [], codes, map, IfOk};
 ghost use Rattle.command_shell.specs.Answers.{Stops, saying};
 ghost use Rattle.define_lines.specs.Lines.{line_of, text_of};
-ghost use Rattle.define_offices.specs.Lines.{part_name as words_of_part, phase_name as words_of_phase, rule_line};
+ghost use Rattle.define_offices.specs.Lines.{part_name as words_of_part, rule_line};
 ghost use Rattle.office_steps.specs.Replies.{seen_refusal};
 ghost use Rattle.command_meanings.specs.Steps.{refused_by};
 
 use command_shell::{Answer, Cause};
 use itoa::Buffer;
-use office_core::{Part, Phase, Refusal};
+use office_core::{Part, Refusal};
+use office_tables::phase_name;
 use std::alloc::{AllocError, Global};
 use text_lines::push_line;
 
@@ -31,13 +32,17 @@ fn refusal_line(alloc: Global, refusal: &Refusal) -> Result<Vec<u8>, AllocError>
     match refusal {
         Refusal::NoRound { last } => rule(alloc, &[b"NoRound", number.format(*last).as_bytes()]),
         Refusal::Incomplete { what } => rule(alloc, &[b"Incomplete", part_name(*what)]),
-        Refusal::WrongPhase { phase } => rule(alloc, &[b"WrongPhase", phase_name(*phase)]),
+        Refusal::WrongPhase { phase } => {
+            rule(alloc, &[b"WrongPhase", phase_name(*phase).as_bytes()])
+        }
         Refusal::RowDiffers { what } => rule(alloc, &[b"RowDiffers", what.as_bytes()]),
         Refusal::KeyTaken { id } => rule(alloc, &[b"KeyTaken", id.as_bytes()]),
         Refusal::RegisterFull { rows } => {
             rule(alloc, &[b"RegisterFull", number.format(*rows).as_bytes()])
         }
-        Refusal::NotSealed { phase } => rule(alloc, &[b"NotSealed", phase_name(*phase)]),
+        Refusal::NotSealed { phase } => {
+            rule(alloc, &[b"NotSealed", phase_name(*phase).as_bytes()])
+        }
         Refusal::SealDiffers { given, kept } => {
             rule(alloc, &[b"SealDiffers", given.as_bytes(), kept.as_bytes()])
         }
@@ -57,6 +62,11 @@ fn refusal_line(alloc: Global, refusal: &Refusal) -> Result<Vec<u8>, AllocError>
         }
         Refusal::UnknownKey => rule(alloc, &[b"UnknownKey"]),
         Refusal::TooLate => rule(alloc, &[b"TooLate"]),
+        Refusal::TicketsDiffer { kept } => {
+            rule(alloc, &[b"TicketsDiffer", number.format(*kept).as_bytes()])
+        }
+        Refusal::NotDropped { id } => rule(alloc, &[b"NotDropped", id.as_bytes()]),
+        Refusal::UnknownId { id } => rule(alloc, &[b"UnknownId", id.as_bytes()]),
     }
 }
 
@@ -67,17 +77,6 @@ fn rule(alloc: Global, fields: &[&[u8]]) -> Result<Vec<u8>, AllocError>
     let mut line = Vec::new(alloc);
     push_line(&mut line, b"rule", fields)?;
     Ok(line)
-}
-
-fn phase_name(phase: Phase) -> &'static [u8]
-    ensures { result.now ≡ words_of_phase phase }
-{
-    match phase {
-        Phase::Open => b"Open",
-        Phase::Solved => b"Solved",
-        Phase::Sealed => b"Sealed",
-        Phase::Drawn => b"Drawn",
-    }
 }
 
 fn part_name(part: Part) -> &'static [u8]

@@ -1,6 +1,7 @@
 //! Makes the calls of the program that are written down in `data/`, and compares what each tells with what is written behind it. It prints
 //! for each file how many calls were made, and each that told something else. The gate runs this program. No crate uses it, and it has no
-//! promises. All calls of `office` are one, since each tuple of its type parameters costs the gate minutes. `scripts` has the form of the files.
+//! promises. All calls of `office` are one, since each tuple of its type parameters costs the gate minutes. `scripts` has the form of the
+//! files.
 #![tactic(auto)]
 
 mod holding;
@@ -17,6 +18,7 @@ const FILES: &[&str] = &[
     "proofs.calls",
     "lotteries.calls",
     "assemblies.calls",
+    "corrections.calls",
     "imports.calls",
     "desks.calls",
 ];

@@ -6,7 +6,7 @@ use Rattle.command_words.specs.declared.words.CommandWords.{CommandWords}
 use Rattle.command_words.specs.declared.words.Missing.{Missing}
 use Rattle.command_words.specs.declared.words.Missing.TheVariants as missing
 use Rattle.command_words.specs.declared.words.OptionWords.{OptionWords}
-use Rattle.command_words.specs.declared.table.TheConstants.{DRAW_COMMANDS, OFFICE_COMMANDS, PROOF_COMMANDS, RUN_COMMANDS}
+use Rattle.command_words.specs.declared.table.TheConstants.{CORRECTING_COMMANDS, DRAW_COMMANDS, OFFICE_COMMANDS, PROOF_COMMANDS, RUN_COMMANDS}
 
 abbrev pub Text : Type 0
 Text = List ℕ
@@ -55,10 +55,14 @@ draw_commands = map (command_as (λ text. text.now) (λ options. options.now)) D
 unfoldable pub office_commands : List CommandEntry
 office_commands = map (command_as (λ text. text.now) (λ options. options.now)) OFFICE_COMMANDS.now
 
+-- the program's commands that correct what a store has
+unfoldable pub correcting_commands : List CommandEntry
+correcting_commands = map (command_as (λ text. text.now) (λ options. options.now)) CORRECTING_COMMANDS.now
+
 -- the program's commands about the stated run
 unfoldable pub run_commands : List CommandEntry
 run_commands = map (command_as (λ text. text.now) (λ options. options.now)) RUN_COMMANDS.now
 
 -- the program's own table
 unfoldable pub command_table : List CommandEntry
-command_table = proof_commands ++ draw_commands ++ office_commands ++ run_commands
+command_table = proof_commands ++ draw_commands ++ office_commands ++ correcting_commands ++ run_commands

@@ -47,8 +47,8 @@ pub record PlainGive : Type 0 where
   pub chances : Give (codes "chances" ∷ []) name.Chances []
   pub explain : Give (codes "explain" ∷ []) name.Explain []
 
--- for `seal`, `store` may be absent, and rounds are from 0 to 1000, round 1 if none is given. An option must have a value, and may be given
--- only once
+-- for `seal`, `store` may be absent, and rounds are from 0 to 1000, round 1 if none is given. Numbers of tickets are from 1 to 10 ^ 9, and there
+-- is none if none is given. An option must have a value, and may be given only once
 pub record SealGives : Type 0 where
   pub absent : Give (codes "seal" ∷ []) name.Seal (number (codes "round") 1 ∷ [])
   pub store : Give (codes "seal" ∷ codes "--store" ∷ codes "s" ∷ []) name.Seal (text (codes "store") (codes "s") ∷ number (codes "round") 1 ∷ [])
@@ -57,18 +57,26 @@ pub record SealGives : Type 0 where
   pub more : GiveNothing (codes "seal" ∷ codes "--round" ∷ codes "1001" ∷ [])
   pub twice : GiveNothing (codes "seal" ∷ codes "--store" ∷ codes "s" ∷ codes "--store" ∷ codes "t" ∷ [])
   pub no_value : GiveNothing (codes "seal" ∷ codes "--store" ∷ [])
+  pub tickets : Give (codes "seal" ∷ codes "--store" ∷ codes "s" ∷ codes "--tickets" ∷ codes "1" ∷ []) name.Seal
+      (text (codes "store") (codes "s") ∷ number (codes "round") 1 ∷ number (codes "tickets") 1 ∷ [])
+  pub most_tickets : Give (codes "seal" ∷ codes "--tickets" ∷ codes "1000000000" ∷ []) name.Seal (number (codes "round") 1 ∷ number (codes "tickets") 1000000000 ∷ [])
+  pub no_tickets : GiveNothing (codes "seal" ∷ codes "--store" ∷ codes "s" ∷ codes "--tickets" ∷ codes "0" ∷ [])
+  pub more_tickets : GiveNothing (codes "seal" ∷ codes "--store" ∷ codes "s" ∷ codes "--tickets" ∷ codes "1000000001" ∷ [])
 
--- `draw` requires both texts, the seal and the digits; `store` may be absent, and rounds are as in `seal`
+-- `draw` requires both texts, the seal and the digits; `store` may be absent, and rounds are as in `seal`. Its flag `try` is given or not
 pub record DrawGives : Type 0 where
   pub texts : Give (codes "draw" ∷ codes "--seal" ∷ codes "s" ∷ codes "--digits" ∷ codes "97" ∷ []) name.Draw
-      (number (codes "round") 1 ∷ text (codes "seal") (codes "s") ∷ text (codes "digits") (codes "97") ∷ [])
+      (number (codes "round") 1 ∷ text (codes "seal") (codes "s") ∷ text (codes "digits") (codes "97") ∷ flag (codes "try") false ∷ [])
   pub least : Give (codes "draw" ∷ codes "--round" ∷ codes "0" ∷ codes "--seal" ∷ codes "s" ∷ codes "--digits" ∷ codes "97" ∷ []) name.Draw
-      (number (codes "round") 0 ∷ text (codes "seal") (codes "s") ∷ text (codes "digits") (codes "97") ∷ [])
+      (number (codes "round") 0 ∷ text (codes "seal") (codes "s") ∷ text (codes "digits") (codes "97") ∷ flag (codes "try") false ∷ [])
   pub most : Give (codes "draw" ∷ codes "--store" ∷ codes "t" ∷ codes "--round" ∷ codes "1000" ∷ codes "--seal" ∷ codes "s" ∷ codes "--digits" ∷ codes "97" ∷ []) name.Draw
-      (text (codes "store") (codes "t") ∷ number (codes "round") 1000 ∷ text (codes "seal") (codes "s") ∷ text (codes "digits") (codes "97") ∷ [])
+      (text (codes "store") (codes "t") ∷ number (codes "round") 1000 ∷ text (codes "seal") (codes "s") ∷ text (codes "digits") (codes "97") ∷ flag (codes "try") false ∷ [])
   pub more : GiveNothing (codes "draw" ∷ codes "--round" ∷ codes "1001" ∷ codes "--seal" ∷ codes "s" ∷ codes "--digits" ∷ codes "97" ∷ [])
   pub no_seal : GiveNothing (codes "draw" ∷ codes "--digits" ∷ codes "97" ∷ [])
   pub no_digits : GiveNothing (codes "draw" ∷ codes "--seal" ∷ codes "s" ∷ [])
+  pub tried : Give (codes "draw" ∷ codes "--try" ∷ codes "--store" ∷ codes "t" ∷ codes "--seal" ∷ codes "s" ∷ codes "--digits" ∷ codes "97" ∷ []) name.Draw
+      (text (codes "store") (codes "t") ∷ number (codes "round") 1 ∷ text (codes "seal") (codes "s") ∷ text (codes "digits") (codes "97") ∷ flag (codes "try") true ∷ [])
+  pub tried_value : GiveNothing (codes "draw" ∷ codes "--seal" ∷ codes "s" ∷ codes "--digits" ∷ codes "97" ∷ codes "--try" ∷ codes "true" ∷ [])
 
 -- numbers of tickets are from 1 to 10 ^ 9. If none is given, `short` and `short-draw` have 1000, and `dice` and `tickets` have none
 pub record ShortGives : Type 0 where
@@ -202,6 +210,30 @@ pub record NextRoundGives : Type 0 where
   pub more : GiveNothing (codes "next-round" ∷ codes "--store" ∷ codes "s" ∷ codes "--after" ∷ codes "1001" ∷ [])
   pub no_store : GiveNothing (codes "next-round" ∷ [])
 
+-- `undrop` requires the id of the member whose dropout is taken back
+pub record UndropGives : Type 0 where
+  pub rounds : RoundGives name.Undrop (codes "undrop") (codes "--id" ∷ codes "b" ∷ []) (text (codes "id") (codes "b") ∷ [])
+  pub no_id : GiveNothing (codes "undrop" ∷ codes "--store" ∷ codes "s" ∷ [])
+
+-- `reopen` requires the store and the round, which is from 2 to 1000
+pub record ReopenGives : Type 0 where
+  pub least : Give (codes "reopen" ∷ codes "--store" ∷ codes "s" ∷ codes "--round" ∷ codes "2" ∷ []) name.Reopen
+      (text (codes "store") (codes "s") ∷ number (codes "round") 2 ∷ [])
+  pub most : Give (codes "reopen" ∷ codes "--store" ∷ codes "s" ∷ codes "--round" ∷ codes "1000" ∷ []) name.Reopen
+      (text (codes "store") (codes "s") ∷ number (codes "round") 1000 ∷ [])
+  pub first : GiveNothing (codes "reopen" ∷ codes "--store" ∷ codes "s" ∷ codes "--round" ∷ codes "1" ∷ [])
+  pub more : GiveNothing (codes "reopen" ∷ codes "--store" ∷ codes "s" ∷ codes "--round" ∷ codes "1001" ∷ [])
+  pub no_round : GiveNothing (codes "reopen" ∷ codes "--store" ∷ codes "s" ∷ [])
+  pub no_store : GiveNothing (codes "reopen" ∷ codes "--round" ∷ codes "2" ∷ [])
+
+-- `withdraw` requires the store and the id of the volunteer, and has no other option
+pub record WithdrawGives : Type 0 where
+  pub id : Give (codes "withdraw" ∷ codes "--store" ∷ codes "s" ∷ codes "--id" ∷ codes "b" ∷ []) name.Withdraw
+      (text (codes "store") (codes "s") ∷ text (codes "id") (codes "b") ∷ [])
+  pub no_id : GiveNothing (codes "withdraw" ∷ codes "--store" ∷ codes "s" ∷ [])
+  pub no_store : GiveNothing (codes "withdraw" ∷ codes "--id" ∷ codes "b" ∷ [])
+  pub round : GiveNothing (codes "withdraw" ∷ codes "--store" ∷ codes "s" ∷ codes "--id" ∷ codes "b" ∷ codes "--round" ∷ codes "1" ∷ [])
+
 pub record ShownRoundsGive : Type 0 where
   pub show : RoundGives name.Show (codes "show") [] []
   pub report : RoundGives name.Report (codes "report") [] []
@@ -213,9 +245,21 @@ pub record ImportGives (command : CommandName) (word : List ℕ) : Type 0 where
   pub no_store : GiveNothing (word ∷ [])
   pub another : GiveNothing (word ∷ codes "--store" ∷ codes "s" ∷ codes "--round" ∷ codes "1" ∷ [])
 
+-- `import-rules` may also be given a round, from 2 to 1000
+pub record ImportRulesGives : Type 0 where
+  pub store : Give (codes "import-rules" ∷ codes "--store" ∷ codes "s" ∷ []) name.ImportRules (text (codes "store") (codes "s") ∷ [])
+  pub least : Give (codes "import-rules" ∷ codes "--store" ∷ codes "s" ∷ codes "--round" ∷ codes "2" ∷ []) name.ImportRules
+      (text (codes "store") (codes "s") ∷ number (codes "round") 2 ∷ [])
+  pub most : Give (codes "import-rules" ∷ codes "--store" ∷ codes "s" ∷ codes "--round" ∷ codes "1000" ∷ []) name.ImportRules
+      (text (codes "store") (codes "s") ∷ number (codes "round") 1000 ∷ [])
+  pub first : GiveNothing (codes "import-rules" ∷ codes "--store" ∷ codes "s" ∷ codes "--round" ∷ codes "1" ∷ [])
+  pub more : GiveNothing (codes "import-rules" ∷ codes "--store" ∷ codes "s" ∷ codes "--round" ∷ codes "1001" ∷ [])
+  pub no_store : GiveNothing (codes "import-rules" ∷ [])
+  pub another : GiveNothing (codes "import-rules" ∷ codes "--store" ∷ codes "s" ∷ codes "--id" ∷ codes "b" ∷ [])
+
 pub record ImportsGive : Type 0 where
   pub charter : ImportGives name.ImportCharter (codes "import-charter")
-  pub rules : ImportGives name.ImportRules (codes "import-rules")
+  pub rules : ImportRulesGives
   pub register : ImportGives name.ImportRegister (codes "import-register")
 
 -- what gives nothing: no words at all, a word that is no command, the word `help`, the option for the version, which no command has, and an option

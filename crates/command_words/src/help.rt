@@ -16,6 +16,9 @@ To run an assembly over a store:
   show             Prints the bundle of a round: its lottery with its pool
   drop             Notes that a member of the drawn panel drops out
   next-round       Begins the round after one with a dropout
+  undrop           Takes a dropout back that was entered by mistake
+  reopen           Takes an open round away, so that more members can drop out
+  withdraw         Notes that a volunteer withdraws who told the office so
   report           Prints the report of a round, for the public
   pool             Prints the pool of a round
   serve            Opens the desk for volunteers over HTTP

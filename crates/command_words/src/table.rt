@@ -6,6 +6,7 @@ ghost use Rattle.std.specs.Prelude.{◌≡◌, IfOk, map};
 ghost use Rattle.command_words.specs.Table.{
   command_entry,
   command_table as words_of_command_table,
+  correcting_commands as words_of_correcting_commands,
   draw_commands as words_of_draw_commands,
   office_commands as words_of_office_commands,
   proof_commands as words_of_proof_commands,
@@ -25,6 +26,7 @@ pub(crate) fn command_table(alloc: Global) -> Result<Vec<TableCommand>, AllocErr
     table.extend_from_slice(proof_commands())?;
     table.extend_from_slice(draw_commands())?;
     table.extend_from_slice(office_commands())?;
+    table.extend_from_slice(correcting_commands())?;
     table.extend_from_slice(run_commands())?;
     Ok(table)
 }
@@ -48,6 +50,13 @@ fn office_commands() -> &'static [TableCommand]
     ensures { map command_entry result.now ≡ words_of_office_commands }
 {
     OFFICE_COMMANDS
+}
+
+/// Returns the commands that correct what a store has.
+fn correcting_commands() -> &'static [TableCommand]
+    ensures { map command_entry result.now ≡ words_of_correcting_commands }
+{
+    CORRECTING_COMMANDS
 }
 
 /// Returns the commands about the stated run.
@@ -155,7 +164,19 @@ const DRAW_COMMANDS: &[TableCommand] = &[
         name: "seal",
         help: "Prints the seal of the bundle on standard input, or of a round of the store",
         example: "Example: sortition seal < city.bundle",
-        options: &[STORE_IF_ANY, ROUND],
+        options: &[
+            STORE_IF_ANY,
+            ROUND,
+            OptionWords {
+                name: "tickets",
+                help: "The number of tickets, 1 to 1000000000, if the round of the store is to be drawn in a round number of them",
+                form: Form::Number {
+                    least: 1,
+                    most: MOST_TICKETS,
+                },
+                missing: Missing::Absent,
+            },
+        ],
     },
     CommandWords {
         command: CommandName::Dice,
@@ -176,7 +197,18 @@ const DRAW_COMMANDS: &[TableCommand] = &[
         name: "draw",
         help: "Prints the panel that dice draw from the bundle on standard input, or in a round of the store",
         example: "Example: sortition draw --seal SEAL --digits 9957 < city.bundle",
-        options: &[STORE_IF_ANY, ROUND, SEAL, DIGITS],
+        options: &[
+            STORE_IF_ANY,
+            ROUND,
+            SEAL,
+            DIGITS,
+            OptionWords {
+                name: "try",
+                help: "Prints what the digits would draw in the round of the store, and keeps nothing",
+                form: Form::Flag,
+                missing: Missing::Absent,
+            },
+        ],
     },
     CommandWords {
         command: CommandName::Chances,
@@ -212,9 +244,20 @@ const OFFICE_COMMANDS: &[TableCommand] = &[
     CommandWords {
         command: CommandName::ImportRules,
         name: "import-rules",
-        help: "Sets the rules of the store by the CSV file on standard input",
+        help: "Sets the rules of the store, or the bounds of an open round, by the CSV file on standard input",
         example: "Example: sortition import-rules --store city.store < rules.csv",
-        options: &[STORE],
+        options: &[
+            STORE,
+            OptionWords {
+                name: "round",
+                help: "The number of the open round whose bounds are set, 2 to 1000",
+                form: Form::Number {
+                    least: 2,
+                    most: MOST_ROUND,
+                },
+                missing: Missing::Absent,
+            },
+        ],
     },
     CommandWords {
         command: CommandName::ImportRegister,
@@ -315,6 +358,58 @@ const OFFICE_COMMANDS: &[TableCommand] = &[
                 help: "Tells each visit on standard error: the page and the status",
                 form: Form::Flag,
                 missing: Missing::Absent,
+            },
+        ],
+    },
+];
+
+const CORRECTING_COMMANDS: &[TableCommand] = &[
+    CommandWords {
+        command: CommandName::Undrop,
+        name: "undrop",
+        help: "Takes a dropout back that was entered by mistake, while there is no next round",
+        example: "Example: sortition undrop --store city.store --id p07",
+        options: &[
+            STORE,
+            ROUND,
+            OptionWords {
+                name: "id",
+                help: "The id of the member whose dropout is taken back",
+                form: Form::Text,
+                missing: Missing::Refused,
+            },
+        ],
+    },
+    CommandWords {
+        command: CommandName::Reopen,
+        name: "reopen",
+        help: "Takes the last round away while it is open, so that more members of the round before can drop out",
+        example: "Example: sortition reopen --store city.store --round 2",
+        options: &[
+            STORE,
+            OptionWords {
+                name: "round",
+                help: "The number of the round that is taken away, 2 to 1000",
+                form: Form::Number {
+                    least: 2,
+                    most: MOST_ROUND,
+                },
+                missing: Missing::Refused,
+            },
+        ],
+    },
+    CommandWords {
+        command: CommandName::Withdraw,
+        name: "withdraw",
+        help: "Notes that a volunteer withdraws who told the office so",
+        example: "Example: sortition withdraw --store city.store --id p07",
+        options: &[
+            STORE,
+            OptionWords {
+                name: "id",
+                help: "The id of the volunteer who withdraws",
+                form: Form::Text,
+                missing: Missing::Refused,
             },
         ],
     },

@@ -55,6 +55,12 @@ pub enum CommandName {
     Drop,
     /// The round after one with a dropout.
     NextRound,
+    /// A dropout that was entered by mistake.
+    Undrop,
+    /// The last round while it is open, which is taken away.
+    Reopen,
+    /// A volunteer who withdraws, entered by the office.
+    Withdraw,
     /// The bundle of a round.
     Show,
     /// The report of a round.

@@ -13,12 +13,15 @@ ghost use Rattle.command_words.specs.WorkedWords.{
   PageGives,
   PlainGive,
   ProveGives,
+  ReopenGives,
   SealGives,
   SearchesGive,
   ServeGives,
   ShortGives,
   ShownRoundsGive,
   SolveGives,
+  UndropGives,
+  WithdrawGives,
 };
 
 /// The names of the commands, their defaults and the ends of their ranges are those of `specs/WorkedWords.antt`.
@@ -32,6 +35,9 @@ pub fn words_are_worked()
     ensures solve { SolveGives }
     ensures drop { DropGives }
     ensures next_round { NextRoundGives }
+    ensures undrop { UndropGives }
+    ensures reopen { ReopenGives }
+    ensures withdraw { WithdrawGives }
     ensures shown { ShownRoundsGive }
     ensures imports { ImportsGive }
     ensures searches { SearchesGive }

@@ -14,7 +14,8 @@ use Rattle.define_bundles.specs.BundleText.{Bundle, bundle_spelling}
 use Rattle.define_offices.specs.Tables.{Entry, Tables}
 use Rattle.define_offices.specs.Commands.{Outcome, Replies, Refuses, Stops, Unproved}
 use Rattle.define_offices.specs.Deciding.{drawn_ids, place_of_hash, withdraw_at, with_hash}
-use Rattle.define_offices.specs.Lines.{bundle_seal, phase_name}
+use Rattle.define_offices.specs.Lines.{phase_name}
+use Rattle.define_draws.specs.Lines.{bundle_seal}
 use Rattle.define_offices.specs.Pools.{drawn_of}
 use Rattle.define_offices.specs.Steps.{tables_after}
 use Rattle.define_draws.specs.Seal.{seal_of}
@@ -63,20 +64,25 @@ if_by method request reply = if bytes_eq request.method method then reply else n
 abbrev pub bundle_reply : Request → Published → Reply
 bundle_reply request Nothing = not_found
 bundle_reply request (TheBundle bundle) = if_by (codes "GET") request (told_text (bundle_spelling bundle))
-bundle_reply request (TheDraw bundle digits) = if_by (codes "GET") request (told_text (bundle_spelling bundle))
+bundle_reply request (TheDraw bundle tickets digits) = if_by (codes "GET") request (told_text (bundle_spelling bundle))
 
-abbrev pub draw_body : Bundle → List ℕ → List ℕ
-draw_body bundle digits =
+-- the end of the body for a draw, with the round number of tickets if one was kept with the seal
+abbrev pub draw_end : Option ℕ → List ℕ
+draw_end None = codes "}"
+draw_end (Some tickets) = codes ",\"tickets\":" ++ quoted (decimal tickets) ++ codes "}"
+
+abbrev pub draw_body : Bundle → Option ℕ → List ℕ → List ℕ
+draw_body bundle tickets digits =
     codes "{\"digits\":" ++ quoted digits
-    ++ codes ",\"panel\":" ++ texts (drawn_ids bundle digits)
+    ++ codes ",\"panel\":" ++ texts (drawn_ids bundle tickets digits)
     ++ codes ",\"seal\":" ++ quoted (bundle_seal bundle)
-    ++ codes ",\"ticket\":" ++ quoted (decimal (drawn_of bundle digits).ticket)
-    ++ codes "}"
+    ++ codes ",\"ticket\":" ++ quoted (decimal (drawn_of bundle tickets digits).ticket)
+    ++ draw_end tickets
 
 abbrev pub draw_reply : Request → Published → Reply
 draw_reply request Nothing = not_found
 draw_reply request (TheBundle bundle) = not_found
-draw_reply request (TheDraw bundle digits) = if_by (codes "GET") request (told (draw_body bundle digits))
+draw_reply request (TheDraw bundle tickets digits) = if_by (codes "GET") request (told (draw_body bundle tickets digits))
 
 -- ---- the reply to a volunteer who asks with a key
 
@@ -95,13 +101,13 @@ chance_in bundle id = option_map (chance_text bundle.answer.lottery) (number_of 
 abbrev pub chance_of : Published → List ℕ → Option (List ℕ)
 chance_of Nothing id = None
 chance_of (TheBundle bundle) id = chance_in bundle id
-chance_of (TheDraw bundle digits) id = chance_in bundle id
+chance_of (TheDraw bundle tickets digits) id = chance_in bundle id
 
 -- whether the volunteer with an id was drawn, once the round is drawn
 abbrev pub is_drawn : Published → List ℕ → Option Bool
 is_drawn Nothing id = None
 is_drawn (TheBundle bundle) id = None
-is_drawn (TheDraw bundle digits) id = Some (includes_list (drawn_ids bundle digits) id)
+is_drawn (TheDraw bundle tickets digits) id = Some (includes_list (drawn_ids bundle tickets digits) id)
 
 -- what a volunteer sees
 abbrev pub own_body : View → Own → List ℕ

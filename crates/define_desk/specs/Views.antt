@@ -8,24 +8,25 @@ use Rattle.define_offices.specs.declared.Phase.{Phase}
 use Rattle.define_offices.specs.Tables.{Entry, Round, Open, Solved, Sealed, Drawn, Tables, last_phase}
 use Rattle.define_offices.specs.Deciding.{with_hash}
 
--- what is published of a round: its bundle once it is sealed, with the digits of the dice once it is drawn
+-- what is published of a round: its bundle once it is sealed; once it is drawn, also the digits of the dice, and the round number of
+-- tickets that was kept with the seal, if one was
 pub data Published : Type 0 where
   Nothing : Published
   TheBundle : (bundle : Bundle) → Published
-  TheDraw : (bundle : Bundle) (digits : List ℕ) → Published
+  TheDraw : (bundle : Bundle) (tickets : Option ℕ) (digits : List ℕ) → Published
 
 abbrev pub published : Round → Published
 published Open = Nothing
 published (Solved bundle) = Nothing
-published (Sealed bundle) = TheBundle bundle
-published (Drawn bundle digits dropped) = TheDraw bundle digits
+published (Sealed bundle tickets) = TheBundle bundle
+published (Drawn bundle tickets digits dropped) = TheDraw bundle tickets digits
 
 -- the ids of those who dropped out of a round
 abbrev pub dropped_of : Round → List (List ℕ)
 dropped_of Open = []
 dropped_of (Solved bundle) = []
-dropped_of (Sealed bundle) = []
-dropped_of (Drawn bundle digits dropped) = dropped
+dropped_of (Sealed bundle tickets) = []
+dropped_of (Drawn bundle tickets digits dropped) = dropped
 
 -- the numbers of the rounds of which `id` dropped out, if the first of the rounds has the number `number`
 abbrev pub dropped_from : List ℕ → List Round → ℕ → List ℕ

@@ -1,5 +1,5 @@
 -- Requests to the desk over the tables of WorkedOffice of `define_offices`, and its replies, byte for byte.
-use Rattle.std.specs.Prelude.{ℕ, true, List, [], ◌∷◌, codes}
+use Rattle.std.specs.Prelude.{ℕ, true, List, [], ◌∷◌, codes, None, Some}
 use Rattle.httparse.specs.Grammar.{Field, RequestHead, crlf}
 use Rattle.define_offices.specs.Deciding.{entry_of}
 use Rattle.define_offices.specs.Tables.{Round, Open, Solved, Sealed, Drawn, Tables}
@@ -36,7 +36,7 @@ abbrev pub solved_round : Tables
 solved_round = in_rounds (Solved first_bundle ∷ [])
 
 abbrev pub sealed_round : Tables
-sealed_round = in_rounds (Sealed first_bundle ∷ [])
+sealed_round = in_rounds (Sealed first_bundle None ∷ [])
 
 -- the digits `0` drew a and c, and a dropped out
 abbrev pub drawn_round : Tables
@@ -48,7 +48,7 @@ second_round = in_rounds (drawn (codes "a" ∷ []) ∷ Open ∷ [])
 
 -- the second round drew b and c, and c dropped out
 abbrev pub second_drawn : Round
-second_drawn = Drawn second_bundle (codes "0") (codes "c" ∷ [])
+second_drawn = Drawn second_bundle None (codes "0") (codes "c" ∷ [])
 
 abbrev pub drawn_again : Tables
 drawn_again = in_rounds (drawn (codes "a" ∷ []) ∷ second_drawn ∷ [])
@@ -84,3 +84,7 @@ post_with fields = record own_head { method = codes "POST"; target = codes "/me/
 -- the whole reply to `own_bytes` while the first round is open
 abbrev pub own_told : List ℕ
 own_told = codes "HTTP/1.1 200 OK\r\nContent-Type: application/json\r\nContent-Length: 80\r\nConnection: close\r\n\r\n{\"chance\":null,\"drawn\":null,\"id\":\"a\",\"phase\":\"Open\",\"round\":1,\"withdrawn\":false}"
+
+-- the first round, drawn in 10 tickets by the digit 7
+abbrev pub drawn_in_ten : Tables
+drawn_in_ten = in_rounds (Drawn first_bundle (Some 10) (codes "7") [] ∷ [])

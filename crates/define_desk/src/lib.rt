@@ -10,7 +10,7 @@ ghost use Rattle.define_offices.specs.WorkedOffice.{first_bundle, with_rows};
 ghost use Rattle.define_desk.specs.Requests.{AreAsking, Asks, NoRequest, TooLarge, asking_by};
 ghost use Rattle.define_desk.specs.Replies.{bad_request, not_allowed, not_found, out_of_memory, reply_text, told, told_text, too_large, too_late, unavailable, unknown_key};
 ghost use Rattle.define_desk.specs.Desk.{leaving, served, served_by};
-ghost use Rattle.define_desk.specs.WorkedDesk.{a_withdrew, asked_with, drawn_again, drawn_round, field, get, get_own, get_seat, others_differ, own_bytes, own_head, own_told, post_with, post_withdrawal, sealed_round, second_round, solved_round, third_round};
+ghost use Rattle.define_desk.specs.WorkedDesk.{a_withdrew, asked_with, drawn_again, drawn_in_ten, drawn_round, field, get, get_own, get_seat, others_differ, own_bytes, own_head, own_told, post_with, post_withdrawal, sealed_round, second_round, solved_round, third_round};
 
 /// A volunteer asks with a key. The reply is the same if all other rows differ.
 pub fn worked_volunteers()
@@ -18,6 +18,8 @@ pub fn worked_volunteers()
     ensures others { served others_differ (get_own (codes "abc")) ≡ leaving others_differ (served with_rows (get_own (codes "abc"))).reply }
     ensures sealed { (served sealed_round (get_own (codes "k2"))).reply
         ≡ told (codes "{\"chance\":\"1/2\",\"drawn\":null,\"id\":\"b\",\"phase\":\"Sealed\",\"round\":1,\"withdrawn\":false}") }
+    ensures in_ten { (served drawn_in_ten (get_own (codes "k2"))).reply
+        ≡ told (codes "{\"chance\":\"1/2\",\"drawn\":true,\"id\":\"b\",\"phase\":\"Drawn\",\"round\":1,\"withdrawn\":false}") }
     ensures drawn { (served drawn_round (get_own (codes "abc"))).reply
         ≡ told (codes "{\"chance\":\"1/2\",\"drawn\":true,\"id\":\"a\",\"phase\":\"Drawn\",\"round\":1,\"withdrawn\":false}") }
     ensures second { (served second_round (get_own (codes "k2"))).reply
@@ -60,6 +62,8 @@ pub fn worked_pages()
     ensures undrawn { served sealed_round (get (codes "/public/draw/1")) ≡ leaving sealed_round not_found }
     ensures drawn { served drawn_round (get (codes "/public/draw/1")) ≡ leaving drawn_round
         (told (codes "{\"digits\":\"0\",\"panel\":[\"a\",\"c\"],\"seal\":\"41f145deb96e63082dd54ce2bcf3dea5bf3bb3cf4f2936371c318b2d1a4355e7\",\"ticket\":\"0\"}")) }
+    ensures tickets { served drawn_in_ten (get (codes "/public/draw/1")) ≡ leaving drawn_in_ten
+        (told (codes "{\"digits\":\"7\",\"panel\":[\"b\",\"d\"],\"seal\":\"41f145deb96e63082dd54ce2bcf3dea5bf3bb3cf4f2936371c318b2d1a4355e7\",\"ticket\":\"7\",\"tickets\":\"10\"}")) }
 {}
 
 /// Requests that are refused: by the path before the method, and by the method before the key.

@@ -6,3 +6,4 @@ pub mod Short
 pub mod ShortBundle
 pub mod Shares
 pub mod WorkedShort
+pub mod Lines

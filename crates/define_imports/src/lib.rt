@@ -27,17 +27,23 @@ pub fn read_rules_are_rules()
 
 /// What is read as a charter: some cases without a fault, and at least one for each kind of fault.
 pub fn worked_charters()
-    ensures right { charter_of (Some (member (codes "size") (integer (pos 2)) (member (codes "title") (string (codes "River")) no_members))) ≡ Ok (record { title = codes "River"; size = 2 }) }
+    ensures right { charter_of (Some (member (codes "size") (integer (pos 2)) (member (codes "title") (string (codes "River")) no_members))) ≡ Ok (record { title = codes "River"; size = 2; volunteers = 400 }) }
     ensures no_toml { charter_of None ≡ fault 0 1 }
     ensures no_title { charter_of (Some (member (codes "size") (integer (pos 0)) no_members)) ≡ fault 0 2 }
     ensures title_no_string { charter_of (Some (member (codes "title") (integer (pos 2)) no_members)) ≡ fault 0 2 }
     ensures no_size { charter_of (Some (member (codes "title") (string []) no_members)) ≡ fault 0 3 }
     ensures size_no_number { charter_of (Some (member (codes "size") (string (codes "2")) (member (codes "title") (string []) no_members))) ≡ fault 0 3 }
-    ensures empty_title { charter_of_parts (Some []) (Some (pos 0)) ≡ fault 0 4 }
-    ensures title_with_tab { charter_of_parts (Some (9 ∷ [])) (Some (pos 2)) ≡ fault 0 4 }
-    ensures too_small { charter_of_parts (Some (codes "River")) (Some (pos 0)) ≡ fault 0 6 }
-    ensures too_great { charter_of_parts (Some (codes "River")) (Some (pos 201)) ≡ fault 0 6 }
-    ensures blanks_stay { charter_of_parts (Some (codes " River")) (Some (pos 200)) ≡ Ok (record { title = codes " River"; size = 200 }) }
+    ensures empty_title { charter_of_parts (Some []) (Some (pos 0)) 400 ≡ fault 0 4 }
+    ensures title_with_tab { charter_of_parts (Some (9 ∷ [])) (Some (pos 2)) 400 ≡ fault 0 4 }
+    ensures too_small { charter_of_parts (Some (codes "River")) (Some (pos 0)) 400 ≡ fault 0 6 }
+    ensures too_great { charter_of_parts (Some (codes "River")) (Some (pos 201)) 400 ≡ fault 0 6 }
+    ensures large { charter_of (Some (member (codes "size") (integer (pos 1000)) (member (codes "title") (string (codes "River")) (member (codes "volunteers") (integer (pos 401)) no_members)))) ≡
+        Ok (record { title = codes "River"; size = 1000; volunteers = 401 }) }
+    ensures few { charter_of_parts (Some (codes "River")) (Some (pos 201)) 300 ≡ fault 0 6 }
+    ensures no_rows { charter_of_parts (Some (codes "River")) (Some (pos 2)) 0 ≡ fault 0 6 }
+    ensures too_many { charter_of_parts (Some (codes "River")) (Some (pos 2)) 4001 ≡ fault 0 6 }
+    ensures rows_no_number { charter_of (Some (member (codes "size") (integer (pos 2)) (member (codes "title") (string (codes "River")) (member (codes "volunteers") (string (codes "9")) no_members)))) ≡ fault 0 6 }
+    ensures blanks_stay { charter_of_parts (Some (codes " River")) (Some (pos 200)) 400 ≡ Ok (record { title = codes " River"; size = 200; volunteers = 400 }) }
 {}
 
 /// Files of rules: some without a fault, and at least one for each kind of fault. Many of these also have a fault of a lower kind in a

@@ -1,18 +1,19 @@
 -- The pool of a round satisfies `IsPool`, and has the register's ids.
-use Rattle.std.proofs.Common.{◌≡◌, ℕ, zero, suc, ◌+◌, Bool, true, ltb, eqb, List, [], ◌∷◌, map, length, Option, Some, None, Ok, unwrap_or, refl, sym, ap, ◌∙◌, arith, subst}
+use Rattle.std.proofs.Common.{◌≡◌, ℕ, zero, suc, ◌+◌, Bool, true, ltb, leb, ◌&&◌, eqb, List, [], ◌∷◌, map, length, Option, Some, None, Ok, unwrap_or, refl, sym, ap, ◌∙◌, arith, subst}
 use Rattle.std.specs.List.{list_all}
 use Rattle.std.proofs.lemmas.Bool.{and_from, and_parts, eqb-true, le-leb, leb-true, lt-ltb}
-use Rattle.define_pools.specs.declared.Limits.TheVariants.{Usual, Large}
+use Rattle.define_pools.specs.declared.Limits.TheVariants.{Large}
 use Rattle.define_pools.specs.declared.Standing.{Standing}
 use Rattle.define_pools.specs.Building.{are_known, ids, place_of, places_of, value_names}
 use Rattle.define_pools.specs.Lists.{includes_list}
-use Rattle.define_pools.specs.Pool.{Category, IsPool, Pool, Volunteer, has_values, is_household, is_name, is_size, most_volunteers}
+use Rattle.define_pools.specs.Pool.{Category, IsPool, Pool, Volunteer, has_values, is_household, is_name, is_size, limits_for, most_volunteers}
 use Rattle.define_pools.proofs.BuildingLemmas.{is_size_of_pool, place_at}
 use Rattle.define_offices.specs.Tables.{Charter, Entry, Round, Open, Solved, Sealed, Drawn, Tables, round_at}
 use Rattle.define_offices.specs.Deciding.{fits_rules}
-use Rattle.define_offices.specs.Facts.{IsTables, entry_ids, is_entry}
-use Rattle.define_offices.specs.Pools.{after_withdrawals, drawn_of, first_pool, next_pool, next_standing, numbers_of, open_pool, pool_after, pool_by, pool_if, pool_of, restood, restood_pool, round_pool, volunteer_of}
+use Rattle.define_offices.specs.Facts.{IsTables, entry_ids, is_charter, is_entry, is_most}
+use Rattle.define_offices.specs.Pools.{after_withdrawals, drawn_of, first_pool, next_pool, next_standing, numbers_of, open_pool, pool_after, pool_by, pool_if, pool_of, restood, restood_pool, round_pool, volunteer_of, with_bounds}
 use Rattle.define_offices.proofs.Rounds.{drawn_before}
+use Rattle.define_offices.proofs.Shapes.{IsPool-bounds, volunteers-bounds}
 
 -- ---- if volunteers get other standings, nothing else of the pool changes
 
@@ -90,6 +91,18 @@ module _ (categories : List Category) where
 
 -- ---- the pool of an open round
 
+-- the parts of what is true of a charter
+pub record CharterIs (charter : Charter) : Type 0 where
+  pub title : is_name charter.title ≡ true
+  pub most : leb charter.volunteers (most_volunteers Large) ≡ true
+  pub size : is_size (limits_for charter.volunteers) charter.size ≡ true
+
+pub charter_is : (charter : Charter) → is_charter charter ≡ true → CharterIs charter
+charter_is charter h =
+    let parts = and_parts (is_name charter.title && is_most charter.volunteers) (is_size (limits_for charter.volunteers) charter.size) h in
+    let first = and_parts (is_name charter.title) (is_most charter.volunteers) parts.0 in
+    record { title = first.0; most = (and_parts (leb 1 charter.volunteers) (leb charter.volunteers (most_volunteers Large)) first.1).1; size = parts.1 }
+
 pub record IsRoundPool (tables : Tables) (pool : Pool) : Type 0 where
   pub is_pool : IsPool pool
   pub same_ids : ids pool.volunteers ≡ entry_ids tables.register
@@ -99,14 +112,16 @@ module _ (tables : Tables) (keeps : IsTables tables) (charter : Charter) (catego
   first_is_pool =
       let rules = keeps.rules categories has_rules in
       let register = tables.register in
+      let its = charter_is charter (keeps.charter charter has_charter) in
+      let few : leb (length register) charter.volunteers ≡ true = rw has_charter at keeps.few_rows in
       let fit : list_all (λ (entry : Entry). fits_rules categories entry.values) register ≡ true = rw has_rules at keeps.fit in
       record {
         is_pool = record {
-          size = is_size_of_pool Usual charter.size (and_parts (is_name charter.title) (is_size Usual charter.size) (keeps.charter charter has_charter)).1;
+          size = is_size_of_pool (limits_for charter.volunteers) charter.size its.size;
           few_categories = rules.few;
           categories = rules.each;
           different_categories = rules.different;
-          few_volunteers = le-leb (length (map (volunteer_of categories) register)) (most_volunteers Large) (let few = leb-true (length register) 400 keeps.few_rows in omega (arith, few, length-rows categories register));
+          few_volunteers = le-leb (length (map (volunteer_of categories) register)) (most_volunteers Large) (let below = leb-true (length register) charter.volunteers few in let most = leb-true charter.volunteers (most_volunteers Large) its.most in omega (arith, below, most, length-rows categories register));
           ids = names-rows categories register keeps.rows;
           different_ids = rw (ids-rows categories register) keeps.different_ids;
           values = values-rows categories register fit;
@@ -119,21 +134,22 @@ module _ (tables : Tables) (keeps : IsTables tables) (charter : Charter) (catego
   open_is_pool zero round at = first_is_pool
   open_is_pool (suc before) round at =
       let drawn = drawn_before tables.rounds before round keeps.closed at in
-      let kept = (keeps.rounds before (Drawn drawn.bundle drawn.digits drawn.dropped) drawn.there).0 in
-      let next = next_pool drawn.bundle.pool (drawn_of drawn.bundle drawn.digits).panel (numbers_of drawn.bundle.pool drawn.dropped) in
-      let standings = next_standing (drawn_of drawn.bundle drawn.digits).panel (numbers_of drawn.bundle.pool drawn.dropped) in
-      let is : IsRoundPool tables (pool_after tables.register (Some (Drawn drawn.bundle drawn.digits drawn.dropped))) = record {
-        is_pool = IsPool-restood (after_withdrawals tables.register) next (IsPool-restood standings drawn.bundle.pool kept.is_bundle.is_pool);
-        same_ids = ids-restood (after_withdrawals tables.register) next ∙ (ids-restood standings drawn.bundle.pool ∙ kept.same_ids);
+      let kept = (keeps.rounds before (Drawn drawn.bundle drawn.tickets drawn.digits drawn.dropped) drawn.there).0 in
+      let next = next_pool drawn.bundle.pool (drawn_of drawn.bundle drawn.tickets drawn.digits).panel (numbers_of drawn.bundle.pool drawn.dropped) in
+      let standings = next_standing (drawn_of drawn.bundle drawn.tickets drawn.digits).panel (numbers_of drawn.bundle.pool drawn.dropped) in
+      let pool = pool_after tables.register (Some (Drawn drawn.bundle drawn.tickets drawn.digits drawn.dropped)) in
+      let is : IsRoundPool tables (with_bounds tables.bounds pool) = record {
+        is_pool = IsPool-bounds pool tables.bounds (IsPool-restood (after_withdrawals tables.register) next (IsPool-restood standings drawn.bundle.pool kept.is_bundle.is_pool)) keeps.bounds;
+        same_ids = ap ids (volunteers-bounds pool tables.bounds) ∙ (ids-restood (after_withdrawals tables.register) next ∙ (ids-restood standings drawn.bundle.pool ∙ kept.same_ids));
       } in
-      subst (λ found. IsRoundPool tables (pool_after tables.register found)) (sym drawn.there) is
+      subst (λ found. IsRoundPool tables (with_bounds tables.bounds (pool_after tables.register found))) (sym drawn.there) is
 
   pub round_is_pool : (place : ℕ) (round : Round) → round_at tables.rounds place ≡ Some round → IsRoundPool tables (round_pool charter categories tables place round)
   round_is_pool place Open at = open_is_pool place Open at
   round_is_pool place (Solved bundle) at = let kept = keeps.rounds place (Solved bundle) at in record { is_pool = kept.is_bundle.is_pool; same_ids = kept.same_ids }
-  round_is_pool place (Sealed bundle) at = let kept = keeps.rounds place (Sealed bundle) at in record { is_pool = kept.is_bundle.is_pool; same_ids = kept.same_ids }
-  round_is_pool place (Drawn bundle digits dropped) at =
-      let kept = (keeps.rounds place (Drawn bundle digits dropped) at).0 in record { is_pool = kept.is_bundle.is_pool; same_ids = kept.same_ids }
+  round_is_pool place (Sealed bundle tickets) at = let kept = (keeps.rounds place (Sealed bundle tickets) at).0 in record { is_pool = kept.is_bundle.is_pool; same_ids = kept.same_ids }
+  round_is_pool place (Drawn bundle tickets digits dropped) at =
+      let kept = (keeps.rounds place (Drawn bundle tickets digits dropped) at).0 in record { is_pool = kept.is_bundle.is_pool; same_ids = kept.same_ids }
 
 -- the pool satisfies `IsPool` and has the register's ids, and there are a charter and rules
 pub record HasPool (tables : Tables) (pool : Pool) : Type 0 where

@@ -1,8 +1,8 @@
 -- Lists of rounds after one round is changed, or one is added.
-use Rattle.std.proofs.Common.{◌≡◌, ℕ, zero, suc, true, List, [], ◌∷◌, ◌++◌, length, Some, ◌⊎◌, inl, inr, refl, ap, ◌∙◌, arith}
+use Rattle.std.proofs.Common.{◌≡◌, ℕ, zero, suc, true, List, [], ◌∷◌, ◌++◌, length, Option, Some, None, ◌⊎◌, inl, inr, refl, ap, ◌∙◌, arith}
 use Rattle.std.proofs.lemmas.Bool.{and_from, and_parts, false≢true}
 use Rattle.define_bundles.specs.BundleText.{Bundle}
-use Rattle.define_offices.specs.Tables.{Round, Open, Solved, Sealed, Drawn, changed_at, round_at}
+use Rattle.define_offices.specs.Tables.{Round, Open, Solved, Sealed, Drawn, changed_at, round_at, taken_at}
 use Rattle.define_offices.specs.Facts.{closed_but_last, has_drop}
 
 -- `round` is what `change` makes of the round at `place`
@@ -55,31 +55,87 @@ closed-push (first ∷ next ∷ later) (suc place) round last h at end drop =
     let parts = and_parts (has_drop first) (closed_but_last (next ∷ later)) h in
     and_from (has_drop first) (closed_but_last ((next ∷ later) ++ last ∷ [])) parts.0 (closed-push (next ∷ later) place round last parts.1 at (omega arith) drop)
 
+-- after the last round is changed, `closed_but_last` still holds
+pub closed-changed-last : (change : Round → Round) (rounds : List Round) (place : ℕ) → suc place ≡ length rounds → closed_but_last rounds ≡ true → closed_but_last (changed_at change rounds place) ≡ true
+closed-changed-last change [] place end h = h
+closed-changed-last change (round ∷ []) zero end h = refl
+closed-changed-last change (round ∷ []) (suc place) end h = refl
+closed-changed-last change (round ∷ next ∷ later) zero end h = absurd (omega arith)
+closed-changed-last change (round ∷ next ∷ later) (suc zero) end h =
+    let parts = and_parts (has_drop round) (closed_but_last (next ∷ later)) h in
+    and_from (has_drop round) (closed_but_last (change next ∷ later)) parts.0 (closed-changed-last change (next ∷ later) zero (omega arith) parts.1)
+closed-changed-last change (round ∷ next ∷ later) (suc (suc place)) end h =
+    let parts = and_parts (has_drop round) (closed_but_last (next ∷ later)) h in
+    and_from (has_drop round) (closed_but_last (next ∷ changed_at change later place)) parts.0 (closed-changed-last change (next ∷ later) (suc place) (omega arith) parts.1)
+
+-- ---- after a round is taken away
+
+-- a round that is still there was there before
+pub round_at-taken : (rounds : List Round) (p q : ℕ) (round : Round) → round_at (taken_at rounds p) q ≡ Some round → round_at rounds q ≡ Some round
+round_at-taken [] p q round h = h
+round_at-taken (Open ∷ []) zero q round h = absurd (cc)
+round_at-taken (Open ∷ next ∷ later) zero q round h = h
+round_at-taken (Solved bundle ∷ later) zero q round h = h
+round_at-taken (Sealed bundle tickets ∷ later) zero q round h = h
+round_at-taken (Drawn bundle tickets digits dropped ∷ later) zero q round h = h
+round_at-taken (first ∷ later) (suc p) zero round h = h
+round_at-taken (first ∷ later) (suc p) (suc q) round h = round_at-taken later p q round h
+
+-- unless the first round is taken away, `closed_but_last` still holds
+pub closed-taken : (rounds : List Round) (place : ℕ) → closed_but_last rounds ≡ true → closed_but_last (taken_at rounds (suc place)) ≡ true
+closed-taken [] place h = h
+closed-taken (round ∷ []) place h = refl
+closed-taken (round ∷ Open ∷ []) zero h = refl
+closed-taken (round ∷ Open ∷ next ∷ later) zero h = h
+closed-taken (round ∷ Solved bundle ∷ later) zero h = h
+closed-taken (round ∷ Sealed bundle tickets ∷ later) zero h = h
+closed-taken (round ∷ Drawn bundle tickets digits dropped ∷ later) zero h = h
+closed-taken (round ∷ next ∷ later) (suc place) h =
+    let parts = and_parts (has_drop round) (closed_but_last (next ∷ later)) h in
+    and_from (has_drop round) (closed_but_last (next ∷ taken_at later place)) parts.0 (closed-taken (next ∷ later) place parts.1)
+
+-- an open last round that is taken away leaves one round less
+pub length-taken : (rounds : List Round) (place : ℕ) → round_at rounds place ≡ Some Open → suc place ≡ length rounds → length (taken_at rounds place) ≡ place
+length-taken [] place at end = absurd (cc)
+length-taken (Open ∷ []) zero at end = refl
+length-taken (Open ∷ next ∷ later) zero at end = absurd (omega arith)
+length-taken (Solved bundle ∷ later) zero at end = absurd (cc)
+length-taken (Sealed bundle tickets ∷ later) zero at end = absurd (cc)
+length-taken (Drawn bundle tickets digits dropped ∷ later) zero at end = absurd (cc)
+length-taken (first ∷ later) (suc place) at end = ap suc (length-taken later place at (omega arith))
+
+-- there is no round at the end
+pub none-after : (rounds : List Round) → round_at rounds (length rounds) ≡ None
+none-after [] = refl
+none-after (round ∷ rounds) = none-after rounds
+
 -- `round` is drawn
 pub record IsDrawn (round : Round) : Type 0 where
   pub bundle : Bundle
+  pub tickets : Option ℕ
   pub digits : List ℕ
   pub dropped : List (List ℕ)
-  pub is : round ≡ Drawn bundle digits dropped
+  pub is : round ≡ Drawn bundle tickets digits dropped
 
 pub drop_means_drawn : (round : Round) → has_drop round ≡ true → IsDrawn round
 drop_means_drawn Open h = absurd (false≢true h)
 drop_means_drawn (Solved bundle) h = absurd (false≢true h)
-drop_means_drawn (Sealed bundle) h = absurd (false≢true h)
-drop_means_drawn (Drawn bundle digits dropped) h = record { bundle = bundle; digits = digits; dropped = dropped; is = refl }
+drop_means_drawn (Sealed bundle tickets) h = absurd (false≢true h)
+drop_means_drawn (Drawn bundle tickets digits dropped) h = record { bundle = bundle; tickets = tickets; digits = digits; dropped = dropped; is = refl }
 
 pub record DrawnBefore (rounds : List Round) (place : ℕ) : Type 0 where
   pub bundle : Bundle
+  pub tickets : Option ℕ
   pub digits : List ℕ
   pub dropped : List (List ℕ)
-  pub there : round_at rounds place ≡ Some (Drawn bundle digits dropped)
+  pub there : round_at rounds place ≡ Some (Drawn bundle tickets digits dropped)
 
 pub drawn_before : (rounds : List Round) (place : ℕ) (round : Round) → closed_but_last rounds ≡ true → round_at rounds (suc place) ≡ Some round → DrawnBefore rounds place
 drawn_before [] place round h at = absurd (cc)
 drawn_before (first ∷ []) place round h at = absurd (cc)
 drawn_before (first ∷ next ∷ later) zero round h at =
     let drawn = drop_means_drawn first (and_parts (has_drop first) (closed_but_last (next ∷ later)) h).0 in
-    record { bundle = drawn.bundle; digits = drawn.digits; dropped = drawn.dropped; there = ap Some drawn.is }
+    record { bundle = drawn.bundle; tickets = drawn.tickets; digits = drawn.digits; dropped = drawn.dropped; there = ap Some drawn.is }
 drawn_before (first ∷ next ∷ later) (suc place) round h at =
     let before = drawn_before (next ∷ later) place round (and_parts (has_drop first) (closed_but_last (next ∷ later)) h).1 at in
-    record { bundle = before.bundle; digits = before.digits; dropped = before.dropped; there = before.there }
+    record { bundle = before.bundle; tickets = before.tickets; digits = before.digits; dropped = before.dropped; there = before.there }

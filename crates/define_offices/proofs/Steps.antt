@@ -26,14 +26,14 @@ use Rattle.laws_of_runs.proofs.Certified.{found_certified}
 use Rattle.laws_of_runs.proofs.NoPanels.{none_where_no_panel}
 use Rattle.laws_of_runs.proofs.Ranges.{found_in_ranges}
 use Rattle.define_offices.specs.Tables.{Round, Open, Solved, Sealed, Drawn, Tables, first_tables, named_round, round_at}
-use Rattle.define_offices.specs.Commands.{Command, SetCharter, SetRules, Register, Solve, Keep, Seal, Draw, Drop, NextRound, Show, Withdraw, Outcome, Replies, Refuses, Refusal, Stops, Unproved}
-use Rattle.define_offices.specs.Deciding.{Answered, Asked, Finds, FindsNone, IsDecided, NeedsRun, answered, asked, asked_over, is_same_pool, keep_in, kept_by, kept_over, no_round, proof_pool, shown, solve_in, solved, place_of_hash, tells}
+use Rattle.define_offices.specs.Commands.{Command, SetCharter, SetRules, Register, Solve, Keep, Seal, Draw, Drop, NextRound, Show, Withdraw, SetBounds, TryDraw, Undrop, Reopen, WithdrawId, Outcome, Replies, Refuses, Refusal, Stops, Unproved}
+use Rattle.define_offices.specs.Deciding.{Answered, Asked, draw_in, place_of_id, Finds, FindsNone, IsDecided, NeedsRun, answered, asked, asked_over, is_same_pool, keep_in, kept_by, kept_over, no_round, proof_pool, shown, solve_in, solved, place_of_hash, tells}
 use Rattle.define_offices.specs.Facts.{IsCommand, IsTables, KeepsBundle, KeepsRound, has_drop}
 use Rattle.define_offices.specs.Lines.{solved_line}
 use Rattle.define_offices.specs.Pools.{pool_of}
 use Rattle.define_offices.specs.Steps.{Comes, AtOnce, ByRun, Folds, LeadThrough, Leads, solved_with, tables_after}
 use Rattle.define_offices.proofs.Changes.{changed_keeps}
-use Rattle.define_offices.proofs.Outcomes.{charter_keeps, draw_keeps, drop_keeps, next_keeps, register_keeps, rules_keep, seal_keeps, show_keeps, withdraw_keeps}
+use Rattle.define_offices.proofs.Outcomes.{bounds_keep, charter_keeps, draw_keeps, drop_keeps, next_keeps, register_keeps, reopen_keeps, rules_keep, seal_keeps, show_keeps, tried_keeps, undrop_keeps, withdraw_id_keeps, withdraw_keeps}
 use Rattle.define_offices.proofs.Pools.{pool_of_has}
 
 -- ---- answers that are certified and in the ranges of a bundle
@@ -85,8 +85,8 @@ needs_run : (tables : Tables) (number : ℕ) (found : Option Round) (pool : Pool
 needs_run tables number None pool at h = absurd (cc)
 needs_run tables number (Some Open) pool at h = record { open_now = at; pool_is = over_pool (pool_of tables number) pool h }
 needs_run tables number (Some (Solved bundle)) pool at h = absurd (cc)
-needs_run tables number (Some (Sealed bundle)) pool at h = absurd (cc)
-needs_run tables number (Some (Drawn bundle digits dropped)) pool at h = absurd (cc)
+needs_run tables number (Some (Sealed bundle tickets)) pool at h = absurd (cc)
+needs_run tables number (Some (Drawn bundle tickets digits dropped)) pool at h = absurd (cc)
 
 over_decided : (result : Result Pool Refusal) (outcome : Outcome) → asked_over result ≡ IsDecided outcome → Stays outcome
 over_decided (Ok pool) outcome h = absurd (cc)
@@ -97,8 +97,8 @@ pub solve_stays : (tables : Tables) (number : ℕ) (found : Option Round) (outco
 solve_stays tables number None outcome h = stays_so (no_round tables) outcome tt h
 solve_stays tables number (Some Open) outcome h = over_decided (pool_of tables number) outcome h
 solve_stays tables number (Some (Solved bundle)) outcome h = stays_so (tells (solved_line number bundle)) outcome tt h
-solve_stays tables number (Some (Sealed bundle)) outcome h = stays_so (tells (solved_line number bundle)) outcome tt h
-solve_stays tables number (Some (Drawn bundle digits dropped)) outcome h = stays_so (tells (solved_line number bundle)) outcome tt h
+solve_stays tables number (Some (Sealed bundle tickets)) outcome h = stays_so (tells (solved_line number bundle)) outcome tt h
+solve_stays tables number (Some (Drawn bundle tickets digits dropped)) outcome h = stays_so (tells (solved_line number bundle)) outcome tt h
 
 run_settles : (tables : Tables) (number : ℕ) (limits : Limits) (pool : Pool) (ending : Ending) → IsPool pool → AreLimits limits → IsOpenRound tables number pool → RunEnds pool limits ending →
     Settles tables number (solved number pool ending)
@@ -159,8 +159,8 @@ module _ (tables : Tables) (keeps : IsTables tables) where
   keep_settles number proof fits None at = Leaves tt
   keep_settles number proof fits (Some Open) at = kept_over_settles number proof fits at (pool_of tables number) refl
   keep_settles number proof fits (Some (Solved bundle)) at = Leaves tt
-  keep_settles number proof fits (Some (Sealed bundle)) at = Leaves tt
-  keep_settles number proof fits (Some (Drawn bundle digits dropped)) at = Leaves tt
+  keep_settles number proof fits (Some (Sealed bundle tickets)) at = Leaves tt
+  keep_settles number proof fits (Some (Drawn bundle tickets digits dropped)) at = Leaves tt
 
   decided_settles : (number : ℕ) (told outcome : Outcome) → Settles tables number told → IsDecided told ≡ IsDecided outcome → Settles tables number outcome
   decided_settles number told outcome settles h = let e : told ≡ outcome = cc in subst (Settles tables number) e settles
@@ -186,8 +186,8 @@ module _ (tables : Tables) (keeps : IsTables tables) where
   keep_drops_solving : (bundle : Bundle) (round : Round) → has_drop round ≡ true → has_drop (solved_with bundle round) ≡ true
   keep_drops_solving bundle Open h = absurd (false≢true h)
   keep_drops_solving bundle (Solved other) h = h
-  keep_drops_solving bundle (Sealed other) h = h
-  keep_drops_solving bundle (Drawn other digits dropped) h = h
+  keep_drops_solving bundle (Sealed other tickets) h = h
+  keep_drops_solving bundle (Drawn other tickets digits dropped) h = h
 
   bundle_keeps : (number : ℕ) (pool : Pool) (answer : Answer) → IsOpenRound tables number pool → IsProved pool answer → KeepsBundle tables (record { pool = pool; answer = answer })
   bundle_keeps number pool answer is proved =
@@ -223,12 +223,17 @@ module _ (tables : Tables) (keeps : IsTables tables) where
   at_once_keeps (Register rows) outcome is h = decided _ outcome (register_keeps tables keeps rows is) h
   at_once_keeps (Solve number limits) outcome is h = settled_keeps number outcome (solve_settles number limits outcome is (AtOnce h))
   at_once_keeps (Keep number proof) outcome is h = settled_keeps number outcome (proof_settles number proof outcome is (AtOnce h))
-  at_once_keeps (Seal number) outcome is h = decided _ outcome (seal_keeps tables keeps number (named_round tables.rounds number) refl) h
+  at_once_keeps (Seal number tickets) outcome is h = decided _ outcome (seal_keeps tables keeps number tickets is (named_round tables.rounds number) refl) h
   at_once_keeps (Draw number given digits) outcome is h = decided _ outcome (draw_keeps tables keeps number given digits (named_round tables.rounds number) refl) h
   at_once_keeps (Drop number id) outcome is h = decided _ outcome (drop_keeps tables keeps number id (named_round tables.rounds number) refl) h
   at_once_keeps (NextRound after) outcome is h = decided _ outcome (next_keeps tables keeps after (named_round tables.rounds after) refl) h
   at_once_keeps (Show number) outcome is h = decided _ outcome (show_keeps tables keeps (named_round tables.rounds number)) h
   at_once_keeps (Withdraw key) outcome is h = decided _ outcome (withdraw_keeps tables keeps (place_of_hash tables.register (seal_of key) 0)) h
+  at_once_keeps (SetBounds number bounds) outcome is h = decided _ outcome (bounds_keep tables keeps bounds is.1 (pool_of tables number) (named_round tables.rounds number)) h
+  at_once_keeps (TryDraw number given digits) outcome is h = decided _ outcome (tried_keeps tables keeps (draw_in tables number given digits (named_round tables.rounds number))) h
+  at_once_keeps (Undrop number id) outcome is h = decided _ outcome (undrop_keeps tables keeps number id (named_round tables.rounds number) refl) h
+  at_once_keeps (Reopen number) outcome is h = decided _ outcome (reopen_keeps tables keeps number is (named_round tables.rounds number)) h
+  at_once_keeps (WithdrawId id) outcome is h = decided _ outcome (withdraw_id_keeps tables keeps id (place_of_id tables.register id 0)) h
 
   pub comes_keeps : (command : Command) (outcome : Outcome) → IsCommand command → Comes tables command outcome → IsTables (tables_after tables outcome)
   comes_keeps command outcome is (AtOnce h) = at_once_keeps command outcome is h
@@ -244,6 +249,7 @@ pub first_keeps : IsTables first_tables
 first_keeps = record {
   charter = λ charter h. absurd (cc);
   rules = λ categories h. absurd (cc);
+  bounds = λ categories h. absurd (cc);
   few_rows = refl;
   rows = refl;
   fit = refl;
@@ -288,12 +294,17 @@ some_outcome tables (SetRules categories) keeps is = (_, AtOnce refl)
 some_outcome tables (Register rows) keeps is = (_, AtOnce refl)
 some_outcome tables (Solve number limits) keeps is = solve_over tables number limits keeps is (asked tables (Solve number limits)) refl
 some_outcome tables (Keep number proof) keeps is = (_, AtOnce refl)
-some_outcome tables (Seal number) keeps is = (_, AtOnce refl)
+some_outcome tables (Seal number tickets) keeps is = (_, AtOnce refl)
 some_outcome tables (Draw number given digits) keeps is = (_, AtOnce refl)
 some_outcome tables (Drop number id) keeps is = (_, AtOnce refl)
 some_outcome tables (NextRound after) keeps is = (_, AtOnce refl)
 some_outcome tables (Show number) keeps is = (_, AtOnce refl)
 some_outcome tables (Withdraw key) keeps is = (_, AtOnce refl)
+some_outcome tables (SetBounds number bounds) keeps is = (_, AtOnce refl)
+some_outcome tables (TryDraw number given digits) keeps is = (_, AtOnce refl)
+some_outcome tables (Undrop number id) keeps is = (_, AtOnce refl)
+some_outcome tables (Reopen number) keeps is = (_, AtOnce refl)
+some_outcome tables (WithdrawId id) keeps is = (_, AtOnce refl)
 
 -- ---- no command has two outcomes
 

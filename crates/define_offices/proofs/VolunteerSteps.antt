@@ -12,7 +12,7 @@ use Rattle.define_pools.specs.declared.Standing.TheVariants.{Gone}
 use Rattle.define_pools.specs.Lottery.{Lottery, count, counts}
 use Rattle.define_pools.specs.Pool.{Pool, Volunteer, allows, volunteer}
 use Rattle.define_lines.specs.Lines.{text_of}
-use Rattle.define_offices.specs.Lines.{member_ids}
+use Rattle.define_draws.specs.Lines.{member_ids}
 use Rattle.define_offices.specs.Report.{chance_line, chance_of, member_line}
 use Rattle.define_offices.proofs.LineSteps.{lines_added}
 

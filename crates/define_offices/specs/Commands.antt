@@ -24,23 +24,37 @@ pub data Command : Type 0 where
   Solve : (round : ℕ) (limits : Limits) → Command
   -- an open round is to be solved by a proof, whoever made it
   Keep : (round : ℕ) (proof : Proof) → Command
-  Seal : (round : ℕ) → Command
+  -- with a round number of tickets, the lottery shortened to so many is drawn from
+  Seal : (round : ℕ) (tickets : Option ℕ) → Command
   Draw : (round : ℕ) (given digits : List ℕ) → Command
   Drop : (round : ℕ) (id : List ℕ) → Command
   NextRound : (after : ℕ) → Command
   Show : (round : ℕ) → Command
   Withdraw : (key : List ℕ) → Command
+  -- other bounds for an open round, from round 2 on
+  SetBounds : (round : ℕ) (bounds : List Category) → Command
+  -- what `Draw` would draw, with no change
+  TryDraw : (round : ℕ) (given digits : List ℕ) → Command
+  -- a dropout that was entered by mistake is taken back
+  Undrop : (round : ℕ) (id : List ℕ) → Command
+  -- the last round is taken away while it is open, so that the round before it is the last again; from round 2 on
+  Reopen : (round : ℕ) → Command
+  -- a withdrawal that the office enters for a volunteer
+  WithdrawId : (id : List ℕ) → Command
 
 pub data Change : Type 0 where
   CharterSet : (charter : Charter) → Change
   RulesSet : (rules : List Category) → Change
   Added : (entries : List Entry) → Change
   SolvedWith : (round : ℕ) (bundle : Bundle) → Change
-  SealTold : (round : ℕ) → Change
+  SealTold : (round : ℕ) (tickets : Option ℕ) → Change
   DrawnWith : (round : ℕ) (digits : List ℕ) → Change
   DroppedOut : (round : ℕ) (id : List ℕ) → Change
   Begun : Change
   Withdrawn : (place : ℕ) → Change
+  BoundsSet : (bounds : List Category) → Change
+  TakenBack : (round : ℕ) (id : List ℕ) → Change
+  Reopened : (round : ℕ) → Change
 
 pub data Reply : Type 0 where
   -- the lines that are printed as one text, each ended by LF
@@ -69,6 +83,11 @@ pub data Refusal : Type 0 where
   UnknownKey : Refusal
   -- a withdrawal: the last round is not open, or the volunteer is seated in it
   TooLate : Refusal
+  -- the round was sealed with `kept` tickets, or without a number of tickets if `kept` is 0
+  TicketsDiffer : (kept : ℕ) → Refusal
+  NotDropped : (id : List ℕ) → Refusal
+  -- a withdrawal that the office enters: no row of the register has the id
+  UnknownId : (id : List ℕ) → Refusal
 
 -- the outcome of a command: a reply, with a change if the tables change; or a refusal, the stop of a run, or a refused proof, at which the
 -- tables stay as they are

@@ -1,6 +1,6 @@
 -- The outcome of each command. It is decided by the tables and the command alone, except for a solve of an open round: that is decided by
 -- the stated run over the round's pool.
-use Rattle.std.specs.Prelude.{ℕ, ◌+◌, ◌==◌, nat_le, if◌then◌else◌, Bool, true, false, not, ◌&&◌, List, [], ◌∷◌, ◌++◌, length, codes, bytes_eq, Option, Some, None, Result, Ok, Err}
+use Rattle.std.specs.Prelude.{ℕ, zero, suc, ◌+◌, ◌==◌, nat_le, if◌then◌else◌, Bool, true, false, not, ◌&&◌, List, [], ◌∷◌, ◌++◌, length, codes, bytes_eq, Option, Some, None, Result, Ok, Err}
 use Rattle.std.specs.List.{find, list_all}
 use Rattle.define_lines.specs.Lines.{text_of}
 use Rattle.define_pools.specs.declared.Standing.{Standing}
@@ -22,10 +22,11 @@ use Rattle.define_runs.specs.Run as run
 use Rattle.define_runs.specs.Run.{Ending}
 use Rattle.define_offices.specs.declared.Part.TheVariants as part
 use Rattle.define_offices.specs.declared.Phase.TheVariants as phase
-use Rattle.define_offices.specs.Tables.{Charter, Entry, Round, Open, Solved, Sealed, Drawn, Tables, is_enrolling, last_phase, named_round, same_charter, same_household, same_names, same_rules, same_shape}
-use Rattle.define_offices.specs.Commands.{Given, Command, SetCharter, SetRules, Register, Solve, Keep, Seal, Draw, Drop, NextRound, Show, Withdraw, Change, CharterSet, RulesSet, Added, SolvedWith, SealTold, DrawnWith, DroppedOut, Begun, Withdrawn, Lines, NoPanel, Refusal, NoRound, Incomplete, WrongPhase, RowDiffers, KeyTaken, RegisterFull, NotSealed, SealDiffers, DrawDiffers, BadDigit, MoreDigits, NotSeated, RoundClosed, OtherPool, UnknownKey, TooLate, Outcome, Replies, Refuses, Stops, Unproved}
-use Rattle.define_offices.specs.Lines.{bundle_seal, charter_line, drawn_lines, dropped_line, member_ids, one_line, register_line, round_line, rules_line, seal_line, solved_line}
-use Rattle.define_offices.specs.Pools.{drawn_of, pool_of}
+use Rattle.define_offices.specs.Tables.{Charter, Entry, Round, Open, Solved, Sealed, Drawn, Tables, is_enrolling, last_phase, most_rows, named_round, same_charter, same_household, same_names, same_rules, same_shape}
+use Rattle.define_offices.specs.Commands.{Given, Command, SetCharter, SetRules, Register, Solve, Keep, Seal, Draw, Drop, NextRound, Show, Withdraw, SetBounds, TryDraw, Undrop, Reopen, WithdrawId, Change, CharterSet, RulesSet, Added, SolvedWith, SealTold, DrawnWith, DroppedOut, Begun, Withdrawn, BoundsSet, TakenBack, Reopened, Reply, Lines, NoPanel, Refusal, NoRound, Incomplete, WrongPhase, RowDiffers, KeyTaken, RegisterFull, NotSealed, SealDiffers, DrawDiffers, BadDigit, MoreDigits, NotSeated, RoundClosed, OtherPool, UnknownKey, TooLate, TicketsDiffer, NotDropped, UnknownId, Outcome, Replies, Refuses, Stops, Unproved}
+use Rattle.define_offices.specs.Lines.{charter_line, dropped_line, one_line, register_line, reopened_line, round_line, rules_line, solved_line, undropped_line, withdrawn_line}
+use Rattle.define_draws.specs.Lines.{bundle_seal, drawn_lines, member_ids, seal_line}
+use Rattle.define_offices.specs.Pools.{drawn_lottery, drawn_of, pool_of}
 
 -- a reply of one line, with no change
 abbrev pub tells : List ℕ → Outcome
@@ -41,10 +42,21 @@ abbrev pub is_charter_kept : Option Charter → Charter → Bool
 is_charter_kept None charter = false
 is_charter_kept (Some kept) charter = same_charter kept charter
 
+-- the row at a place, counted from 0, if there is one: the first row that a register of `place` rows has no room for
+abbrev pub row_beyond : List Entry → ℕ → Option Entry
+row_beyond [] place = None
+row_beyond (entry ∷ register) zero = Some entry
+row_beyond (entry ∷ register) (suc place) = row_beyond register place
+
+-- a charter is set, unless the register has more rows than it takes under this charter. The last argument is the first row beyond
+abbrev pub charter_over : Charter → Option Entry → Outcome
+charter_over charter None = changes (CharterSet charter) (charter_line (codes "set"))
+charter_over charter (Some entry) = Refuses (RowDiffers entry.id)
+
 abbrev pub decide_charter : Tables → Charter → Outcome
 decide_charter tables charter =
     if is_charter_kept tables.charter charter then tells (charter_line (codes "same"))
-    else if is_enrolling tables.rounds then changes (CharterSet charter) (charter_line (codes "set"))
+    else if is_enrolling tables.rounds then charter_over charter (row_beyond tables.register charter.volunteers)
     else Refuses (WrongPhase (last_phase tables.rounds))
 
 abbrev pub are_rules_kept : Option (List Category) → List Category → Bool
@@ -92,18 +104,19 @@ pub data RowCase : Type 0 where
   IsRepeated : RowCase
   IsRefused : (refusal : Refusal) → RowCase
 
--- what an import does with a row whose id is new. The last argument is the row of the register with the same key, if there is one
-abbrev pub new_row : List Round → List Entry → Option Entry → RowCase
-new_row rounds register (Some other) = IsRefused (KeyTaken other.id)
-new_row rounds register None =
+-- what an import does with a row whose id is new, if the register takes `most` rows. The last argument is the row of the register with the
+-- same key, if there is one
+abbrev pub new_row : ℕ → List Round → List Entry → Option Entry → RowCase
+new_row most rounds register (Some other) = IsRefused (KeyTaken other.id)
+new_row most rounds register None =
     if not (is_enrolling rounds) then IsRefused (WrongPhase (last_phase rounds))
-    else if nat_le 400 (length register) then IsRefused (RegisterFull 400)
+    else if nat_le most (length register) then IsRefused (RegisterFull most)
     else IsNew
 
 -- what an import does with a row. The last argument is the row of the register with the same id, if there is one
-abbrev pub row_case : List Round → List Entry → Given → Option Entry → RowCase
-row_case rounds register given (Some entry) = if is_kept_so entry given then IsRepeated else IsRefused (RowDiffers given.id)
-row_case rounds register given None = new_row rounds register (with_hash register (seal_of given.key))
+abbrev pub row_case : ℕ → List Round → List Entry → Given → Option Entry → RowCase
+row_case most rounds register given (Some entry) = if is_kept_so entry given then IsRepeated else IsRefused (RowDiffers given.id)
+row_case most rounds register given None = new_row most rounds register (with_hash register (seal_of given.key))
 
 -- the rows that an import adds, and how many of its rows the register had already
 pub record Sorted : Type 0 where
@@ -131,11 +144,11 @@ sorted_by IsRepeated given later = one_more_repeated later
 sorted_by (IsRefused refusal) given later = Err refusal
 
 -- the result of an import: its rows are taken one by one, and each is compared with the register and the rows added before it
-abbrev pub sorted_rows : List Round → List Entry → List Given → Result Sorted Refusal
-sorted_rows rounds register [] = Ok (record { added = []; repeated = 0 })
-sorted_rows rounds register (given ∷ rows) =
-    let this = row_case rounds register given (with_id register given.id) in
-    sorted_by this given (sorted_rows rounds (register_after this register given) rows)
+abbrev pub sorted_rows : ℕ → List Round → List Entry → List Given → Result Sorted Refusal
+sorted_rows most rounds register [] = Ok (record { added = []; repeated = 0 })
+sorted_rows most rounds register (given ∷ rows) =
+    let this = row_case most rounds register given (with_id register given.id) in
+    sorted_by this given (sorted_rows most rounds (register_after this register given) rows)
 
 -- the change that adds rows, or None if there are none to add
 abbrev pub addition : List Entry → Option Change
@@ -150,7 +163,7 @@ registered tables (Err refusal) = Refuses refusal
 abbrev pub register_by : Tables → List Given → Option (List Category) → Outcome
 register_by tables rows None = Refuses (Incomplete part.Rules)
 register_by tables rows (Some categories) =
-    if list_all (λ given. fits_rules categories given.values) rows then registered tables (sorted_rows tables.rounds tables.register rows)
+    if list_all (λ given. fits_rules categories given.values) rows then registered tables (sorted_rows (most_rows tables.charter) tables.rounds tables.register rows)
     else Refuses (RowDiffers (codes "rules"))
 
 abbrev pub decide_register : Tables → List Given → Outcome
@@ -161,12 +174,22 @@ decide_register tables rows = register_by tables rows tables.rules
 abbrev pub no_round : Tables → Outcome
 no_round tables = Refuses (NoRound (length tables.rounds))
 
-abbrev pub seal_in : Tables → ℕ → Option Round → Outcome
-seal_in tables number None = no_round tables
-seal_in tables number (Some Open) = Refuses (WrongPhase phase.Open)
-seal_in tables number (Some (Solved bundle)) = changes (SealTold number) (seal_line bundle)
-seal_in tables number (Some (Sealed bundle)) = tells (seal_line bundle)
-seal_in tables number (Some (Drawn bundle digits dropped)) = tells (seal_line bundle)
+-- the number of tickets that was kept with a seal, 0 if there is none
+abbrev pub tickets_or_none : Option ℕ → ℕ
+tickets_or_none None = 0
+tickets_or_none (Some tickets) = tickets
+
+-- the outcome of a seal of a round that is sealed already, with the tickets `kept`. The last argument is the number of tickets given
+abbrev pub same_seal : Bundle → Option ℕ → Option ℕ → Outcome
+same_seal bundle kept None = tells (seal_line bundle)
+same_seal bundle kept (Some tickets) = if tickets_or_none kept == tickets then tells (seal_line bundle) else Refuses (TicketsDiffer (tickets_or_none kept))
+
+abbrev pub seal_in : Tables → ℕ → Option ℕ → Option Round → Outcome
+seal_in tables number tickets None = no_round tables
+seal_in tables number tickets (Some Open) = Refuses (WrongPhase phase.Open)
+seal_in tables number tickets (Some (Solved bundle)) = changes (SealTold number tickets) (seal_line bundle)
+seal_in tables number tickets (Some (Sealed bundle kept)) = same_seal bundle kept tickets
+seal_in tables number tickets (Some (Drawn bundle kept digits dropped)) = same_seal bundle kept tickets
 
 abbrev pub draw_refusal : Bundle → List ℕ → draws.Refused → Refusal
 draw_refusal bundle given draws.SealDiffers = SealDiffers given (bundle_seal bundle)
@@ -179,32 +202,49 @@ new_draw number bundle given digits (Ok drawn) = Replies (Some (DrawnWith number
 new_draw number bundle given digits (Err refused) = Refuses (draw_refusal bundle given refused)
 
 -- the outcome of a draw from a round that is drawn already: the seal is compared first, then the digits
-abbrev pub same_draw : Bundle → List ℕ → List ℕ → List ℕ → Outcome
-same_draw bundle kept given digits =
+abbrev pub same_draw : Bundle → Option ℕ → List ℕ → List ℕ → List ℕ → Outcome
+same_draw bundle tickets kept given digits =
     if not (is_seal (bundle_seal bundle) given) then Refuses (SealDiffers given (bundle_seal bundle))
-    else if bytes_eq kept digits then Replies None (Lines (text_of (drawn_lines bundle (drawn_of bundle kept))))
+    else if bytes_eq kept digits then Replies None (Lines (text_of (drawn_lines bundle (drawn_of bundle tickets kept))))
     else Refuses (DrawDiffers kept)
 
 abbrev pub draw_in : Tables → ℕ → List ℕ → List ℕ → Option Round → Outcome
 draw_in tables number given digits None = no_round tables
 draw_in tables number given digits (Some Open) = Refuses (NotSealed phase.Open)
 draw_in tables number given digits (Some (Solved bundle)) = Refuses (NotSealed phase.Solved)
-draw_in tables number given digits (Some (Sealed bundle)) = new_draw number bundle given digits (draws.draw bundle.answer.lottery (bundle_seal bundle) given digits)
-draw_in tables number given digits (Some (Drawn bundle kept dropped)) = same_draw bundle kept given digits
+draw_in tables number given digits (Some (Sealed bundle tickets)) = new_draw number bundle given digits (draws.draw (drawn_lottery bundle tickets) (bundle_seal bundle) given digits)
+draw_in tables number given digits (Some (Drawn bundle tickets kept dropped)) = same_draw bundle tickets kept given digits
+
+-- an outcome without its change
+abbrev pub without_change : Outcome → Outcome
+without_change (Replies change reply) = Replies None reply
+without_change (Refuses refusal) = Refuses refusal
+without_change (Stops ending) = Stops ending
+without_change (Unproved refusal) = Unproved refusal
 
 -- the ids of the members of the panel that the digits draw
-abbrev pub drawn_ids : Bundle → List ℕ → List (List ℕ)
-drawn_ids bundle digits = member_ids bundle.pool (drawn_of bundle digits).panel
+abbrev pub drawn_ids : Bundle → Option ℕ → List ℕ → List (List ℕ)
+drawn_ids bundle tickets digits = member_ids bundle.pool (drawn_of bundle tickets digits).panel
 
 abbrev pub drop_in : Tables → ℕ → List ℕ → Option Round → Outcome
 drop_in tables number id None = no_round tables
 drop_in tables number id (Some Open) = Refuses (WrongPhase phase.Open)
 drop_in tables number id (Some (Solved bundle)) = Refuses (WrongPhase phase.Solved)
-drop_in tables number id (Some (Sealed bundle)) = Refuses (WrongPhase phase.Sealed)
-drop_in tables number id (Some (Drawn bundle digits dropped)) =
-    if not (includes_list (drawn_ids bundle digits) id) then Refuses (NotSeated id)
+drop_in tables number id (Some (Sealed bundle tickets)) = Refuses (WrongPhase phase.Sealed)
+drop_in tables number id (Some (Drawn bundle tickets digits dropped)) =
+    if not (includes_list (drawn_ids bundle tickets digits) id) then Refuses (NotSeated id)
     else if includes_list dropped id then tells (dropped_line number id)
     else if number == length tables.rounds then changes (DroppedOut number id) (dropped_line number id)
+    else Refuses (RoundClosed (length tables.rounds))
+
+abbrev pub undrop_in : Tables → ℕ → List ℕ → Option Round → Outcome
+undrop_in tables number id None = no_round tables
+undrop_in tables number id (Some Open) = Refuses (WrongPhase phase.Open)
+undrop_in tables number id (Some (Solved bundle)) = Refuses (WrongPhase phase.Solved)
+undrop_in tables number id (Some (Sealed bundle tickets)) = Refuses (WrongPhase phase.Sealed)
+undrop_in tables number id (Some (Drawn bundle tickets digits dropped)) =
+    if not (includes_list dropped id) then Refuses (NotDropped id)
+    else if number == length tables.rounds then changes (TakenBack number id) (undropped_line number id)
     else Refuses (RoundClosed (length tables.rounds))
 
 -- ---- the next round, and what a round shows
@@ -212,20 +252,30 @@ drop_in tables number id (Some (Drawn bundle digits dropped)) =
 abbrev pub next_after : ℕ → Round → Outcome
 next_after number Open = Refuses (WrongPhase phase.Open)
 next_after number (Solved bundle) = Refuses (WrongPhase phase.Solved)
-next_after number (Sealed bundle) = Refuses (WrongPhase phase.Sealed)
-next_after number (Drawn bundle digits []) = Refuses (Incomplete part.Drops)
-next_after number (Drawn bundle digits (id ∷ dropped)) = changes Begun (round_line (number + 1))
+next_after number (Sealed bundle tickets) = Refuses (WrongPhase phase.Sealed)
+next_after number (Drawn bundle tickets digits []) = Refuses (Incomplete part.Drops)
+next_after number (Drawn bundle tickets digits (id ∷ dropped)) = changes Begun (round_line (number + 1))
 
 abbrev pub next_in : Tables → ℕ → Option Round → Outcome
 next_in tables number None = no_round tables
 next_in tables number (Some round) = if number == length tables.rounds then next_after number round else tells (round_line (number + 1))
 
+abbrev pub reopen_at : ℕ → Round → Outcome
+reopen_at number Open = changes (Reopened number) (reopened_line number)
+reopen_at number (Solved bundle) = Refuses (WrongPhase phase.Solved)
+reopen_at number (Sealed bundle tickets) = Refuses (WrongPhase phase.Sealed)
+reopen_at number (Drawn bundle tickets digits dropped) = Refuses (WrongPhase phase.Drawn)
+
+abbrev pub reopen_in : Tables → ℕ → Option Round → Outcome
+reopen_in tables number None = no_round tables
+reopen_in tables number (Some round) = if number == length tables.rounds then reopen_at number round else Refuses (RoundClosed (length tables.rounds))
+
 abbrev pub show_in : Tables → Option Round → Outcome
 show_in tables None = no_round tables
 show_in tables (Some Open) = Refuses (WrongPhase phase.Open)
 show_in tables (Some (Solved bundle)) = Replies None (Lines (bundle_spelling bundle))
-show_in tables (Some (Sealed bundle)) = Replies None (Lines (bundle_spelling bundle))
-show_in tables (Some (Drawn bundle digits dropped)) = Replies None (Lines (bundle_spelling bundle))
+show_in tables (Some (Sealed bundle tickets)) = Replies None (Lines (bundle_spelling bundle))
+show_in tables (Some (Drawn bundle tickets digits dropped)) = Replies None (Lines (bundle_spelling bundle))
 
 -- ---- withdrawals
 
@@ -248,16 +298,47 @@ abbrev pub is_last_open : List Round → Bool
 is_last_open [] = false
 is_last_open (Open ∷ []) = true
 is_last_open (Solved bundle ∷ []) = false
-is_last_open (Sealed bundle ∷ []) = false
-is_last_open (Drawn bundle digits dropped ∷ []) = false
+is_last_open (Sealed bundle tickets ∷ []) = false
+is_last_open (Drawn bundle tickets digits dropped ∷ []) = false
 is_last_open (round ∷ next ∷ later) = is_last_open (next ∷ later)
+
+-- the outcome of a withdrawal of the row `entry` at `place`, with `reply` if it withdraws
+abbrev pub withdraw_row : Tables → Reply → ℕ → Entry → Outcome
+withdraw_row tables reply place entry =
+    if entry.withdrawn then Replies None reply
+    else if is_last_open tables.rounds && not (is_seated_in (pool_of tables (length tables.rounds)) place) then Replies (Some (Withdrawn place)) reply
+    else Refuses TooLate
 
 abbrev pub withdraw_at : Tables → Option (ℕ × Entry) → Outcome
 withdraw_at tables None = Refuses UnknownKey
-withdraw_at tables (Some (place, entry)) =
-    if entry.withdrawn then Replies None (Lines [])
-    else if is_last_open tables.rounds && not (is_seated_in (pool_of tables (length tables.rounds)) place) then Replies (Some (Withdrawn place)) (Lines [])
-    else Refuses TooLate
+withdraw_at tables (Some (place, entry)) = withdraw_row tables (Lines []) place entry
+
+-- the first row with the id `id`, with its place. `place` is the place of the first row of `register`
+abbrev pub place_of_id : List Entry → List ℕ → ℕ → Option (ℕ × Entry)
+place_of_id [] id place = None
+place_of_id (entry ∷ register) id place = if bytes_eq id entry.id then Some (place, entry) else place_of_id register id (place + 1)
+
+abbrev pub withdraw_id_at : Tables → List ℕ → Option (ℕ × Entry) → Outcome
+withdraw_id_at tables id None = Refuses (UnknownId id)
+withdraw_id_at tables id (Some (place, entry)) = withdraw_row tables (one_line (withdrawn_line id)) place entry
+
+-- ---- bounds of a round
+
+-- the outcome of bounds for a round with the pool `pool`
+abbrev pub bounds_in : Pool → List Category → Round → Outcome
+bounds_in pool bounds Open = if same_shape pool.categories bounds then changes (BoundsSet bounds) (rules_line (codes "set")) else Refuses (RowDiffers (codes "rules"))
+bounds_in pool bounds (Solved bundle) = Refuses (WrongPhase phase.Solved)
+bounds_in pool bounds (Sealed bundle tickets) = Refuses (WrongPhase phase.Sealed)
+bounds_in pool bounds (Drawn bundle tickets digits dropped) = Refuses (WrongPhase phase.Drawn)
+
+-- if there is a pool, there is the round
+abbrev pub bounds_over : Tables → List Category → Result Pool Refusal → Option Round → Outcome
+bounds_over tables bounds (Err refusal) found = Refuses refusal
+bounds_over tables bounds (Ok pool) None = no_round tables
+bounds_over tables bounds (Ok pool) (Some round) = if same_rules pool.categories bounds then tells (rules_line (codes "same")) else bounds_in pool bounds round
+
+abbrev pub decide_bounds : Tables → ℕ → List Category → Outcome
+decide_bounds tables number bounds = bounds_over tables bounds (pool_of tables number) (named_round tables.rounds number)
 
 -- ---- an answer over the pool of an open round
 
@@ -287,8 +368,8 @@ abbrev pub solve_in : Tables → ℕ → Option Round → Asked
 solve_in tables number None = IsDecided (no_round tables)
 solve_in tables number (Some Open) = asked_over (pool_of tables number)
 solve_in tables number (Some (Solved bundle)) = IsDecided (tells (solved_line number bundle))
-solve_in tables number (Some (Sealed bundle)) = IsDecided (tells (solved_line number bundle))
-solve_in tables number (Some (Drawn bundle digits dropped)) = IsDecided (tells (solved_line number bundle))
+solve_in tables number (Some (Sealed bundle tickets)) = IsDecided (tells (solved_line number bundle))
+solve_in tables number (Some (Drawn bundle tickets digits dropped)) = IsDecided (tells (solved_line number bundle))
 
 -- the outcome of a solve of an open round, if the run over its pool has this ending
 abbrev pub solved : ℕ → Pool → Ending → Outcome
@@ -328,8 +409,8 @@ abbrev pub keep_in : Tables → ℕ → Proof → Option Round → Outcome
 keep_in tables number proof None = no_round tables
 keep_in tables number proof (Some Open) = kept_over number proof (pool_of tables number)
 keep_in tables number proof (Some (Solved bundle)) = tells (solved_line number bundle)
-keep_in tables number proof (Some (Sealed bundle)) = tells (solved_line number bundle)
-keep_in tables number proof (Some (Drawn bundle digits dropped)) = tells (solved_line number bundle)
+keep_in tables number proof (Some (Sealed bundle tickets)) = tells (solved_line number bundle)
+keep_in tables number proof (Some (Drawn bundle tickets digits dropped)) = tells (solved_line number bundle)
 
 -- ---- how each command is decided
 
@@ -339,9 +420,14 @@ asked tables (SetRules rules) = IsDecided (decide_rules tables rules)
 asked tables (Register rows) = IsDecided (decide_register tables rows)
 asked tables (Solve number limits) = solve_in tables number (named_round tables.rounds number)
 asked tables (Keep number proof) = IsDecided (keep_in tables number proof (named_round tables.rounds number))
-asked tables (Seal number) = IsDecided (seal_in tables number (named_round tables.rounds number))
+asked tables (Seal number tickets) = IsDecided (seal_in tables number tickets (named_round tables.rounds number))
 asked tables (Draw number given digits) = IsDecided (draw_in tables number given digits (named_round tables.rounds number))
 asked tables (Drop number id) = IsDecided (drop_in tables number id (named_round tables.rounds number))
 asked tables (NextRound after) = IsDecided (next_in tables after (named_round tables.rounds after))
 asked tables (Show number) = IsDecided (show_in tables (named_round tables.rounds number))
 asked tables (Withdraw key) = IsDecided (withdraw_at tables (place_of_hash tables.register (seal_of key) 0))
+asked tables (SetBounds number bounds) = IsDecided (decide_bounds tables number bounds)
+asked tables (TryDraw number given digits) = IsDecided (without_change (draw_in tables number given digits (named_round tables.rounds number)))
+asked tables (Undrop number id) = IsDecided (undrop_in tables number id (named_round tables.rounds number))
+asked tables (Reopen number) = IsDecided (reopen_in tables number (named_round tables.rounds number))
+asked tables (WithdrawId id) = IsDecided (withdraw_id_at tables id (place_of_id tables.register id 0))

@@ -1,25 +1,35 @@
 -- The facts that hold of all tables of an office, and the limits of its commands.
-use Rattle.std.specs.Prelude.{◌≡◌, ℕ, nat_le, Bool, true, false, not, ◌&&◌, ◌||◌, IsTrue, List, [], ◌∷◌, map, length, codes, bytes_eq, Option, Some, None, is_some, is_ok, ⊤}
+use Rattle.std.specs.Prelude.{◌≡◌, ℕ, ◌^◌, nat_le, Bool, true, false, not, ◌&&◌, ◌||◌, IsTrue, List, [], ◌∷◌, map, length, codes, bytes_eq, Option, Some, None, is_some, is_ok, ⊤}
 use Rattle.std.specs.List.{list_all}
 use Rattle.define_pools.specs.Building.{category_names, ids}
 use Rattle.define_pools.specs.Certificate.{Certifies}
 use Rattle.define_pools.specs.Lists.{all_different, includes_list}
 use Rattle.define_pools.specs.Lottery.{TotalAgrees, LeximinGreatest}
-use Rattle.define_pools.specs.declared.Limits.TheVariants.{Usual}
-use Rattle.define_pools.specs.Pool.{Category, is_category, is_household, is_name, is_size}
+use Rattle.define_pools.specs.declared.Limits.TheVariants.{Large}
+use Rattle.define_pools.specs.Pool.{Category, is_category, is_household, is_name, is_size, limits_for, most_volunteers}
 use Rattle.define_bundles.specs.BundleText.{Bundle, IsBundle}
 use Rattle.define_draws.specs.Dice.{name_ticket}
 use Rattle.define_proofs.specs.ProofText.{IsProof}
 use Rattle.define_runs.specs.Keeps.{AreLimits}
-use Rattle.define_offices.specs.Tables.{Charter, Entry, Round, Open, Solved, Sealed, Drawn, Tables, bundle_of, round_at}
-use Rattle.define_offices.specs.Commands.{Given, Command, SetCharter, SetRules, Register, Solve, Keep, Seal, Draw, Drop, NextRound, Show, Withdraw}
+use Rattle.define_offices.specs.Tables.{Charter, Entry, Round, Open, Solved, Sealed, Drawn, Tables, bundle_of, most_rows, round_at}
+use Rattle.define_offices.specs.Commands.{Given, Command, SetCharter, SetRules, Register, Solve, Keep, Seal, Draw, Drop, NextRound, Show, Withdraw, SetBounds, TryDraw, Undrop, Reopen, WithdrawId}
 use Rattle.define_offices.specs.Deciding.{drawn_ids, fits_rules}
+use Rattle.define_offices.specs.Pools.{drawn_lottery}
 
 -- ---- the facts of tables
 
--- the title is a name, and the size is in its range
+-- a register takes 1 to 4,000 rows
+abbrev pub is_most : ℕ → Bool
+is_most volunteers = nat_le 1 volunteers && nat_le volunteers (most_volunteers Large)
+
+-- the title is a name, the number of rows is in its range, and the size is in the range for this number
 abbrev pub is_charter : Charter → Bool
-is_charter charter = is_name charter.title && is_size Usual charter.size
+is_charter charter = is_name charter.title && is_most charter.volunteers && is_size (limits_for charter.volunteers) charter.size
+
+-- no round number of tickets, or one from 1 to 1,000,000,000
+abbrev pub are_tickets : Option ℕ → Bool
+are_tickets None = true
+are_tickets (Some tickets) = nat_le 1 tickets && nat_le tickets (10 ^ 9)
 
 -- the name is `id` or `key`. No category can have it, since each register has a column of this name
 abbrev pub is_reserved : List ℕ → Bool
@@ -61,24 +71,25 @@ pub record KeepsBundle (tables : Tables) (bundle : Bundle) : Type 0 where
   pub total_agrees : TotalAgrees bundle.answer.lottery
   pub same_ids : ids bundle.pool.volunteers ≡ entry_ids tables.register
 
--- the digits name a ticket, and everybody in `dropped` is on the panel that they draw
-pub record KeepsDraw (bundle : Bundle) (digits : List ℕ) (dropped : List (List ℕ)) : Type 0 where
-  pub named : IsTrue (is_ok (name_ticket bundle.answer.lottery.total digits))
-  pub from_panel : IsTrue (list_all (includes_list (drawn_ids bundle digits)) dropped)
+-- the digits name a ticket of the lottery that is drawn from, and everybody in `dropped` is on the panel that they draw
+pub record KeepsDraw (bundle : Bundle) (tickets : Option ℕ) (digits : List ℕ) (dropped : List (List ℕ)) : Type 0 where
+  pub in_range : IsTrue (are_tickets tickets)
+  pub named : IsTrue (is_ok (name_ticket (drawn_lottery bundle tickets).total digits))
+  pub from_panel : IsTrue (list_all (includes_list (drawn_ids bundle tickets digits)) dropped)
 
 abbrev pub KeepsRound : Tables → Round → Type 0
 KeepsRound tables Open = ⊤
 KeepsRound tables (Solved bundle) = KeepsBundle tables bundle
-KeepsRound tables (Sealed bundle) = KeepsBundle tables bundle
-KeepsRound tables (Drawn bundle digits dropped) = KeepsBundle tables bundle × KeepsDraw bundle digits dropped
+KeepsRound tables (Sealed bundle tickets) = KeepsBundle tables bundle × IsTrue (are_tickets tickets)
+KeepsRound tables (Drawn bundle tickets digits dropped) = KeepsBundle tables bundle × KeepsDraw bundle tickets digits dropped
 
 -- the round is drawn, and somebody dropped out after the draw
 abbrev pub has_drop : Round → Bool
 has_drop Open = false
 has_drop (Solved bundle) = false
-has_drop (Sealed bundle) = false
-has_drop (Drawn bundle digits []) = false
-has_drop (Drawn bundle digits (id ∷ dropped)) = true
+has_drop (Sealed bundle tickets) = false
+has_drop (Drawn bundle tickets digits []) = false
+has_drop (Drawn bundle tickets digits (id ∷ dropped)) = true
 
 -- there is a round, and each round except the last is drawn and has a dropout
 abbrev pub closed_but_last : List Round → Bool
@@ -89,7 +100,8 @@ closed_but_last (round ∷ next ∷ later) = has_drop round && closed_but_last (
 pub record IsTables (tables : Tables) : Type 0 where
   pub charter : (charter : Charter) → tables.charter ≡ Some charter → IsTrue (is_charter charter)
   pub rules : (categories : List Category) → tables.rules ≡ Some categories → AreRules categories
-  pub few_rows : IsTrue (nat_le (length tables.register) 400)
+  pub bounds : (bounds : List Category) → tables.bounds ≡ Some bounds → AreRules bounds
+  pub few_rows : IsTrue (nat_le (length tables.register) (most_rows tables.charter))
   pub rows : IsTrue (list_all is_entry tables.register)
   pub fit : IsTrue (rows_fit tables.rules tables.register)
   pub different_ids : IsTrue (all_different (entry_ids tables.register))
@@ -105,19 +117,25 @@ is_key key = nat_le 1 (length key) && nat_le (length key) 200 && list_all (λ by
 abbrev pub is_given : Given → Bool
 is_given given = is_name given.id && is_key given.key && is_household given.household
 
--- a charter, rules, rows or a proof are within their limits, and the limits of a run are in their ranges
+-- a charter, rules, rows, a proof or a number of tickets are within their limits, and the limits of a run are in their ranges. Bounds are
+-- set, and a round is taken away, from round 2 on
 abbrev pub IsCommand : Command → Type 0
 IsCommand (SetCharter charter) = IsTrue (is_charter charter)
 IsCommand (SetRules categories) = AreRules categories
 IsCommand (Register rows) = IsTrue (list_all is_given rows)
 IsCommand (Solve round limits) = AreLimits limits
 IsCommand (Keep round proof) = IsProof proof
-IsCommand (Seal round) = ⊤
+IsCommand (Seal round tickets) = IsTrue (are_tickets tickets)
 IsCommand (Draw round given digits) = ⊤
 IsCommand (Drop round id) = ⊤
 IsCommand (NextRound after) = ⊤
 IsCommand (Show round) = ⊤
 IsCommand (Withdraw key) = ⊤
+IsCommand (SetBounds round bounds) = IsTrue (nat_le 2 round) × AreRules bounds
+IsCommand (TryDraw round given digits) = ⊤
+IsCommand (Undrop round id) = ⊤
+IsCommand (Reopen round) = IsTrue (nat_le 2 round)
+IsCommand (WithdrawId id) = ⊤
 
 -- ---- certificates
 

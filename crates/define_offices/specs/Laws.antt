@@ -1,17 +1,22 @@
 -- Laws of every step of an office, and of the tables that a list of commands leaves. The facts of tables are those of `IsTables` in
 -- Facts.antt.
-use Rattle.std.specs.Prelude.{◌≡◌, ℕ, List, [], ◌∷◌, ◌++◌, ◌≢◌, Ok, Some}
+use Rattle.std.specs.Prelude.{◌≡◌, ℕ, List, [], ◌∷◌, ◌++◌, ◌≢◌, IsTrue, Ok, Option, Some}
 use Rattle.std.specs.List.{AllByRecursion}
-use Rattle.define_pools.specs.Pool.{IsPool, Pool}
-use Rattle.define_offices.specs.Tables.{Tables}
-use Rattle.define_offices.specs.Commands.{Command, Change, Outcome, Reply, Replies}
+use Rattle.define_pools.specs.Pool.{Category, IsPool, Pool}
+use Rattle.define_offices.specs.Tables.{Tables, same_rules, same_shape}
+use Rattle.define_offices.specs.Commands.{Command, Draw, SetBounds, TryDraw, Change, Outcome, Reply, Replies}
 use Rattle.define_offices.specs.Pools.{pool_of}
-use Rattle.define_offices.specs.Facts.{AreCertified, AreGreatest, IsCommand, IsTables}
-use Rattle.define_offices.specs.Steps.{Comes, Folds, Leads, apply}
+use Rattle.define_offices.specs.Deciding.{without_change}
+use Rattle.define_offices.specs.Facts.{AreRules, AreCertified, AreGreatest, IsCommand, IsTables}
+use Rattle.define_offices.specs.Steps.{Comes, Folds, Leads, applied, apply}
 
 -- if the facts hold of the tables, the pool of each round satisfies `IsPool`
 abbrev pub PoolsArePools : Type 0
 PoolsArePools = (tables : Tables) (number : ℕ) (pool : Pool) → IsTables tables → pool_of tables number ≡ Ok pool → IsPool pool
+
+-- a pool with other bounds, which may be rules and have the names of the pool's categories and values in the same order, satisfies `IsPool`
+abbrev pub BoundedPoolsArePools : Type 0
+BoundedPoolsArePools = (pool : Pool) (bounds : List Category) → IsPool pool → AreRules bounds → IsTrue (same_shape pool.categories bounds) → IsPool (record pool { categories = bounds })
 
 -- if the facts hold of the tables, each command within its limits has an outcome
 abbrev pub CommandsHaveOutcomes : Type 0
@@ -46,3 +51,12 @@ FoldsGrow = (commands : List Command) (command : Command) (before after : Tables
 -- limits
 abbrev pub ChangesChange : Type 0
 ChangesChange = (tables : Tables) (command : Command) (change : Change) (reply : Reply) → IsTables tables → IsCommand command → Comes tables command (Replies (Some change) reply) → apply tables change ≢ tables
+
+-- if bounds for a round get a reply, the pool of the round has these bounds
+abbrev pub BoundsHold : Type 0
+BoundsHold = (tables : Tables) (number : ℕ) (bounds : List Category) (change : Option Change) (reply : Reply) (pool : Pool) → IsTables tables → IsCommand (SetBounds number bounds) →
+    Comes tables (SetBounds number bounds) (Replies change reply) → pool_of (applied tables change) number ≡ Ok pool → IsTrue (same_rules pool.categories bounds)
+
+-- a draw that is tried has the outcome of the draw, without its change
+abbrev pub TriesAreDraws : Type 0
+TriesAreDraws = (tables : Tables) (number : ℕ) (given digits : List ℕ) (outcome : Outcome) → Comes tables (Draw number given digits) outcome → Comes tables (TryDraw number given digits) (without_change outcome)

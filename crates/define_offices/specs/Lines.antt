@@ -1,16 +1,13 @@
--- The lines that the replies and refusals of an office print, each without its LF.
-use Rattle.std.specs.Prelude.{ℕ, List, [], ◌∷◌, length, map, codes}
+-- The lines that the replies and refusals of an office print, each without its LF. Those of a seal and of a draw are in `define_draws`.
+use Rattle.std.specs.Prelude.{ℕ, List, [], ◌∷◌, length, codes}
 use Rattle.std.specs.Fmt.{decimal}
-use Rattle.define_pools.specs.Pool.{Pool, volunteer}
 use Rattle.define_lines.specs.Lines.{line_of, text_of}
-use Rattle.define_bundles.specs.BundleText.{Bundle, bundle_spelling}
-use Rattle.define_draws.specs.Draw.{Drawn}
-use Rattle.define_draws.specs.Seal.{seal_of}
+use Rattle.define_bundles.specs.BundleText.{Bundle}
 use Rattle.define_offices.specs.declared.Part.{Part}
 use Rattle.define_offices.specs.declared.Part.TheVariants as part
 use Rattle.define_offices.specs.declared.Phase.{Phase}
 use Rattle.define_offices.specs.declared.Phase.TheVariants as phase
-use Rattle.define_offices.specs.Commands.{Reply, Lines, Refusal, NoRound, Incomplete, WrongPhase, RowDiffers, KeyTaken, RegisterFull, NotSealed, SealDiffers, DrawDiffers, BadDigit, MoreDigits, NotSeated, RoundClosed, OtherPool, UnknownKey, TooLate}
+use Rattle.define_offices.specs.Commands.{Reply, Lines, Refusal, NoRound, Incomplete, WrongPhase, RowDiffers, KeyTaken, RegisterFull, NotSealed, SealDiffers, DrawDiffers, BadDigit, MoreDigits, NotSeated, RoundClosed, OtherPool, UnknownKey, TooLate, TicketsDiffer, NotDropped, UnknownId}
 
 abbrev pub phase_name : Phase → List ℕ
 phase_name phase.Open = codes "Open"
@@ -39,27 +36,21 @@ abbrev pub solved_line : ℕ → Bundle → List ℕ
 solved_line round bundle =
     line_of (codes "solved" ∷ decimal round ∷ decimal (length bundle.answer.lottery.rows) ∷ decimal bundle.answer.lottery.total ∷ [])
 
--- the seal of a bundle: the digest of its text
-abbrev pub bundle_seal : Bundle → List ℕ
-bundle_seal bundle = seal_of (bundle_spelling bundle)
-
-abbrev pub seal_line : Bundle → List ℕ
-seal_line bundle = line_of (codes "seal" ∷ bundle_seal bundle ∷ [])
-
--- the ids of a panel's members
-abbrev pub member_ids : Pool → List ℕ → List (List ℕ)
-member_ids pool panel = map (λ i. (volunteer pool.volunteers i).id) panel
-
--- two lines: the ticket with how many digits were read, and the ids of the panel's members
-abbrev pub drawn_lines : Bundle → Drawn → List (List ℕ)
-drawn_lines bundle drawn =
-    line_of (codes "ticket" ∷ decimal drawn.ticket ∷ decimal drawn.used ∷ []) ∷ line_of (codes "panel" ∷ member_ids bundle.pool drawn.panel) ∷ []
-
 abbrev pub dropped_line : ℕ → List ℕ → List ℕ
 dropped_line round id = line_of (codes "dropped" ∷ decimal round ∷ id ∷ [])
 
+abbrev pub undropped_line : ℕ → List ℕ → List ℕ
+undropped_line round id = line_of (codes "undropped" ∷ decimal round ∷ id ∷ [])
+
 abbrev pub round_line : ℕ → List ℕ
 round_line number = line_of (codes "round" ∷ decimal number ∷ [])
+
+-- the number of the round that was taken away
+abbrev pub reopened_line : ℕ → List ℕ
+reopened_line number = line_of (codes "reopened" ∷ decimal number ∷ [])
+
+abbrev pub withdrawn_line : List ℕ → List ℕ
+withdrawn_line id = line_of (codes "withdrawn" ∷ id ∷ [])
 
 -- ---- refusals
 
@@ -86,6 +77,9 @@ refusal_fields (RoundClosed last) = codes "RoundClosed" ∷ decimal last ∷ []
 refusal_fields (OtherPool round) = codes "OtherPool" ∷ decimal round ∷ []
 refusal_fields UnknownKey = codes "UnknownKey" ∷ []
 refusal_fields TooLate = codes "TooLate" ∷ []
+refusal_fields (TicketsDiffer kept) = codes "TicketsDiffer" ∷ decimal kept ∷ []
+refusal_fields (NotDropped id) = codes "NotDropped" ∷ id ∷ []
+refusal_fields (UnknownId id) = codes "UnknownId" ∷ id ∷ []
 
 abbrev pub rule_line : Refusal → List ℕ
 rule_line refusal = line_of (codes "rule" ∷ refusal_fields refusal)

@@ -4,14 +4,16 @@ use Rattle.define_pools.specs.declared.Standing.{Standing}
 use Rattle.define_pools.specs.declared.Standing.TheVariants as standing
 use Rattle.define_pools.specs.Building.{empty_pool, places_of}
 use Rattle.define_pools.specs.Lists.{includes, includes_list}
+use Rattle.define_pools.specs.Lottery.{Lottery}
 use Rattle.define_pools.specs.Pool.{Category, Pool, Volunteer, everybody, volunteer}
 use Rattle.define_bundles.specs.BundleText.{Bundle}
 use Rattle.define_draws.specs.Dice.{name_ticket}
 use Rattle.define_draws.specs.Draw as draws
 use Rattle.define_draws.specs.Draw.{drawn_with}
+use Rattle.define_draws.specs.Short.{shortened}
 use Rattle.define_offices.specs.declared.Part.TheVariants as part
 use Rattle.define_offices.specs.Commands.{Refusal, NoRound, Incomplete}
-use Rattle.define_offices.specs.Tables.{Charter, Entry, Round, Open, Solved, Sealed, Drawn, Tables, round_at}
+use Rattle.define_offices.specs.Tables.{Charter, Entry, Round, Open, Solved, Sealed, Drawn, Tables, round_at, same_shape}
 
 -- the volunteers, each with a new standing: what `other` returns for the volunteer's number and old standing. The first has number `i`
 abbrev pub restood : (ℕ → Standing → Standing) → ℕ → List Volunteer → List Volunteer
@@ -45,9 +47,22 @@ abbrev pub drawn_or_nothing : Result draws.Drawn draws.Refused → draws.Drawn
 drawn_or_nothing (Ok drawn) = drawn
 drawn_or_nothing (Err refused) = record { ticket = 0; used = 0; panel = [] }
 
--- what the digits draw from a bundle's lottery
-abbrev pub drawn_of : Bundle → List ℕ → draws.Drawn
-drawn_of bundle digits = drawn_or_nothing (drawn_with bundle.answer.lottery (name_ticket bundle.answer.lottery.total digits))
+-- the lottery that the digits draw from: the bundle's own, or that lottery shortened to a round number of tickets
+abbrev pub lottery_in : Option ℕ → Lottery → Lottery
+lottery_in None lottery = lottery
+lottery_in (Some tickets) lottery = shortened lottery tickets
+
+-- the lottery that a round with this bundle draws from, if `tickets` were kept with its seal
+abbrev pub drawn_lottery : Bundle → Option ℕ → Lottery
+drawn_lottery bundle tickets = lottery_in tickets bundle.answer.lottery
+
+-- what the digits draw from a lottery
+abbrev pub drawn_from : Lottery → List ℕ → draws.Drawn
+drawn_from lottery digits = drawn_or_nothing (drawn_with lottery (name_ticket lottery.total digits))
+
+-- what the digits draw in a round with this bundle, if `tickets` were kept with its seal
+abbrev pub drawn_of : Bundle → Option ℕ → List ℕ → draws.Drawn
+drawn_of bundle tickets digits = drawn_from (drawn_lottery bundle tickets) digits
 
 -- the numbers of the volunteers whose id is in `ids`
 abbrev pub numbers_of : Pool → List (List ℕ) → List ℕ
@@ -88,24 +103,30 @@ after_withdrawals register i standing.Gone = standing.Gone
 
 -- the pool of the round that follows a drawn round. Every round but the last is drawn, so the other cases don't occur
 abbrev pub pool_after : List Entry → Option Round → Pool
-pool_after register (Some (Drawn bundle digits dropped)) =
-    restood_pool (after_withdrawals register) (next_pool bundle.pool (drawn_of bundle digits).panel (numbers_of bundle.pool dropped))
+pool_after register (Some (Drawn bundle tickets digits dropped)) =
+    restood_pool (after_withdrawals register) (next_pool bundle.pool (drawn_of bundle tickets digits).panel (numbers_of bundle.pool dropped))
 pool_after register (Some Open) = empty_pool 1
 pool_after register (Some (Solved bundle)) = empty_pool 1
-pool_after register (Some (Sealed bundle)) = empty_pool 1
+pool_after register (Some (Sealed bundle tickets)) = empty_pool 1
 pool_after register None = empty_pool 1
+
+-- the pool with other bounds, if some were set. They are set only if they have the names of the pool's categories and values, in the same
+-- order; so the last case doesn't occur
+abbrev pub with_bounds : Option (List Category) → Pool → Pool
+with_bounds None pool = pool
+with_bounds (Some bounds) pool = if same_shape pool.categories bounds then record pool { categories = bounds } else pool
 
 -- the pool of the open round at a place, counted from 0
 abbrev pub open_pool : Charter → List Category → Tables → ℕ → Pool
 open_pool charter categories tables zero = first_pool charter categories tables.register
-open_pool charter categories tables (suc before) = pool_after tables.register (round_at tables.rounds before)
+open_pool charter categories tables (suc before) = with_bounds tables.bounds (pool_after tables.register (round_at tables.rounds before))
 
 -- the pool of the round at `place`: made from the tables if the round is open, else the pool of its bundle
 abbrev pub round_pool : Charter → List Category → Tables → ℕ → Round → Pool
 round_pool charter categories tables place Open = open_pool charter categories tables place
 round_pool charter categories tables place (Solved bundle) = bundle.pool
-round_pool charter categories tables place (Sealed bundle) = bundle.pool
-round_pool charter categories tables place (Drawn bundle digits dropped) = bundle.pool
+round_pool charter categories tables place (Sealed bundle tickets) = bundle.pool
+round_pool charter categories tables place (Drawn bundle tickets digits dropped) = bundle.pool
 
 -- the pool of a round, or which of charter and rules is missing
 abbrev pub pool_by : Option Charter → Option (List Category) → Tables → ℕ → Round → Result Pool Refusal

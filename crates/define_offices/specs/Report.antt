@@ -1,6 +1,7 @@
 -- The report of a round: its title, phase and pool. Once the round is solved, also its lottery with each volunteer's chance; once it is
--- sealed, also the seal; and once it is drawn, also the draw. Builds on Pools and Lines of `define_offices`, Draw of `define_draws`, and
--- Summary of `define_made_pools`. `office_reports` writes it, and the meaning of `report` in `command_stores` cites it.
+-- sealed, also the seal, with the round number of tickets if one was kept with it; and once it is drawn, also the draw. Builds on Pools and
+-- Lines of `define_offices`, Draw of `define_draws`, and Summary of `define_made_pools`. `office_reports` writes it, and the meaning of
+-- `report` in `command_stores` cites it.
 use Rattle.std.specs.Prelude.{ℕ, true, List, [], ◌∷◌, ◌++◌, codes, filter, length, map, Option, Some, None, Result, Ok, Err}
 use Rattle.std.specs.Fmt.{decimal}
 use Rattle.std.specs.List.{enumerate_from, flat_map}
@@ -15,7 +16,8 @@ use Rattle.define_made_pools.specs.Summary.{field_line, number_line}
 use Rattle.define_offices.specs.declared.Phase.{Phase}
 use Rattle.define_offices.specs.Tables.{Charter, Round, Open, Solved, Sealed, Drawn, Tables, bundle_of, named_round, phase_of}
 use Rattle.define_offices.specs.Commands.{Refusal}
-use Rattle.define_offices.specs.Lines.{member_ids, phase_name, seal_line}
+use Rattle.define_offices.specs.Lines.{phase_name}
+use Rattle.define_draws.specs.Lines.{member_ids, seal_line, ticket_line}
 use Rattle.define_offices.specs.Pools.{drawn_of, pool_of}
 
 -- the lines that each report begins with: the round's number, the title, the phase, the size of a panel and how many volunteers there are
@@ -34,12 +36,13 @@ head_lines number title phase pool =
 abbrev pub lottery_lines : Lottery → List (List ℕ)
 lottery_lines lottery = number_line (codes "panels") (length lottery.rows) ∷ total_line lottery.total ∷ []
 
-abbrev pub seal_lines : Bundle → List (List ℕ)
-seal_lines bundle = seal_line bundle ∷ []
+-- the line of a round number of tickets, if one was kept with the seal
+abbrev pub tickets_lines : Option ℕ → List (List ℕ)
+tickets_lines None = []
+tickets_lines (Some tickets) = number_line (codes "tickets") tickets ∷ []
 
--- the line of a ticket: its number, and how many digits were read
-abbrev pub ticket_line : ℕ → ℕ → List ℕ
-ticket_line ticket used = line_of (codes "ticket" ∷ decimal ticket ∷ decimal used ∷ [])
+abbrev pub seal_lines : Bundle → Option ℕ → List (List ℕ)
+seal_lines bundle tickets = seal_line bundle ∷ tickets_lines tickets
 
 abbrev pub member_line : List ℕ → List ℕ
 member_line id = field_line (codes "member") id
@@ -52,9 +55,9 @@ draw_lines pool digits drawn = field_line (codes "digits") digits ∷ ticket_lin
 abbrev pub bundle_lines : Round → List (List ℕ)
 bundle_lines Open = []
 bundle_lines (Solved bundle) = lottery_lines bundle.answer.lottery
-bundle_lines (Sealed bundle) = lottery_lines bundle.answer.lottery ++ seal_lines bundle
-bundle_lines (Drawn bundle digits dropped) =
-    lottery_lines bundle.answer.lottery ++ seal_lines bundle ++ draw_lines bundle.pool digits (drawn_of bundle digits)
+bundle_lines (Sealed bundle tickets) = lottery_lines bundle.answer.lottery ++ seal_lines bundle tickets
+bundle_lines (Drawn bundle tickets digits dropped) =
+    lottery_lines bundle.answer.lottery ++ seal_lines bundle tickets ++ draw_lines bundle.pool digits (drawn_of bundle tickets digits)
 
 -- ---- quotas
 
@@ -66,8 +69,8 @@ not_gone pool = filter (λ i. allows (volunteer pool.volunteers i).standing true
 abbrev pub counted : Pool → Round → List (List ℕ)
 counted pool Open = not_gone pool ∷ []
 counted pool (Solved bundle) = not_gone pool ∷ []
-counted pool (Sealed bundle) = not_gone pool ∷ []
-counted pool (Drawn bundle digits dropped) = not_gone pool ∷ (drawn_of bundle digits).panel ∷ []
+counted pool (Sealed bundle tickets) = not_gone pool ∷ []
+counted pool (Drawn bundle tickets digits dropped) = not_gone pool ∷ (drawn_of bundle tickets digits).panel ∷ []
 
 -- how many volunteers of each list in `groups` have the value at `value_place` of the category at `category_place`
 abbrev pub numbers_with : List Volunteer → List (List ℕ) → ℕ → ℕ → List ℕ

@@ -1,10 +1,10 @@
 -- A step of the office, and the tables that a list of commands leaves.
-use Rattle.std.specs.Prelude.{◌≡◌, ℕ, zero, suc, List, [], ◌∷◌, ◌++◌, Option, Some, None, true}
+use Rattle.std.specs.Prelude.{◌≡◌, ℕ, zero, suc, List, [], ◌∷◌, ◌++◌, Option, Some, None, true, not, filter, bytes_eq}
 use Rattle.define_pools.specs.Pool.{Pool}
 use Rattle.define_bundles.specs.BundleText.{Bundle}
 use Rattle.define_runs.specs.Run.{Ending, Limits, RunEnds}
-use Rattle.define_offices.specs.Tables.{Entry, Round, Open, Solved, Sealed, Drawn, Tables, changed_named, first_tables}
-use Rattle.define_offices.specs.Commands.{Command, Solve, Change, CharterSet, RulesSet, Added, SolvedWith, SealTold, DrawnWith, DroppedOut, Begun, Withdrawn, Outcome, Replies, Refuses, Stops, Unproved}
+use Rattle.define_offices.specs.Tables.{Entry, Round, Open, Solved, Sealed, Drawn, Tables, changed_named, first_tables, taken_named}
+use Rattle.define_offices.specs.Commands.{Command, Solve, Change, CharterSet, RulesSet, Added, SolvedWith, SealTold, DrawnWith, DroppedOut, Begun, Withdrawn, BoundsSet, TakenBack, Reopened, Outcome, Replies, Refuses, Stops, Unproved}
 use Rattle.define_offices.specs.Deciding.{IsDecided, NeedsRun, asked, solved}
 
 -- ---- how changes alter the tables
@@ -12,26 +12,36 @@ use Rattle.define_offices.specs.Deciding.{IsDecided, NeedsRun, asked, solved}
 abbrev pub solved_with : Bundle → Round → Round
 solved_with answered Open = Solved answered
 solved_with answered (Solved bundle) = Solved bundle
-solved_with answered (Sealed bundle) = Sealed bundle
-solved_with answered (Drawn bundle digits dropped) = Drawn bundle digits dropped
+solved_with answered (Sealed bundle tickets) = Sealed bundle tickets
+solved_with answered (Drawn bundle tickets digits dropped) = Drawn bundle tickets digits dropped
 
-abbrev pub seal_told : Round → Round
-seal_told Open = Open
-seal_told (Solved bundle) = Sealed bundle
-seal_told (Sealed bundle) = Sealed bundle
-seal_told (Drawn bundle digits dropped) = Drawn bundle digits dropped
+abbrev pub seal_told : Option ℕ → Round → Round
+seal_told with_tickets Open = Open
+seal_told with_tickets (Solved bundle) = Sealed bundle with_tickets
+seal_told with_tickets (Sealed bundle tickets) = Sealed bundle tickets
+seal_told with_tickets (Drawn bundle tickets digits dropped) = Drawn bundle tickets digits dropped
 
 abbrev pub drawn_by : List ℕ → Round → Round
 drawn_by thrown Open = Open
 drawn_by thrown (Solved bundle) = Solved bundle
-drawn_by thrown (Sealed bundle) = Drawn bundle thrown []
-drawn_by thrown (Drawn bundle digits dropped) = Drawn bundle digits dropped
+drawn_by thrown (Sealed bundle tickets) = Drawn bundle tickets thrown []
+drawn_by thrown (Drawn bundle tickets digits dropped) = Drawn bundle tickets digits dropped
 
 abbrev pub dropped_out : List ℕ → Round → Round
 dropped_out id Open = Open
 dropped_out id (Solved bundle) = Solved bundle
-dropped_out id (Sealed bundle) = Sealed bundle
-dropped_out id (Drawn bundle digits dropped) = Drawn bundle digits (dropped ++ id ∷ [])
+dropped_out id (Sealed bundle tickets) = Sealed bundle tickets
+dropped_out id (Drawn bundle tickets digits dropped) = Drawn bundle tickets digits (dropped ++ id ∷ [])
+
+-- the ids other than `id`
+abbrev pub without_id : List ℕ → List (List ℕ) → List (List ℕ)
+without_id id ids = filter (λ other. not (bytes_eq id other)) ids
+
+abbrev pub taken_back : List ℕ → Round → Round
+taken_back id Open = Open
+taken_back id (Solved bundle) = Solved bundle
+taken_back id (Sealed bundle tickets) = Sealed bundle tickets
+taken_back id (Drawn bundle tickets digits dropped) = Drawn bundle tickets digits (without_id id dropped)
 
 -- the register, with the row at a place, counted from 0, marked as withdrawn
 abbrev pub withdrawn_at : List Entry → ℕ → List Entry
@@ -44,11 +54,14 @@ apply tables (CharterSet charter) = record tables { charter = Some charter }
 apply tables (RulesSet rules) = record tables { rules = Some rules }
 apply tables (Added entries) = record tables { register = tables.register ++ entries }
 apply tables (SolvedWith number bundle) = record tables { rounds = changed_named (solved_with bundle) tables.rounds number }
-apply tables (SealTold number) = record tables { rounds = changed_named seal_told tables.rounds number }
+apply tables (SealTold number tickets) = record tables { rounds = changed_named (seal_told tickets) tables.rounds number }
 apply tables (DrawnWith number digits) = record tables { rounds = changed_named (drawn_by digits) tables.rounds number }
 apply tables (DroppedOut number id) = record tables { rounds = changed_named (dropped_out id) tables.rounds number }
-apply tables Begun = record tables { rounds = tables.rounds ++ Open ∷ [] }
+apply tables Begun = record tables { rounds = tables.rounds ++ Open ∷ []; bounds = None }
 apply tables (Withdrawn place) = record tables { register = withdrawn_at tables.register place }
+apply tables (BoundsSet bounds) = record tables { bounds = Some bounds }
+apply tables (TakenBack number id) = record tables { rounds = changed_named (taken_back id) tables.rounds number }
+apply tables (Reopened number) = record tables { rounds = taken_named tables.rounds number; bounds = None }
 
 abbrev pub applied : Tables → Option Change → Tables
 applied tables None = tables

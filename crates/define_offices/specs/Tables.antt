@@ -5,10 +5,11 @@ use Rattle.define_bundles.specs.BundleText.{Bundle}
 use Rattle.define_offices.specs.declared.Phase.{Phase}
 use Rattle.define_offices.specs.declared.Phase.TheVariants as phase
 
--- what the assembly is called, and the size of its panels
+-- what the assembly is called, the size of its panels, and how many rows its register takes
 pub record Charter : Type 0 where
   pub title : List ℕ
   pub size : ℕ
+  pub volunteers : ℕ
 
 -- a row of the register: the volunteer's id, the digest of the volunteer's key, for each category the name of a value, a household if one
 -- is known, and whether the volunteer withdrew
@@ -19,36 +20,50 @@ pub record Entry : Type 0 where
   pub household : Option (List ℕ)
   pub withdrawn : Bool
 
--- a round, by its phase. It has a bundle once it is solved; and, once it is drawn, the digits of the dice and the ids of the volunteers who
--- dropped out
+-- a round, by its phase. It has a bundle once it is solved; once it is sealed, the round number of tickets that was kept with the seal, if
+-- one was; and, once it is drawn, the digits of the dice and the ids of the volunteers who dropped out
 pub data Round : Type 0 where
   Open : Round
   Solved : (bundle : Bundle) → Round
-  Sealed : (bundle : Bundle) → Round
-  Drawn : (bundle : Bundle) (digits : List ℕ) (dropped : List (List ℕ)) → Round
+  Sealed : (bundle : Bundle) (tickets : Option ℕ) → Round
+  Drawn : (bundle : Bundle) (tickets : Option ℕ) (digits : List ℕ) (dropped : List (List ℕ)) → Round
 
--- all that an office keeps of one assembly. `rules` are the categories; the first of `rounds` is round 1
+-- all that an office keeps of one assembly. `rules` are the categories; the first of `rounds` is round 1. `bounds` are the categories with
+-- the bounds that were set for the last round, if some were
 pub record Tables : Type 0 where
   pub charter : Option Charter
   pub rules : Option (List Category)
   pub register : List Entry
   pub rounds : List Round
+  pub bounds : Option (List Category)
 
 abbrev pub first_tables : Tables
-first_tables = record { charter = None; rules = None; register = []; rounds = Open ∷ [] }
+first_tables = record { charter = None; rules = None; register = []; rounds = Open ∷ []; bounds = None }
+
+-- how many rows the register takes: as many as the charter says, or 400 if there is no charter
+abbrev pub most_rows : Option Charter → ℕ
+most_rows None = 400
+most_rows (Some charter) = charter.volunteers
 
 abbrev pub phase_of : Round → Phase
 phase_of Open = phase.Open
 phase_of (Solved bundle) = phase.Solved
-phase_of (Sealed bundle) = phase.Sealed
-phase_of (Drawn bundle digits dropped) = phase.Drawn
+phase_of (Sealed bundle tickets) = phase.Sealed
+phase_of (Drawn bundle tickets digits dropped) = phase.Drawn
 
 -- the bundle that a round keeps, if it has one
 abbrev pub bundle_of : Round → Option Bundle
 bundle_of Open = None
 bundle_of (Solved bundle) = Some bundle
-bundle_of (Sealed bundle) = Some bundle
-bundle_of (Drawn bundle digits dropped) = Some bundle
+bundle_of (Sealed bundle tickets) = Some bundle
+bundle_of (Drawn bundle tickets digits dropped) = Some bundle
+
+-- the round number of tickets that is kept with the seal of a round, if there is one
+abbrev pub tickets_of : Round → Option ℕ
+tickets_of Open = None
+tickets_of (Solved bundle) = None
+tickets_of (Sealed bundle tickets) = tickets
+tickets_of (Drawn bundle tickets digits dropped) = tickets
 
 -- the round at a place, counted from 0, if there is one
 abbrev pub round_at : List Round → ℕ → Option Round
@@ -82,8 +97,28 @@ is_enrolling [] = false
 is_enrolling (Open ∷ []) = true
 is_enrolling (Open ∷ next ∷ later) = false
 is_enrolling (Solved bundle ∷ later) = false
-is_enrolling (Sealed bundle ∷ later) = false
-is_enrolling (Drawn bundle digits dropped ∷ later) = false
+is_enrolling (Sealed bundle tickets ∷ later) = false
+is_enrolling (Drawn bundle tickets digits dropped ∷ later) = false
+
+-- no rounds if there is one that is open; else all of them
+abbrev pub unless_open : List Round → List Round
+unless_open [] = []
+unless_open (Open ∷ []) = []
+unless_open (Open ∷ next ∷ later) = Open ∷ next ∷ later
+unless_open (Solved bundle ∷ later) = Solved bundle ∷ later
+unless_open (Sealed bundle tickets ∷ later) = Sealed bundle tickets ∷ later
+unless_open (Drawn bundle tickets digits dropped ∷ later) = Drawn bundle tickets digits dropped ∷ later
+
+-- the rounds without the one at a place, counted from 0, if it is the last and open; else all of them
+abbrev pub taken_at : List Round → ℕ → List Round
+taken_at [] place = []
+taken_at (round ∷ later) zero = unless_open (round ∷ later)
+taken_at (round ∷ later) (suc place) = round ∷ taken_at later place
+
+-- the same for the round with a number, counted from 1
+abbrev pub taken_named : List Round → ℕ → List Round
+taken_named rounds zero = rounds
+taken_named rounds (suc place) = taken_at rounds place
 
 -- ---- tests of equality
 
@@ -94,7 +129,7 @@ same_names (name ∷ names) [] = false
 same_names (name ∷ names) (other ∷ others) = bytes_eq name other && same_names names others
 
 abbrev pub same_charter : Charter → Charter → Bool
-same_charter one other = bytes_eq one.title other.title && (one.size == other.size)
+same_charter one other = bytes_eq one.title other.title && (one.size == other.size) && (one.volunteers == other.volunteers)
 
 abbrev pub same_values : List BoundedValue → List BoundedValue → Bool
 same_values [] [] = true

@@ -13,7 +13,7 @@ abbrev pub rules : List Category
 rules = four.categories
 
 abbrev pub river : Charter
-river = record { title = codes "River"; size = 2 }
+river = record { title = codes "River"; size = 2; volunteers = 400 }
 
 abbrev pub given : List ℕ → List ℕ → List ℕ → Given
 given id key gender = record { id = id; key = key; values = gender ∷ []; household = None }
@@ -51,7 +51,7 @@ first_bundle = record { pool = four; answer = pairs }
 
 -- the first round after the digits `0` drew the panel of a and c, of whom `dropped` dropped out
 abbrev pub drawn : List (List ℕ) → Round
-drawn dropped = Drawn first_bundle (codes "0") dropped
+drawn dropped = Drawn first_bundle None (codes "0") dropped
 
 abbrev pub second_bundle : Bundle
 second_bundle = record { pool = after_dropout; answer = record { lottery = dropout_lottery; stages = dropout_stages } }
@@ -67,4 +67,31 @@ couple_tables = record {
   rules = Some couple.categories;
   register = entry_of (record a { household = Some (codes "h") }) ∷ entry_of (record (given (codes "b") (codes "k2") (codes "male")) { household = Some (codes "h") }) ∷ [];
   rounds = Open ∷ [];
+  bounds = None;
 }
+
+-- ---- the second version
+
+-- the first round in 10 tickets, after the digit 7 drew the panel of b and d, of whom `dropped` dropped out
+abbrev pub drawn_in_ten : List (List ℕ) → Round
+drawn_in_ten dropped = Drawn first_bundle (Some 10) (codes "7") dropped
+
+-- the lines of the draw by the digit 7 in 10 tickets
+abbrev pub draw_in_ten : List (List ℕ)
+draw_in_ten = line_of (codes "ticket" ∷ codes "7" ∷ codes "1" ∷ []) ∷ line_of (codes "panel" ∷ codes "b" ∷ codes "d" ∷ []) ∷ []
+
+-- the second round is open, after a dropped out of the first
+abbrev pub second_open : Tables
+second_open = in_rounds (drawn (codes "a" ∷ []) ∷ Open ∷ [])
+
+-- the same names of categories and values with wider bounds
+abbrev pub wider : List Category
+wider = record { name = codes "gender"; values = record { name = codes "female"; lower = 0; upper = 2 } ∷ record { name = codes "male"; lower = 0; upper = 2 } ∷ [] } ∷ []
+
+-- other values of the category
+abbrev pub other_values : List Category
+other_values = record { name = codes "gender"; values = record { name = codes "female"; lower = 0; upper = 2 } ∷ [] } ∷ []
+
+-- the open second round with the wider bounds
+abbrev pub second_wider : Tables
+second_wider = record second_open { bounds = Some wider }

@@ -17,13 +17,16 @@ ghost use Rattle.define_runs.specs.Run.{Limits};
 ghost use Rattle.define_runs.specs.WorkedRuns.{limits, pairs};
 ghost use Rattle.define_proofs.specs.TreeLines.{OfLeaf};
 ghost use Rattle.define_proofs.specs.WorkedTrees.{couple_lines, couple_proof, double_leaf, four_proof, four_trees, men_leaf};
-ghost use Rattle.define_offices.specs.Commands.{SetCharter, SetRules, Register, Solve, Keep, Seal, Draw, Drop, NextRound, Show, Withdraw, CharterSet, RulesSet, Added, SolvedWith, SealTold, DrawnWith, DroppedOut, Begun, Withdrawn, Lines, Replies, Refuses, Unproved, NoPanel, Incomplete, RowDiffers, KeyTaken, DrawDiffers, NoRound, NotSeated, OtherPool, RoundClosed, TooLate, UnknownKey};
+ghost use Rattle.define_offices.specs.Commands.{SetCharter, SetRules, Register, Solve, Keep, Seal, Draw, Drop, NextRound, Show, Withdraw, SetBounds, TryDraw, Undrop, Reopen, WithdrawId, CharterSet, RulesSet, Added, SolvedWith, SealTold, DrawnWith, DroppedOut, Begun, Withdrawn, BoundsSet, TakenBack, Reopened, Lines, Replies, Refuses, Unproved, NoPanel, Incomplete, RowDiffers, KeyTaken, DrawDiffers, NoRound, NotSeated, OtherPool, RoundClosed, TooLate, UnknownKey, TicketsDiffer, NotDropped, UnknownId, RegisterFull, WrongPhase};
 ghost use Rattle.define_offices.specs.declared.Part.TheVariants as part;
+ghost use Rattle.define_offices.specs.declared.Phase.TheVariants as phase;
 ghost use Rattle.define_offices.specs.Deciding.{IsDecided, NeedsRun, Finds, answered, asked, changes, tells};
-ghost use Rattle.define_offices.specs.Lines.{bundle_seal, register_line, seal_line};
+ghost use Rattle.define_offices.specs.Lines.{register_line};
+ghost use Rattle.define_draws.specs.Lines.{bundle_seal, seal_line};
+ghost use Rattle.define_offices.specs.Pools.{pool_of};
 ghost use Rattle.define_offices.specs.Steps.{apply};
 ghost use Rattle.define_offices.specs.Tables.{Open, Solved, Sealed, first_tables};
-ghost use Rattle.define_offices.specs.WorkedOffice.{rules, river, rows, given, a, b, d, with_rules, with_rows, ready, in_rounds, couple_tables, first_bundle, second_bundle, drawn, the_draw};
+ghost use Rattle.define_offices.specs.WorkedOffice.{rules, river, rows, given, a, b, d, with_rules, with_rows, ready, in_rounds, couple_tables, first_bundle, second_bundle, drawn, the_draw, drawn_in_ten, draw_in_ten, second_open, wider, other_values, second_wider};
 
 /// How far a round has come.
 #[derive(Clone, Copy, Debug, PartialEq, Eq)]
@@ -72,9 +75,9 @@ pub fn worked_first_round()
     ensures solved { answered 1 four (Finds pairs) ≡ changes (SolvedWith 1 first_bundle) (line_of (codes "solved" ∷ codes "1" ∷ codes "2" ∷ codes "2" ∷ [])) }
     ensures kept { apply ready (SolvedWith 1 first_bundle) ≡ in_rounds (Solved first_bundle ∷ []) }
     ensures solved_again { (all : Limits) → asked (in_rounds (Solved first_bundle ∷ [])) (Solve 1 all) ≡ IsDecided (tells (line_of (codes "solved" ∷ codes "1" ∷ codes "2" ∷ codes "2" ∷ []))) }
-    ensures seal { asked (in_rounds (Solved first_bundle ∷ [])) (Seal 1) ≡ IsDecided (changes (SealTold 1) (seal_line first_bundle)) }
-    ensures sealed_again { asked (in_rounds (Sealed first_bundle ∷ [])) (Seal 1) ≡ IsDecided (tells (seal_line first_bundle)) }
-    ensures drawn { asked (in_rounds (Sealed first_bundle ∷ [])) (Draw 1 (bundle_seal first_bundle) (codes "0")) ≡ IsDecided (Replies (Some (DrawnWith 1 (codes "0"))) (Lines (text_of the_draw))) }
+    ensures seal { asked (in_rounds (Solved first_bundle ∷ [])) (Seal 1 None) ≡ IsDecided (changes (SealTold 1 None) (seal_line first_bundle)) }
+    ensures sealed_again { asked (in_rounds (Sealed first_bundle None ∷ [])) (Seal 1 None) ≡ IsDecided (tells (seal_line first_bundle)) }
+    ensures drawn { asked (in_rounds (Sealed first_bundle None ∷ [])) (Draw 1 (bundle_seal first_bundle) (codes "0")) ≡ IsDecided (Replies (Some (DrawnWith 1 (codes "0"))) (Lines (text_of the_draw))) }
     ensures drawn_again { asked (in_rounds (drawn [] ∷ [])) (Draw 1 (bundle_seal first_bundle) (codes "0")) ≡ IsDecided (Replies None (Lines (text_of the_draw))) }
     ensures other_digits { asked (in_rounds (drawn [] ∷ [])) (Draw 1 (bundle_seal first_bundle) (codes "7")) ≡ IsDecided (Refuses (DrawDiffers (codes "0"))) }
     ensures no_such_round { asked (in_rounds (drawn [] ∷ [])) (Solve 9 (limits 127 100 100)) ≡ IsDecided (Refuses (NoRound 1)) }
@@ -109,4 +112,65 @@ pub fn worked_proofs()
     ensures other_pool { asked ready (Keep 1 (couple_proof couple_lines)) ≡ IsDecided (Refuses (OtherPool 1)) }
     ensures no_panel { asked couple_tables (Keep 1 (couple_proof couple_lines)) ≡ IsDecided (Replies None NoPanel) }
     ensures again { asked (in_rounds (Solved first_bundle ∷ [])) (Keep 1 (couple_proof couple_lines)) ≡ IsDecided (tells (line_of (codes "solved" ∷ codes "1" ∷ codes "2" ∷ codes "2" ∷ []))) }
+{}
+
+/// The first round is sealed with a round number of tickets, 10, and drawn by the digit 7; a try of these digits tells the same, and so do
+/// both when they are given again. Another number of tickets is refused, also if the round was sealed without one, and so are a try of
+/// other digits after the draw, and a dropout of somebody whom the sealed lottery would have drawn.
+pub fn worked_tickets()
+    ensures sealed { asked (in_rounds (Solved first_bundle ∷ [])) (Seal 1 (Some 10)) ≡ IsDecided (changes (SealTold 1 (Some 10)) (seal_line first_bundle)) }
+    ensures kept { apply (in_rounds (Solved first_bundle ∷ [])) (SealTold 1 (Some 10)) ≡ in_rounds (Sealed first_bundle (Some 10) ∷ []) }
+    ensures again { asked (in_rounds (Sealed first_bundle (Some 10) ∷ [])) (Seal 1 (Some 10)) ≡ IsDecided (tells (seal_line first_bundle)) }
+    ensures without { asked (in_rounds (Sealed first_bundle (Some 10) ∷ [])) (Seal 1 None) ≡ IsDecided (tells (seal_line first_bundle)) }
+    ensures other { asked (in_rounds (Sealed first_bundle (Some 10) ∷ [])) (Seal 1 (Some 100)) ≡ IsDecided (Refuses (TicketsDiffer 10)) }
+    ensures late { asked (in_rounds (Sealed first_bundle None ∷ [])) (Seal 1 (Some 10)) ≡ IsDecided (Refuses (TicketsDiffer 0)) }
+    ensures tried { asked (in_rounds (Sealed first_bundle (Some 10) ∷ [])) (TryDraw 1 (bundle_seal first_bundle) (codes "7")) ≡ IsDecided (Replies None (Lines (text_of draw_in_ten))) }
+    ensures drawn { asked (in_rounds (Sealed first_bundle (Some 10) ∷ [])) (Draw 1 (bundle_seal first_bundle) (codes "7")) ≡ IsDecided (Replies (Some (DrawnWith 1 (codes "7"))) (Lines (text_of draw_in_ten))) }
+    ensures drawn_again { asked (in_rounds (drawn_in_ten [] ∷ [])) (Draw 1 (bundle_seal first_bundle) (codes "7")) ≡ IsDecided (Replies None (Lines (text_of draw_in_ten))) }
+    ensures tried_again { asked (in_rounds (drawn_in_ten [] ∷ [])) (TryDraw 1 (bundle_seal first_bundle) (codes "7")) ≡ IsDecided (Replies None (Lines (text_of draw_in_ten))) }
+    ensures tried_other { asked (in_rounds (drawn_in_ten [] ∷ [])) (TryDraw 1 (bundle_seal first_bundle) (codes "0")) ≡ IsDecided (Refuses (DrawDiffers (codes "7"))) }
+    ensures not_seated { asked (in_rounds (drawn_in_ten [] ∷ [])) (Drop 1 (codes "a")) ≡ IsDecided (Refuses (NotSeated (codes "a"))) }
+{}
+
+/// Wider bounds are set for the open second round, and its pool has them. The bounds that it has are no change. Refused are bounds with
+/// other values, bounds of a round that has an answer, and bounds of a round that doesn't exist.
+pub fn worked_bounds()
+    ensures set { asked second_open (SetBounds 2 wider) ≡ IsDecided (changes (BoundsSet wider) (line_of (codes "rules" ∷ codes "set" ∷ []))) }
+    ensures pool { pool_of second_wider 2 ≡ Ok (record after_dropout { categories = wider }) }
+    ensures again { asked second_wider (SetBounds 2 wider) ≡ IsDecided (tells (line_of (codes "rules" ∷ codes "same" ∷ []))) }
+    ensures as_before { asked second_open (SetBounds 2 rules) ≡ IsDecided (tells (line_of (codes "rules" ∷ codes "same" ∷ []))) }
+    ensures back { asked second_wider (SetBounds 2 rules) ≡ IsDecided (changes (BoundsSet rules) (line_of (codes "rules" ∷ codes "set" ∷ []))) }
+    ensures other { asked second_open (SetBounds 2 other_values) ≡ IsDecided (Refuses (RowDiffers (codes "rules"))) }
+    ensures late { asked (in_rounds (drawn (codes "a" ∷ []) ∷ Solved second_bundle ∷ [])) (SetBounds 2 wider) ≡ IsDecided (Refuses (WrongPhase phase.Solved)) }
+    ensures no_round { asked second_open (SetBounds 3 wider) ≡ IsDecided (Refuses (NoRound 2)) }
+{}
+
+/// The open second round is taken away with its bounds, and the dropout is taken back. Both are refused when they are given again, and so is
+/// a round that is taken away once it has an answer, and a dropout that is taken back while there is a next round.
+pub fn worked_returns()
+    ensures reopened { asked second_wider (Reopen 2) ≡ IsDecided (changes (Reopened 2) (line_of (codes "reopened" ∷ codes "2" ∷ []))) }
+    ensures gone { apply second_wider (Reopened 2) ≡ in_rounds (drawn (codes "a" ∷ []) ∷ []) }
+    ensures reopened_again { asked (in_rounds (drawn (codes "a" ∷ []) ∷ [])) (Reopen 2) ≡ IsDecided (Refuses (NoRound 1)) }
+    ensures answered { asked (in_rounds (drawn (codes "a" ∷ []) ∷ Solved second_bundle ∷ [])) (Reopen 2) ≡ IsDecided (Refuses (WrongPhase phase.Solved)) }
+    ensures closed { asked (in_rounds (drawn (codes "a" ∷ []) ∷ drawn (codes "c" ∷ []) ∷ Open ∷ [])) (Reopen 2) ≡ IsDecided (Refuses (RoundClosed 3)) }
+    ensures undropped { asked (in_rounds (drawn (codes "a" ∷ []) ∷ [])) (Undrop 1 (codes "a")) ≡ IsDecided (changes (TakenBack 1 (codes "a")) (line_of (codes "undropped" ∷ codes "1" ∷ codes "a" ∷ []))) }
+    ensures as_before { apply (in_rounds (drawn (codes "a" ∷ []) ∷ [])) (TakenBack 1 (codes "a")) ≡ in_rounds (drawn [] ∷ []) }
+    ensures undropped_again { asked (in_rounds (drawn [] ∷ [])) (Undrop 1 (codes "a")) ≡ IsDecided (Refuses (NotDropped (codes "a"))) }
+    ensures undrop_closed { asked second_open (Undrop 1 (codes "a")) ≡ IsDecided (Refuses (RoundClosed 2)) }
+{}
+
+/// The office enters a withdrawal by the volunteer's id. Refused are an unknown id, and the volunteer who is seated.
+pub fn worked_withdrawals()
+    ensures withdrawn { asked second_open (WithdrawId (codes "b")) ≡ IsDecided (changes (Withdrawn 1) (line_of (codes "withdrawn" ∷ codes "b" ∷ []))) }
+    ensures again { asked (apply second_open (Withdrawn 1)) (WithdrawId (codes "b")) ≡ IsDecided (tells (line_of (codes "withdrawn" ∷ codes "b" ∷ []))) }
+    ensures seated { asked second_open (WithdrawId (codes "c")) ≡ IsDecided (Refuses TooLate) }
+    ensures unknown { asked second_open (WithdrawId (codes "e")) ≡ IsDecided (Refuses (UnknownId (codes "e"))) }
+{}
+
+/// A charter says how many rows the register takes. With four, a fifth row is refused, and a charter with three is refused while there are
+/// four rows.
+pub fn worked_rows()
+    ensures full { asked (record ready { charter = Some (record river { volunteers = 4 }) }) (Register (given (codes "e") (codes "k5") (codes "male") ∷ [])) ≡ IsDecided (Refuses (RegisterFull 4)) }
+    ensures too_few { asked ready (SetCharter (record river { volunteers = 3 })) ≡ IsDecided (Refuses (RowDiffers (codes "d"))) }
+    ensures enough { asked ready (SetCharter (record river { volunteers = 4 })) ≡ IsDecided (changes (CharterSet (record river { volunteers = 4 })) (line_of (codes "charter" ∷ codes "set" ∷ []))) }
 {}

@@ -10,7 +10,7 @@ ghost use Rattle.define_offices.specs.Pools.{pool_of};
 ghost use Rattle.define_offices.specs.Tables.{Tables, first_tables};
 ghost use Rattle.define_offices.specs.WorkedOffice.{with_rows};
 ghost use Rattle.define_offices.specs.Report.{report_of};
-ghost use Rattle.define_offices.specs.WorkedReports.{drawn_report, drawn_tables, open_report, open_tables};
+ghost use Rattle.define_offices.specs.WorkedReports.{drawn_report, drawn_tables, open_report, open_tables, tickets_report, tickets_tables};
 
 /// A round has a report if it has a pool. If it has no pool, the report is refused with the same refusal as the pool.
 pub fn reports_need_pools()
@@ -18,9 +18,11 @@ pub fn reports_need_pools()
     ensures refused { (tables : Tables) (number : ℕ) (refusal : Refusal) → pool_of tables number ≡ Err refusal → report_of tables number ≡ Err refusal }
 {}
 
-/// The reports of a round in which the digits `0` drew a panel, and of an open round with two volunteers, of whom one has withdrawn.
+/// The reports of a round in which the digits `0` drew a panel, of one in which the digit 7 drew a panel in 10 tickets, and of an open
+/// round with two volunteers, of whom one has withdrawn.
 pub fn worked_reports()
     ensures drawn { report_of drawn_tables 1 ≡ Ok drawn_report }
+    ensures tickets { report_of tickets_tables 1 ≡ Ok tickets_report }
     ensures open { report_of open_tables 1 ≡ Ok open_report }
 {}
 

@@ -23,8 +23,8 @@ pub needs_run : (tables : Tables) (number : ℕ) (limits : Limits) (pool : Pool)
     asked tables (Solve number limits) ≡ NeedsRun pool
 needs_run tables number limits pool Open at none is = rw (at, is) refl
 needs_run tables number limits pool (Solved bundle) at none is = absurd (cc)
-needs_run tables number limits pool (Sealed bundle) at none is = absurd (cc)
-needs_run tables number limits pool (Drawn bundle digits dropped) at none is = absurd (cc)
+needs_run tables number limits pool (Sealed bundle tickets) at none is = absurd (cc)
+needs_run tables number limits pool (Drawn bundle tickets digits dropped) at none is = absurd (cc)
 
 -- if `outcome` is an outcome of the command, and the result is this outcome, the result decides the command
 pub decides_so : (tables : Tables) (command : Command) (outcome : Outcome) (result : Result (Option Change × Reply) DecideStop) → Comes tables command outcome → Says outcome result → Decides tables command result

@@ -1,6 +1,6 @@
 -- How a call of a keeper counts faults, and what it does to the course and the tables that the keeper tells. The contracts of the trait
 -- `Keeper`, of the keepers of `office_keeper` and of the calls over a keeper use it.
-use Rattle.std.specs.Prelude.{◌≡◌, ◌≤◌, ℕ, List, [], ◌∷◌, Option, Some, None, Result, Ok, Err, option_map, ⊤}
+use Rattle.std.specs.Prelude.{◌≡◌, ◌≤◌, ℕ, List, Option, Some, None, Result, Ok, Err, option_map, ⊤}
 use Rattle.outside.specs.Faults.{Rose, called}
 use Rattle.define_offices.specs.Commands.{Change}
 use Rattle.define_offices.specs.Steps.{applied, apply}

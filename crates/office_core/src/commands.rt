@@ -4,7 +4,7 @@ ghost use Rattle.define_offices.specs.Facts.{IsCommand};
 ghost use Rattle.office_core.specs.Commands.{seen_command};
 
 use define_runs::Limits;
-use office_tables::{Charter, Rows, Rules};
+use office_tables::{Charter, LaterRound, Rows, Rules, Tickets, tickets_facts};
 use pool_model::Name;
 use proof_text::Proof;
 
@@ -37,6 +37,8 @@ pub enum Command {
     Seal {
         /// The round's number.
         round: usize,
+        /// The round number of tickets that is kept with the seal, if one is.
+        tickets: Option<Tickets>,
     },
     /// Draws a panel from a sealed round.
     Draw {
@@ -69,6 +71,39 @@ pub enum Command {
         /// The volunteer's key. Any bytes are allowed.
         key: Vec<u8>,
     },
+    /// Sets other bounds for an open round.
+    Bounds {
+        /// The round's number.
+        round: LaterRound,
+        /// The same categories and values with other bounds.
+        bounds: Rules,
+    },
+    /// Prints what a draw from a sealed round would draw, and keeps nothing.
+    Try {
+        /// The round's number.
+        round: usize,
+        /// The published seal.
+        seal: Name,
+        /// The digits of the dice.
+        digits: Vec<u8>,
+    },
+    /// Takes a dropout back.
+    Undrop {
+        /// The round's number.
+        round: usize,
+        /// The member's id.
+        id: Name,
+    },
+    /// Takes the last round away while it is open.
+    Reopen {
+        /// The round's number.
+        round: LaterRound,
+    },
+    /// Lets a volunteer withdraw, named by the id.
+    WithdrawId {
+        /// The volunteer's id.
+        id: Name,
+    },
 }
 
 impl Command {
@@ -88,6 +123,14 @@ impl Command {
                 let _ = limits.bits();
             }
             Command::Keep { proof, .. } => proof.facts(),
+            Command::Seal { tickets, .. } => tickets_facts(tickets),
+            Command::Bounds { round, bounds } => {
+                let _ = round.number();
+                let _ = bounds.categories();
+            }
+            Command::Reopen { round } => {
+                let _ = round.number();
+            }
             _ => {}
         }
     }

@@ -10,8 +10,8 @@ use crate::commands::Command;
 use crate::solving::{keep_proof, solve_round};
 use crate::stops::DecideStop;
 use office_steps::{
-    OfficeStop, Reply, draw_round, drop_member, next_round, register, seal_round, set_charter,
-    set_rules, show_round, withdraw,
+    OfficeStop, Reply, draw_round, drop_member, next_round, register, reopen_round, seal_round,
+    set_bounds, set_charter, set_rules, show_round, try_draw, undrop_member, withdraw, withdraw_id,
 };
 use office_tables::{Change, Tables};
 use outside::Watch;
@@ -41,7 +41,7 @@ pub fn decide<R: Threads + Sync, W: Watch + Sync>(
             workers,
         } => solve_round(rt, alloc, tables, *round, *limits, *workers, watch),
         Command::Keep { round, proof } => keep_proof(alloc, tables, *round, proof),
-        Command::Seal { round } => stepped(seal_round(alloc, tables, *round)),
+        Command::Seal { round, tickets } => stepped(seal_round(alloc, tables, *round, tickets)),
         Command::Draw {
             round,
             seal,
@@ -51,6 +51,17 @@ pub fn decide<R: Threads + Sync, W: Watch + Sync>(
         Command::NextRound { after } => stepped(next_round(alloc, tables, *after)),
         Command::Show { round } => stepped(show_round(alloc, tables, *round)),
         Command::Withdraw { key } => stepped(withdraw(alloc, tables, key)),
+        Command::Bounds { round, bounds } => {
+            stepped(set_bounds(alloc, tables, round.number(), bounds))
+        }
+        Command::Try {
+            round,
+            seal,
+            digits,
+        } => stepped(try_draw(alloc, tables, *round, seal.as_str(), digits)),
+        Command::Undrop { round, id } => stepped(undrop_member(alloc, tables, *round, id)),
+        Command::Reopen { round } => stepped(reopen_round(alloc, tables, round.number())),
+        Command::WithdrawId { id } => stepped(withdraw_id(alloc, tables, id)),
     }
 }
 

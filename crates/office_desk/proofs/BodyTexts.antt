@@ -66,13 +66,22 @@ own_text_same c c' d d' i i' p p' r r' w w' ec ed ei ep er ew =
 draw_grouped : (a q b p c s d t e : List ℕ) → (((((((a ++ q) ++ b) ++ p) ++ c) ++ s) ++ d) ++ t) ++ e ≡ a ++ (q ++ (b ++ (p ++ (c ++ (s ++ (d ++ (t ++ e)))))))
 draw_grouped a q b p c s d t e = simp append_assoc
 
-pub draw_data-text : (digits : List ℕ) (panel : Data) (seal ticket : List ℕ) → compact_text (draw_data digits panel seal ticket) ≡ draw_text digits (compact_text panel) seal ticket
-unfolding escape_byte
-draw_data-text digits panel seal ticket =
-    sym (draw_grouped (codes "{\"digits\":") (quoted digits) (codes ",\"panel\":") (compact_text panel) (codes ",\"seal\":") (quoted seal) (codes ",\"ticket\":") (quoted ticket) (codes "}"))
+-- the same, with a number of tickets
+tickets_grouped : (a q b p c s d t f n e : List ℕ) → (((((((a ++ q) ++ b) ++ p) ++ c) ++ s) ++ d) ++ t) ++ ((f ++ n) ++ e) ≡ a ++ (q ++ (b ++ (p ++ (c ++ (s ++ (d ++ (t ++ (f ++ (n ++ e)))))))))
+tickets_grouped a q b p c s d t f n e = simp append_assoc
 
-pub draw_data-float : (digits : List ℕ) (panel : Data) (seal ticket : List ℕ) → has_float panel ≡ false → has_float (draw_data digits panel seal ticket) ≡ false
-draw_data-float digits panel seal ticket none = rw none refl
+pub draw_data-text : (digits : List ℕ) (panel : Data) (seal ticket : List ℕ) (tickets : Option (List ℕ)) →
+    compact_text (draw_data digits panel seal ticket tickets) ≡ draw_text digits (compact_text panel) seal ticket tickets
+unfolding escape_byte
+draw_data-text digits panel seal ticket None =
+    sym (draw_grouped (codes "{\"digits\":") (quoted digits) (codes ",\"panel\":") (compact_text panel) (codes ",\"seal\":") (quoted seal) (codes ",\"ticket\":") (quoted ticket) (codes "}"))
+draw_data-text digits panel seal ticket (Some tickets) =
+    sym (tickets_grouped (codes "{\"digits\":") (quoted digits) (codes ",\"panel\":") (compact_text panel) (codes ",\"seal\":") (quoted seal) (codes ",\"ticket\":") (quoted ticket)
+    (codes ",\"tickets\":") (quoted tickets) (codes "}"))
+
+pub draw_data-float : (digits : List ℕ) (panel : Data) (seal ticket : List ℕ) (tickets : Option (List ℕ)) → has_float panel ≡ false → has_float (draw_data digits panel seal ticket tickets) ≡ false
+draw_data-float digits panel seal ticket None none = rw none refl
+draw_data-float digits panel seal ticket (Some tickets) none = rw none refl
 
 -- ---- seats
 

@@ -15,8 +15,8 @@ use Rattle.office_tables.specs.Parts as parts
 pub dropped_as_kept : (round : Round) → parts.dropped_of round ≡ dropped_of round
 dropped_as_kept Open = refl
 dropped_as_kept (Solved bundle) = refl
-dropped_as_kept (Sealed bundle) = refl
-dropped_as_kept (Drawn bundle digits dropped) = refl
+dropped_as_kept (Sealed bundle tickets) = refl
+dropped_as_kept (Drawn bundle tickets digits dropped) = refl
 
 abbrev pub dropped_in : List ℕ → Option Round → Bool
 dropped_in id None = false
@@ -63,7 +63,8 @@ dropped_step id rounds i round b inside is e =
     let later = dropped_from id (drop (i + 1) rounds) (i + 1 + 1) in
     ap (λ all. dropped_from id all (i + 1)) rest ∙ ap (λ (found : Bool). cond found ((i + 1) ∷ later) later) e
 
--- values that tell the rounds before place `i` tell those before the next place too, with this round's number if the volunteer dropped out of it
+-- values that tell the rounds before place `i` tell those before the next place too, with this round's number if the volunteer dropped out
+-- of it
 pub told_more : (id : List ℕ) (rounds : List Round) (i : ℕ) (round : Round) (has : Bool) (before after all : List Data) → i < length rounds → round ≡ get_or rounds i round → has ≡ includes_list (dropped_of round) id →
     after ≡ before ++ cond has (number_data (i + 1) ∷ []) [] → before ++ map number_data (dropped_from id (drop i rounds) (i + 1)) ≡ all →
     after ++ map number_data (dropped_from id (drop (i + 1) rounds) (i + 1 + 1)) ≡ all

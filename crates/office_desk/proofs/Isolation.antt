@@ -28,15 +28,16 @@ use Rattle.office_desk.proofs.Seats.{row_of, same_place, seat_by, seat_first, se
 -- the round at place `k` is drawn
 pub record WasDrawn (rounds : List Round) (k : ℕ) : Type 0 where
   pub bundle : Bundle
+  pub tickets : Option ℕ
   pub digits : List ℕ
   pub dropped : List (List ℕ)
-  pub at : round_at rounds k ≡ Some (Drawn bundle digits dropped)
+  pub at : round_at rounds k ≡ Some (Drawn bundle tickets digits dropped)
 
 drawn_if : (round : Round) (rounds : List Round) (k : ℕ) → has_drop round ≡ true → round_at rounds k ≡ Some round → WasDrawn rounds k
 drawn_if Open rounds k d e = absurd (false≢true d)
 drawn_if (Solved bundle) rounds k d e = absurd (false≢true d)
-drawn_if (Sealed bundle) rounds k d e = absurd (false≢true d)
-drawn_if (Drawn bundle digits dropped) rounds k d e = record { bundle = bundle; digits = digits; dropped = dropped; at = e }
+drawn_if (Sealed bundle tickets) rounds k d e = absurd (false≢true d)
+drawn_if (Drawn bundle tickets digits dropped) rounds k d e = record { bundle = bundle; tickets = tickets; digits = digits; dropped = dropped; at = e }
 
 pub was_drawn : (rounds : List Round) (k : ℕ) → closed_but_last rounds ≡ true → suc k < length rounds → WasDrawn rounds k
 was_drawn [] k c h = absurd (omega arith)
@@ -44,7 +45,7 @@ was_drawn (round ∷ []) k c h = absurd (omega arith)
 was_drawn (round ∷ next ∷ later) zero c h = drawn_if round (round ∷ next ∷ later) 0 (and_parts (has_drop round) (closed_but_last (next ∷ later)) c).0 refl
 was_drawn (round ∷ next ∷ later) (suc k) c h =
     let rest = was_drawn (next ∷ later) k (and_parts (has_drop round) (closed_but_last (next ∷ later)) c).1 (omega arith) in
-    record { bundle = rest.bundle; digits = rest.digits; dropped = rest.dropped; at = rest.at }
+    record { bundle = rest.bundle; tickets = rest.tickets; digits = rest.digits; dropped = rest.dropped; at = rest.at }
 
 open_phase : Phase → Bool
 open_phase phase.Open = true
@@ -57,26 +58,26 @@ unfolding open_phase
 last_open [] c = absurd (false≢true c)
 last_open (Open ∷ []) c = refl
 last_open (Solved bundle ∷ []) c = refl
-last_open (Sealed bundle ∷ []) c = refl
-last_open (Drawn bundle digits dropped ∷ []) c = refl
+last_open (Sealed bundle tickets ∷ []) c = refl
+last_open (Drawn bundle tickets digits dropped ∷ []) c = refl
 last_open (Open ∷ next ∷ later) c = absurd (false≢true c)
 last_open (Solved bundle ∷ next ∷ later) c = absurd (false≢true c)
-last_open (Sealed bundle ∷ next ∷ later) c = absurd (false≢true c)
-last_open (Drawn bundle digits dropped ∷ next ∷ later) c = last_open (next ∷ later) (and_parts (has_drop (Drawn bundle digits dropped)) (closed_but_last (next ∷ later)) c).1
+last_open (Sealed bundle tickets ∷ next ∷ later) c = absurd (false≢true c)
+last_open (Drawn bundle tickets digits dropped ∷ next ∷ later) c = last_open (next ∷ later) (and_parts (has_drop (Drawn bundle tickets digits dropped)) (closed_but_last (next ∷ later)) c).1
 
 -- if the last round is open and there are `k + 1` rounds, the round at place `k` is open
 open_at : (rounds : List Round) (k : ℕ) → is_last_open rounds ≡ true → length rounds ≡ suc k → round_at rounds k ≡ Some Open
 open_at [] k o e = absurd (omega arith)
 open_at (Open ∷ []) zero o e = refl
 open_at (Solved bundle ∷ []) k o e = absurd (false≢true o)
-open_at (Sealed bundle ∷ []) k o e = absurd (false≢true o)
-open_at (Drawn bundle digits dropped ∷ []) k o e = absurd (false≢true o)
+open_at (Sealed bundle tickets ∷ []) k o e = absurd (false≢true o)
+open_at (Drawn bundle tickets digits dropped ∷ []) k o e = absurd (false≢true o)
 open_at (Open ∷ []) (suc k) o e = absurd (omega arith)
 open_at (round ∷ next ∷ later) zero o e = absurd (omega arith)
 open_at (Open ∷ next ∷ later) (suc k) o e = open_at (next ∷ later) k o (omega arith)
 open_at (Solved bundle ∷ next ∷ later) (suc k) o e = open_at (next ∷ later) k o (omega arith)
-open_at (Sealed bundle ∷ next ∷ later) (suc k) o e = open_at (next ∷ later) k o (omega arith)
-open_at (Drawn bundle digits dropped ∷ next ∷ later) (suc k) o e = open_at (next ∷ later) k o (omega arith)
+open_at (Sealed bundle tickets ∷ next ∷ later) (suc k) o e = open_at (next ∷ later) k o (omega arith)
+open_at (Drawn bundle tickets digits dropped ∷ next ∷ later) (suc k) o e = open_at (next ∷ later) k o (omega arith)
 
 -- ---- a volunteer in two tables
 
@@ -107,22 +108,24 @@ module _ (one other : Tables) (keeps : IsTables one) (keeps' : IsTables other) (
   seats_later k drawn drawn' opened opened' =
       let b = drawn.bundle in
       let b' = drawn'.bundle in
-      let told : TheDraw b drawn.digits ≡ TheDraw b' drawn'.digits =
+      let told : TheDraw b drawn.tickets drawn.digits ≡ TheDraw b' drawn'.tickets drawn'.digits =
       ap shown (sym drawn.at) ∙ (sym (at_place one.rounds k) ∙ (ap (λ all. published_at all k) same.rounds ∙ (at_place other.rounds k ∙ ap shown drawn'.at))) in
       let bundles : b ≡ b' = cc in
+      let tickets : drawn.tickets ≡ drawn'.tickets = cc in
       let digits : drawn.digits ≡ drawn'.digits = cc in
       let gone : includes_list drawn.dropped entry.id ≡ includes_list drawn'.dropped entry.id =
       ap (dropped_in entry.id) (sym drawn.at) ∙ (sym (dropped_at entry.id one.rounds 1 k) ∙ (ap (λ all. includes all (1 + k)) same.dropped ∙ (dropped_at entry.id other.rounds 1 k ∙ ap (dropped_in entry.id) drawn'.at))) in
-      let here : ids b.pool.volunteers ≡ entry_ids one.register = (keeps.rounds k (Drawn b drawn.digits drawn.dropped) drawn.at).0.same_ids in
-      let there : ids b'.pool.volunteers ≡ entry_ids other.register = (keeps'.rounds k (Drawn b' drawn'.digits drawn'.dropped) drawn'.at).0.same_ids in
+      let here : ids b.pool.volunteers ≡ entry_ids one.register = (keeps.rounds k (Drawn b drawn.tickets drawn.digits drawn.dropped) drawn.at).0.same_ids in
+      let there : ids b'.pool.volunteers ≡ entry_ids other.register = (keeps'.rounds k (Drawn b' drawn'.tickets drawn'.digits drawn'.dropped) drawn'.at).0.same_ids in
       let registers : entry_ids one.register ≡ entry_ids other.register = sym here ∙ (ap (λ (x : Bundle). ids x.pool.volunteers) bundles ∙ there) in
       let places : p ≡ q = one_place registers in
-      seat_later one keeps k p b drawn.digits drawn.dropped entry.id drawn.at opened row.inside row.read
-      ∙ (ap (λ (x : Bundle). seat_by x drawn.digits p (includes_list drawn.dropped entry.id)) bundles
-      ∙ (ap (λ (x : List ℕ). seat_by b' x p (includes_list drawn.dropped entry.id)) digits
-      ∙ (ap (λ (x : ℕ). seat_by b' drawn'.digits x (includes_list drawn.dropped entry.id)) places
-      ∙ (ap (λ (x : Bool). seat_by b' drawn'.digits q x) gone
-      ∙ sym (seat_later other keeps' k q b' drawn'.digits drawn'.dropped entry.id drawn'.at opened' row'.inside row'.read)))))
+      seat_later one keeps k p b drawn.tickets drawn.digits drawn.dropped entry.id drawn.at opened row.inside row.read
+      ∙ (ap (λ (x : Bundle). seat_by x drawn.tickets drawn.digits p (includes_list drawn.dropped entry.id)) bundles
+      ∙ (ap (λ (x : Option ℕ). seat_by b' x drawn.digits p (includes_list drawn.dropped entry.id)) tickets
+      ∙ (ap (λ (x : List ℕ). seat_by b' drawn'.tickets x p (includes_list drawn.dropped entry.id)) digits
+      ∙ (ap (λ (x : ℕ). seat_by b' drawn'.tickets drawn'.digits x (includes_list drawn.dropped entry.id)) places
+      ∙ (ap (λ (x : Bool). seat_by b' drawn'.tickets drawn'.digits q x) gone
+      ∙ sym (seat_later other keeps' k q b' drawn'.tickets drawn'.digits drawn'.dropped entry.id drawn'.at opened' row'.inside row'.read))))))
     where
       one_place : entry_ids one.register ≡ entry_ids other.register → p ≡ q
       one_place e =

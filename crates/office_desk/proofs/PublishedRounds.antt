@@ -41,8 +41,8 @@ phase_of_last (round ∷ next ∷ later) = phase_of_last (next ∷ later)
 round_sound : (tables : Tables) (round : Round) → KeepsRound tables round → IsSound (published round)
 round_sound tables Open h = tt
 round_sound tables (Solved bundle) h = tt
-round_sound tables (Sealed bundle) h = h.total_agrees
-round_sound tables (Drawn bundle digits dropped) h = record { agrees = h.0.total_agrees; named = h.1.named }
+round_sound tables (Sealed bundle tickets) h = h.0.total_agrees
+round_sound tables (Drawn bundle tickets digits dropped) h = record { agrees = h.0.total_agrees; named = h.1.named }
 
 pub number_sound : (tables : Tables) → IsTables tables → (number : ℕ) → IsSound (shown (named_round tables.rounds number))
 number_sound tables keeps zero = tt

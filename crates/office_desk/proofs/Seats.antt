@@ -19,6 +19,7 @@ use Rattle.define_offices.specs.Facts.{IsTables, entry_ids}
 use Rattle.define_offices.specs.Pools.{after_withdrawals, drawn_of, has_withdrawn, next_pool, next_standing, numbers_of, open_pool, pool_after, pool_by, pool_if, pool_of, restood, standing_of, volunteer_of}
 use Rattle.define_offices.specs.Tables.{Charter, Entry, Round, Open, Solved, Sealed, Drawn, Tables, round_at}
 use Rattle.define_offices.proofs.Pools.{length-restood}
+use Rattle.define_offices.proofs.Shapes.{volunteers-bounds}
 
 -- ---- the elements of lists and of filtered ranges
 
@@ -126,8 +127,8 @@ next_is panel drops i standing.Open = refl
 next_is panel drops i standing.Seated = refl
 
 -- whether the volunteer `place` of the bundle is seated after the digits drew a panel, by whether the volunteer dropped out
-abbrev pub seat_by : Bundle → List ℕ → ℕ → Bool → Bool
-seat_by bundle digits place dropped = is_seated (standing_by dropped (includes (drawn_of bundle digits).panel place) (volunteer bundle.pool.volunteers place).standing)
+abbrev pub seat_by : Bundle → Option ℕ → List ℕ → ℕ → Bool → Bool
+seat_by bundle tickets digits place dropped = is_seated (standing_by dropped (includes (drawn_of bundle tickets digits).panel place) (volunteer bundle.pool.volunteers place).standing)
 
 -- ---- the pool of an open round
 
@@ -153,13 +154,15 @@ later_by : (charter : Option Charter) (rules : Option (List Category)) (tables :
     is_seated_in (pool_by charter rules tables (suc k) Open) place ≡ is_seated (volunteer (pool_after tables.register found).volunteers place).standing
 later_by None rules tables k place found e c r = absurd (c refl)
 later_by (Some charter) None tables k place found e c r = absurd (r refl)
-later_by (Some charter) (Some categories) tables k place found e c r = ap (λ (before : Option Round). is_seated (volunteer (pool_after tables.register before).volunteers place).standing) e
+later_by (Some charter) (Some categories) tables k place found e c r =
+    ap (λ (all : List Volunteer). is_seated (volunteer all place).standing) (volunteers-bounds (pool_after tables.register (round_at tables.rounds k)) tables.bounds)
+    ∙ ap (λ (before : Option Round). is_seated (volunteer (pool_after tables.register before).volunteers place).standing) e
 
-after_draw : (register : List Entry) (bundle : Bundle) (digits : List ℕ) (dropped : List (List ℕ)) (place : ℕ) (id : List ℕ) → place < length bundle.pool.volunteers → (volunteer bundle.pool.volunteers place).id ≡ id →
-    is_seated (volunteer (pool_after register (Some (Drawn bundle digits dropped))).volunteers place).standing ≡ seat_by bundle digits place (includes_list dropped id)
-after_draw register bundle digits dropped place id inside own =
+after_draw : (register : List Entry) (bundle : Bundle) (tickets : Option ℕ) (digits : List ℕ) (dropped : List (List ℕ)) (place : ℕ) (id : List ℕ) → place < length bundle.pool.volunteers → (volunteer bundle.pool.volunteers place).id ≡ id →
+    is_seated (volunteer (pool_after register (Some (Drawn bundle tickets digits dropped))).volunteers place).standing ≡ seat_by bundle tickets digits place (includes_list dropped id)
+after_draw register bundle tickets digits dropped place id inside own =
     let pool = bundle.pool in
-    let panel = (drawn_of bundle digits).panel in
+    let panel = (drawn_of bundle tickets digits).panel in
     let drops = numbers_of pool dropped in
     let next = next_standing panel drops in
     let none : 0 + place ≡ place = omega arith in
@@ -196,13 +199,13 @@ is_there : {X : Type 0} (found : Option X) → IsTrue (is_some found) → found 
 is_there None there e = false≢true there
 is_there (Some x) there e = cc
 
-pub seat_later : (tables : Tables) → IsTables tables → (k place : ℕ) (bundle : Bundle) (digits : List ℕ) (dropped : List (List ℕ)) (id : List ℕ) →
-    round_at tables.rounds k ≡ Some (Drawn bundle digits dropped) → round_at tables.rounds (suc k) ≡ Some Open → place < length tables.register → get_or (entry_ids tables.register) place [] ≡ id →
-    is_seated_in (pool_of tables (suc (suc k))) place ≡ seat_by bundle digits place (includes_list dropped id)
-seat_later tables keeps k place bundle digits dropped id drawn opened inside read =
-    let kept = (keeps.rounds k (Drawn bundle digits dropped) drawn).0 in
+pub seat_later : (tables : Tables) → IsTables tables → (k place : ℕ) (bundle : Bundle) (tickets : Option ℕ) (digits : List ℕ) (dropped : List (List ℕ)) (id : List ℕ) →
+    round_at tables.rounds k ≡ Some (Drawn bundle tickets digits dropped) → round_at tables.rounds (suc k) ≡ Some Open → place < length tables.register → get_or (entry_ids tables.register) place [] ≡ id →
+    is_seated_in (pool_of tables (suc (suc k))) place ≡ seat_by bundle tickets digits place (includes_list dropped id)
+seat_later tables keeps k place bundle tickets digits dropped id drawn opened inside read =
+    let kept = (keeps.rounds k (Drawn bundle tickets digits dropped) drawn).0 in
     let within = as_many bundle.pool.volunteers tables.register place kept.same_ids inside in
     let own = own_id bundle.pool.volunteers tables.register place kept.same_ids ∙ read in
     ap (λ found. is_seated_in (pool_if tables (suc k) found) place) opened
-    ∙ (later_by tables.charter tables.rules tables k place (Some (Drawn bundle digits dropped)) drawn (is_there tables.charter kept.charter) (is_there tables.rules kept.rules)
-    ∙ after_draw tables.register bundle digits dropped place id within own)
+    ∙ (later_by tables.charter tables.rules tables k place (Some (Drawn bundle tickets digits dropped)) drawn (is_there tables.charter kept.charter) (is_there tables.rules kept.rules)
+    ∙ after_draw tables.register bundle tickets digits dropped place id within own)

@@ -41,9 +41,9 @@ module _ (body : View → Own → List ℕ) where
 pub bundle_status : (request : Request) (shown : Published) → ((bundle_reply request shown).status == 503) ≡ false
 bundle_status request Nothing = refl
 bundle_status request (TheBundle bundle) = if_status _ request _ refl
-bundle_status request (TheDraw bundle digits) = if_status _ request _ refl
+bundle_status request (TheDraw bundle tickets digits) = if_status _ request _ refl
 
 pub draw_status : (request : Request) (shown : Published) → ((draw_reply request shown).status == 503) ≡ false
 draw_status request Nothing = refl
 draw_status request (TheBundle bundle) = refl
-draw_status request (TheDraw bundle digits) = if_status _ request _ refl
+draw_status request (TheDraw bundle tickets digits) = if_status _ request _ refl

@@ -3,7 +3,7 @@
 use Rattle.std.specs.Prelude.{ℕ, ◌++◌, Bool, true, List, Option, Some, None, codes}
 use Rattle.std.specs.Fmt.{decimal}
 use Rattle.json.specs.Print.{quoted}
-use Rattle.serde_json.specs.Data.{Data, null, boolean, number, unsigned, string, object, member, no_members}
+use Rattle.serde_json.specs.Data.{Data, Members, null, boolean, number, unsigned, string, object, member, no_members}
 use Rattle.define_desk.specs.Replies.{text_or_null, truth, truth_or_null}
 
 -- ---- the texts of bodies
@@ -22,10 +22,15 @@ own_text chance drawn id phase round withdrawn =
 abbrev pub seat_text : List ℕ → List ℕ → Bool → List ℕ
 seat_text dropped id seated = codes "{\"dropped\":" ++ dropped ++ codes ",\"id\":" ++ quoted id ++ codes ",\"seated\":" ++ truth seated ++ codes "}"
 
+-- the end of the body for a draw, with a number of tickets if there is one
+abbrev pub draw_text_end : Option (List ℕ) → List ℕ
+draw_text_end None = codes "}"
+draw_text_end (Some tickets) = codes ",\"tickets\":" ++ quoted tickets ++ codes "}"
+
 -- the text of the body for a draw; `panel` is the text of the panel's part
-abbrev pub draw_text : List ℕ → List ℕ → List ℕ → List ℕ → List ℕ
-draw_text digits panel seal ticket =
-    codes "{\"digits\":" ++ quoted digits ++ codes ",\"panel\":" ++ panel ++ codes ",\"seal\":" ++ quoted seal ++ codes ",\"ticket\":" ++ quoted ticket ++ codes "}"
+abbrev pub draw_text : List ℕ → List ℕ → List ℕ → List ℕ → Option (List ℕ) → List ℕ
+draw_text digits panel seal ticket tickets =
+    codes "{\"digits\":" ++ quoted digits ++ codes ",\"panel\":" ++ panel ++ codes ",\"seal\":" ++ quoted seal ++ codes ",\"ticket\":" ++ quoted ticket ++ draw_text_end tickets
 
 -- ---- the values whose texts are the bodies
 
@@ -50,9 +55,14 @@ seat_data dropped id seated =
 abbrev pub number_data : ℕ → Data
 number_data n = number (unsigned n)
 
-abbrev pub draw_data : List ℕ → Data → List ℕ → List ℕ → Data
-draw_data digits panel seal ticket =
-    object (member (codes "digits") (string digits) (member (codes "panel") panel (member (codes "seal") (string seal) (member (codes "ticket") (string ticket) no_members))))
+-- the member with a number of tickets, if there is one
+abbrev pub tickets_members : Option (List ℕ) → Members
+tickets_members None = no_members
+tickets_members (Some tickets) = member (codes "tickets") (string tickets) no_members
+
+abbrev pub draw_data : List ℕ → Data → List ℕ → List ℕ → Option (List ℕ) → Data
+draw_data digits panel seal ticket tickets =
+    object (member (codes "digits") (string digits) (member (codes "panel") panel (member (codes "seal") (string seal) (member (codes "ticket") (string ticket) (tickets_members tickets)))))
 
 abbrev pub withdrawn_data : List ℕ → Data
 withdrawn_data id = object (member (codes "id") (string id) (member (codes "withdrawn") (boolean true) no_members))

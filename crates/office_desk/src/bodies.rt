@@ -61,8 +61,8 @@ fn truth_or_null(truth: Option<bool>) -> Value
     }
 }
 
-/// Returns the body for a volunteer's seat: the numbers of the rounds of which the volunteer dropped out, the id, and whether the volunteer is
-/// seated.
+/// Returns the body for a volunteer's seat: the numbers of the rounds of which the volunteer dropped out, the id, and whether the volunteer
+/// is seated.
 pub(crate) fn seat_body(
     alloc: Global,
     dropped: Vec<Value>,
@@ -83,19 +83,21 @@ fn seat_value(alloc: Global, dropped: Value, id: &str, seated: bool) -> Result<V
     json!(in alloc; {"dropped": dropped, "id": id, "seated": seated})
 }
 
-/// Returns the body for what is published of a draw: the digits of the dice, the ids of the panel's members, the seal and the ticket.
+/// Returns the body for what is published of a draw: the digits of the dice, the ids of the panel's members, the seal
+/// and the ticket, and the number of tickets if one was kept with the seal.
 pub(crate) fn draw_body(
     alloc: Global,
     digits: &str,
     panel: Vec<Value>,
     seal: &str,
     ticket: &str,
+    tickets: Option<String>,
 ) -> Result<String, AllocError>
     requires { has_float (array (items_view panel.items)) ≡ false }
-    ensures { IfOk result (λ body. string_bytes body ≡ draw_text digits.now (compact_text (array (items_view panel.items))) seal.now ticket.now) }
+    ensures { IfOk result (λ body. string_bytes body ≡ draw_text digits.now (compact_text (array (items_view panel.items))) seal.now ticket.now (option_map (λ text. string_bytes text) tickets)) }
 {
     let panel = array_of(panel);
-    let value = draw_value(alloc, digits, panel, seal, ticket)?;
+    let value = draw_value(alloc, digits, panel, seal, ticket, tickets)?;
     value.to_string(alloc)
 }
 
@@ -111,10 +113,17 @@ fn draw_value(
     panel: Value,
     seal: &str,
     ticket: &str,
+    tickets: Option<String>,
 ) -> Result<Value, AllocError>
-    ensures { IfOk result (λ value. view value ≡ draw_data digits.now (view panel) seal.now ticket.now) }
+    ensures { IfOk result (λ value. view value ≡ draw_data digits.now (view panel) seal.now ticket.now (option_map (λ text. string_bytes text) tickets)) }
 {
-    json!(in alloc; {"digits": digits, "panel": panel, "seal": seal, "ticket": ticket})
+    match tickets {
+        None => json!(in alloc; {"digits": digits, "panel": panel, "seal": seal, "ticket": ticket}),
+        Some(tickets) => {
+            let tickets = Value::String(tickets);
+            json!(in alloc; {"digits": digits, "panel": panel, "seal": seal, "ticket": ticket, "tickets": tickets})
+        }
+    }
 }
 
 /// Returns the body for a volunteer who withdrew.

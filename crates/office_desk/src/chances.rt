@@ -11,7 +11,7 @@ ghost use Rattle.office_desk.specs.Shown.{CanBeDrawn, IsSound, seen_published};
 use crate::published::Published;
 use bundle_text::Bundle;
 use frac128::lowest;
-use office_tables::{drawn_by, is_member};
+use office_tables::{Tickets, drawn_by, is_member};
 use pool_model::{Lottery, Name, Pool, Volunteer, chances};
 use std::alloc::{AllocError, Global};
 
@@ -28,7 +28,7 @@ pub(crate) fn chance_of(
     match published {
         Published::Nothing => Ok(None),
         Published::TheBundle(bundle) => chance_in(alloc, bundle, id),
-        Published::TheDraw(bundle, _) => chance_in(alloc, bundle, id),
+        Published::TheDraw(bundle, _, _) => chance_in(alloc, bundle, id),
     }
 }
 
@@ -102,15 +102,23 @@ pub(crate) fn is_drawn(
     match published {
         Published::Nothing => Ok(None),
         Published::TheBundle(_) => Ok(None),
-        Published::TheDraw(bundle, digits) => Ok(Some(is_in_panel(alloc, bundle, digits, id)?)),
+        Published::TheDraw(bundle, tickets, digits) => {
+            Ok(Some(is_in_panel(alloc, bundle, tickets, digits, id)?))
+        }
     }
 }
 
-fn is_in_panel(alloc: Global, bundle: &Bundle, digits: &[u8], id: &Name) -> Result<bool, AllocError>
-    requires { CanBeDrawn bundle.now digits.now }
-    ensures { IfOk result (λ is. is ≡ includes_list (drawn_ids bundle.now digits.now) id.now) }
+fn is_in_panel(
+    alloc: Global,
+    bundle: &Bundle,
+    tickets: &Option<Tickets>,
+    digits: &[u8],
+    id: &Name,
+) -> Result<bool, AllocError>
+    requires { CanBeDrawn bundle.now tickets.now digits.now }
+    ensures { IfOk result (λ is. is ≡ includes_list (drawn_ids bundle.now tickets.now digits.now) id.now) }
 {
-    match drawn_by(alloc, bundle, digits)? {
+    match drawn_by(alloc, bundle, tickets, digits)? {
         Some(drawn) => Ok(is_member(bundle.pool(), &drawn.panel, id)),
         None => unreachable!(),
     }

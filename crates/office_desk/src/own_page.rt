@@ -2,7 +2,6 @@
 
 ghost use Rattle.std.specs.Prelude.{◌≡◌, [], ◌∷◌, codes, option_map, string_bytes, IfOk};
 ghost use Rattle.define_offices.specs.Deciding.{with_hash};
-ghost use Rattle.define_offices.specs.Lines.{phase_name as name_of_phase};
 ghost use Rattle.define_draws.specs.Seal.{seal_of};
 ghost use Rattle.define_desk.specs.Desk.{if_by, own_body as body_of_own, own_reply};
 ghost use Rattle.define_desk.specs.Replies.{told};
@@ -19,7 +18,7 @@ use crate::replies::told_json;
 use crate::routes::OwnPage;
 use crate::seat_page::seat_of;
 use office_requests::{Key, Request};
-use office_tables::{Entry, Phase, Tables};
+use office_tables::{Entry, Tables, phase_name};
 use sealed_draw::seal;
 use std::alloc::{AllocError, Global};
 
@@ -131,15 +130,4 @@ fn standing_of(alloc: Global, tables: &Tables, entry: &Entry) -> Result<String, 
         tables.rounds().len(),
         entry.withdrawn(),
     )
-}
-
-fn phase_name(phase: Phase) -> &'static str
-    ensures { result.now ≡ name_of_phase phase }
-{
-    match phase {
-        Phase::Open => "Open",
-        Phase::Solved => "Solved",
-        Phase::Sealed => "Sealed",
-        Phase::Drawn => "Drawn",
-    }
 }

@@ -7,14 +7,15 @@ ghost use Rattle.office_desk.specs.Shown.{IsSound, seen_published};
 
 use bundle_text::Bundle;
 use office_steps::pools::round_named;
-use office_tables::{Phase, Round, Tables};
+use office_tables::{Phase, Round, Tables, Tickets};
 
-/// What is published of a round: its bundle once it is sealed, with the digits of the dice once it is drawn.
+/// What is published of a round: its bundle once it is sealed; once it is drawn, also the digits of the dice, and the number of
+/// tickets that was kept with the seal, if one was.
 #[derive(Clone, Copy)]
 pub(crate) enum Published<'a> {
     Nothing,
     TheBundle(&'a Bundle),
-    TheDraw(&'a Bundle, &'a [u8]),
+    TheDraw(&'a Bundle, &'a Option<Tickets>, &'a [u8]),
 }
 
 /// Returns what is published of the round with a number, counted from 1. Nothing is published of a round that doesn't exist.
@@ -38,7 +39,7 @@ fn published_in(round: &Round) -> Published<'_>
     };
     match round.phase() {
         Phase::Sealed => Published::TheBundle(bundle),
-        Phase::Drawn => Published::TheDraw(bundle, round.digits()),
+        Phase::Drawn => Published::TheDraw(bundle, round.tickets(), round.digits()),
         Phase::Open | Phase::Solved => Published::Nothing,
     }
 }

@@ -17,7 +17,7 @@ use crate::records::{cell_named, has_once, is_utf8, records_of};
 use crate::stops::{ImportStop, header_fault, stop_at};
 use csv::ByteRecord;
 use office_tables::Rules;
-use pool_model::BuildStop;
+use pool_model::{BuildStop, MAX_BOUND};
 use std::alloc::Global;
 
 const CATEGORY: &[u8] = b"category";
@@ -30,9 +30,6 @@ const MAX: &[u8] = b"max";
 
 /// The most digits of a bound.
 const MAX_DIGITS: usize = 9;
-
-/// The greatest bound.
-const MAX_BOUND: usize = 999;
 
 /// The number that is read from a field that isn't 1 to 9 digits. It is above the greatest bound.
 const NO_BOUND: usize = 1000;

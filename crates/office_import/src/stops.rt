@@ -29,7 +29,8 @@ pub struct ImportFault {
     /// - 2 there is no title, or it isn't a string
     /// - 3 there is no size, or it isn't a whole number
     /// - 4 the title isn't allowed
-    /// - 6 the size isn't from 1 to 200
+    /// - 6 `volunteers` is there and isn't a whole number from 1 to 4,000; or the size isn't from 1 to 200, or to 1,000 where `volunteers` is
+    ///   above 400
     pub kind: u8,
 }
 

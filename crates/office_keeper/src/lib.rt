@@ -8,6 +8,7 @@
 
 mod map_keeper;
 mod marks;
+mod missing;
 mod reading;
 mod schema;
 mod shared_file;

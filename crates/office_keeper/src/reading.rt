@@ -1,9 +1,11 @@
 //! Reads the rows of a store as tables. It trusts nothing in the store: it tests numbers, places and texts, and then the facts that
 //! `tables_of` lists.
 
+use crate::schema::is_third;
 use crate::writing::{DRAWN, OPEN, SEALED, SOLVED};
 use bundle_text::{Bundle, ReadBundle, read_bundle};
 use office_core::{Charter, Entry, Parts, Phase, Round, Rules, Tables, tables_of};
+use office_tables::Tickets;
 use pool_model::{BuildStop, Category, Name, Pool};
 use sqlite::{Alter, Connection, Error, ErrorCode, Row};
 use std::alloc::Global;
@@ -11,9 +13,13 @@ use std::alloc::Global;
 /// The error for a store whose rows make no tables or whose version is unknown, and for digits that are not UTF-8.
 pub(crate) const UNSOUND: Error = Error::SqliteFailure(ErrorCode::DatabaseCorrupt);
 
+/// How many rows the register takes if the store doesn't say so.
+pub(crate) const USUAL_ROWS: usize = 400;
+
 const OUT_OF_MEMORY: Error = Error::SqliteFailure(ErrorCode::OutOfMemory);
 
-/// Returns the tables of the office that a store keeps. Each SQL table is read whole, ordered by its key.
+/// Returns the tables of the office that a store keeps. Each SQL table is read whole, ordered by its key; those of version 3 only if the
+/// store has this version.
 pub(crate) fn read_tables<S: Alter>(
     alloc: Global,
     connection: &mut Connection<S>,
@@ -29,15 +35,18 @@ pub(crate) fn read_tables<S: Alter>(
 }
 
 fn read_parts<S: Alter>(alloc: Global, connection: &mut Connection<S>) -> Result<Parts, Error> {
-    let charter = read_charter(alloc, connection)?;
+    let third = is_third(connection)?;
+    let charter = read_charter(alloc, connection, third)?;
     let rules = read_rules(alloc, connection)?;
     let register = read_register(alloc, connection)?;
-    let rounds = read_rounds(alloc, connection)?;
+    let rounds = read_rounds(alloc, connection, third)?;
+    let bounds = read_bounds(alloc, connection, third)?;
     Ok(Parts {
         charter,
         rules,
         register,
         rounds,
+        bounds,
     })
 }
 
@@ -45,15 +54,36 @@ fn rows_of<S: Alter>(connection: &mut Connection<S>, query: &str) -> Result<Vec<
     connection.query_all(query, &[])
 }
 
+/// Returns the rows of a query about a table of version 3, or no rows if the store hasn't this version.
+fn further_rows_of<S: Alter>(
+    alloc: Global,
+    connection: &mut Connection<S>,
+    query: &str,
+    third: bool,
+) -> Result<Vec<Row>, Error> {
+    if third {
+        rows_of(connection, query)
+    } else {
+        Ok(Vec::new(alloc))
+    }
+}
+
 fn read_charter<S: Alter>(
     alloc: Global,
     connection: &mut Connection<S>,
+    third: bool,
 ) -> Result<Option<Charter>, Error> {
     let rows = rows_of(
         connection,
         "SELECT one, title, size FROM charter ORDER BY one",
     )?;
-    charter_of(alloc, &rows)
+    let most = further_rows_of(
+        alloc,
+        connection,
+        "SELECT one, volunteers FROM most_rows ORDER BY one",
+        third,
+    )?;
+    charter_of(alloc, &rows, &most)
 }
 
 fn read_rules<S: Alter>(
@@ -63,6 +93,20 @@ fn read_rules<S: Alter>(
     let rows = rows_of(
         connection,
         "SELECT category_place, category, value_place, value, lower, upper FROM bound ORDER BY category_place, value_place",
+    )?;
+    rules_of(alloc, &rows)
+}
+
+fn read_bounds<S: Alter>(
+    alloc: Global,
+    connection: &mut Connection<S>,
+    third: bool,
+) -> Result<Option<Rules>, Error> {
+    let rows = further_rows_of(
+        alloc,
+        connection,
+        "SELECT category_place, category, value_place, value, lower, upper FROM round_bound ORDER BY category_place, value_place",
+        third,
     )?;
     rules_of(alloc, &rows)
 }
@@ -85,8 +129,9 @@ fn read_register<S: Alter>(
 fn read_rounds<S: Alter>(
     alloc: Global,
     connection: &mut Connection<S>,
+    third: bool,
 ) -> Result<Vec<Round>, Error> {
-    let rows = rows_of(
+    let rounds = rows_of(
         connection,
         "SELECT number, phase, bundle, digits FROM round ORDER BY number",
     )?;
@@ -94,7 +139,20 @@ fn read_rounds<S: Alter>(
         connection,
         "SELECT round, place, id FROM dropped ORDER BY round, place",
     )?;
-    rounds_of(alloc, &rows, &dropped)
+    let tickets = further_rows_of(
+        alloc,
+        connection,
+        "SELECT round, number FROM tickets ORDER BY round",
+        third,
+    )?;
+    rounds_of(
+        alloc,
+        &RoundRows {
+            rounds,
+            dropped,
+            tickets,
+        },
+    )
 }
 
 // ---- single values
@@ -133,16 +191,28 @@ fn require(holds: bool) -> Result<(), Error> {
 
 // ---- charter and rules
 
-/// Returns the charter of the only row, or None if there is no row. Fails if there are several rows, or if the row makes no charter.
-fn charter_of(alloc: Global, rows: &[Row]) -> Result<Option<Charter>, Error> {
+/// Returns the charter of the only row, or None if there is no row. Fails if there are several rows, if the row makes no charter, or if
+/// there is a row of `most` and no charter.
+fn charter_of(alloc: Global, rows: &[Row], most: &[Row]) -> Result<Option<Charter>, Error> {
     let Some(row) = rows.first() else {
+        require(most.is_empty())?;
         return Ok(None);
     };
     require(rows.len() == 1 && has_number(row, 0, 1)?)?;
-    match Charter::new(name(alloc, row, 1)?, number(row, 2)?) {
+    let volunteers = most_rows_of(most)?;
+    match Charter::new(name(alloc, row, 1)?, number(row, 2)?, volunteers) {
         Some(charter) => Ok(Some(charter)),
         None => Err(UNSOUND),
     }
+}
+
+/// Returns how many rows the register takes, by the only row, or 400 if there is no row. Fails if there are several rows.
+fn most_rows_of(rows: &[Row]) -> Result<usize, Error> {
+    let Some(row) = rows.first() else {
+        return Ok(USUAL_ROWS);
+    };
+    require(rows.len() == 1 && has_number(row, 0, 1)?)?;
+    number(row, 1)
 }
 
 /// Returns the rules of these rows, one for each value, or None if there is no row.
@@ -249,19 +319,49 @@ fn split_answers(alloc: Global, answers: &str) -> Result<Vec<Name>, Error> {
 
 // ---- rounds
 
-/// Returns the rounds. Fails unless their numbers are consecutive from 1 and each dropout is of one of them.
-fn rounds_of(alloc: Global, rows: &[Row], dropped: &[Row]) -> Result<Vec<Round>, Error> {
+/// The rows of the rounds, of their dropouts, and of the numbers of tickets that were kept with their seals.
+#[derive(Drop)]
+struct RoundRows {
+    rounds: Vec<Row>,
+    dropped: Vec<Row>,
+    tickets: Vec<Row>,
+}
+
+/// Returns the rounds. Fails unless their numbers are consecutive from 1, and each dropout and each number of tickets is of one of them.
+fn rounds_of(alloc: Global, rows: &RoundRows) -> Result<Vec<Round>, Error> {
     let mut rounds = Vec::new(alloc);
     let mut told = 0usize;
-    for row in rows {
+    let mut sealed = 0usize;
+    for row in &rows.rounds {
         let number = rounds.len().saturating_add(1);
         require(has_number(row, 0, number)?)?;
-        let ids = dropped_of(alloc, dropped, told, number)?;
+        let ids = dropped_of(alloc, &rows.dropped, told, number)?;
         told = told.saturating_add(ids.len());
-        rounds.push(round_of(alloc, row, ids)?)?;
+        let tickets = tickets_of(rows.tickets.get(sealed), number)?;
+        if tickets.is_some() {
+            sealed = sealed.saturating_add(1);
+        }
+        rounds.push(round_of(alloc, row, tickets, ids)?)?;
     }
-    require(told == dropped.len())?;
+    require(told == rows.dropped.len() && sealed == rows.tickets.len())?;
     Ok(rounds)
+}
+
+/// Returns the number of tickets of a row, or None if there is no row or it isn't of round `round`. Fails if the number is out of its
+/// range.
+fn tickets_of(row: Option<&Row>, round: usize) -> Result<Option<Tickets>, Error> {
+    match row {
+        Some(row) if has_number(row, 0, round)? => tickets_in(row),
+        _ => Ok(None),
+    }
+}
+
+fn tickets_in(row: &Row) -> Result<Option<Tickets>, Error> {
+    let number: u32 = row.get(1)?;
+    match Tickets::new(number) {
+        Some(tickets) => Ok(Some(tickets)),
+        None => Err(UNSOUND),
+    }
 }
 
 /// Returns the ids of the dropouts of round `round`, which begin at row `told` of `dropped`. Fails unless their places are consecutive
@@ -283,12 +383,17 @@ fn dropped_of(
     Ok(ids)
 }
 
-fn round_of(alloc: Global, row: &Row, dropped: Vec<Name>) -> Result<Round, Error> {
+fn round_of(
+    alloc: Global,
+    row: &Row,
+    tickets: Option<Tickets>,
+    dropped: Vec<Name>,
+) -> Result<Round, Error> {
     let phase = phase_of(row.get(1)?)?;
     let bundle = bundle_of(alloc, &bytes(row, 2)?)?;
     let digits = text(row, 3)?;
     let digits = Vec::from_slice(alloc, digits.as_bytes())?;
-    match Round::from_parts(phase, bundle, digits, dropped) {
+    match Round::from_parts(phase, bundle, tickets, digits, dropped) {
         Some(round) => Ok(round),
         None => Err(UNSOUND),
     }

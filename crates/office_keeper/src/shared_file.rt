@@ -3,7 +3,8 @@
 ghost use Rattle.std.specs.Prelude.{◌≡◌, false, is_some};
 
 use crate::marks::{Mark, mark_of};
-use crate::schema::is_current;
+use crate::missing::is_missing;
+use crate::schema::{begin_new, is_current};
 use crate::sqlite_over::SqliteOver;
 use office_core::{Change, Keeper, KeeperStop, Tables};
 use sqlite::{Connection, Error, ErrorCode, File, FileStore};
@@ -15,17 +16,19 @@ use std::{fs, thread};
 /// For how many seconds an open is tried while somebody else has the file.
 const PATIENCE: u64 = 5;
 
-/// How many milliseconds the pause after a try takes. A desk that is asked without a rest leaves the file free for about one between visits.
+/// How many milliseconds the pause after a try takes. A desk that is asked without a rest leaves the file free for about one between
+/// visits.
 const PAUSE: u64 = 2;
 
 /// How many times an open is tried at most. The pauses after them take five seconds.
 const TRIES: u32 = 2_500;
 
-/// The file of a store. While it is open, nobody else can open it.
+/// The file of a store. While it is open, nobody else can open it. A file that was missing has the first tables until it is made.
 #[derive(Drop)]
 pub(crate) struct SharedFile {
     open: Option<OpenFile>,
     known: Option<Known>,
+    was_missing: bool,
 }
 
 /// An open file, with a keeper over it that is attached.
@@ -60,15 +63,28 @@ impl SharedFile {
         SharedFile {
             open: None,
             known: None,
+            was_missing: false,
         }
     }
 
-    /// Opens the file of a path, makes what it lacks, and reads its tables.
+    /// Returns a file that was missing, which isn't open.
+    fn missing() -> SharedFile {
+        SharedFile {
+            open: None,
+            known: None,
+            was_missing: true,
+        }
+    }
+
+    /// Opens the file of a path, makes what it lacks, and reads its tables. If no file is there, makes none.
     pub(crate) fn open(
         rt: &HostRuntime,
         alloc: Global,
         path: &str,
     ) -> Result<SharedFile, KeeperStop> {
+        if is_missing(rt, path)? {
+            return Ok(SharedFile::missing());
+        }
         let mark = mark_of(rt, path)?;
         let mut file = OpenFile {
             over: SqliteOver::new(connect(rt, path)?),
@@ -78,6 +94,7 @@ impl SharedFile {
         Ok(SharedFile {
             open: Some(file),
             known: Some(Known { mark, tables }),
+            was_missing: false,
         })
     }
 
@@ -103,6 +120,7 @@ impl SharedFile {
     ) -> Result<Tables, KeeperStop> {
         match &mut self.open {
             Some(file) => loaded(alloc, file, &self.known),
+            None if self.was_missing => self.load_first(rt, alloc, path),
             None => {
                 let mark = mark_of(rt, path)?;
                 match known_at(&self.known, &mark) {
@@ -110,6 +128,20 @@ impl SharedFile {
                     None => self.reload(rt, alloc, path, mark),
                 }
             }
+        }
+    }
+
+    /// Returns the first tables if the file is still missing. If somebody made it since, opens it and reads its tables.
+    fn load_first(
+        &mut self,
+        rt: &HostRuntime,
+        alloc: Global,
+        path: &str,
+    ) -> Result<Tables, KeeperStop> {
+        *self = SharedFile::open(rt, alloc, path)?;
+        match &mut self.open {
+            Some(file) => loaded(alloc, file, &self.known),
+            None => first_tables(alloc),
         }
     }
 
@@ -132,7 +164,8 @@ impl SharedFile {
         Ok(tables)
     }
 
-    /// Stores a change of the tables that were loaded last. If the file isn't open, it is opened, and the call fails if it was changed since.
+    /// Stores a change of the tables that were loaded last. If the file isn't open, it is opened, or made if it was missing, and the call
+    /// fails if it was changed or made since.
     pub(crate) fn store(
         &mut self,
         rt: &HostRuntime,
@@ -141,12 +174,22 @@ impl SharedFile {
         change: &Change,
     ) -> Result<(), KeeperStop> {
         if self.open.is_none() {
-            self.open = Some(unchanged(rt, path, &self.known)?);
+            self.open = Some(self.reached(rt, path)?);
+            self.was_missing = false;
         }
         self.known = None;
         match &mut self.open {
             Some(file) => file.over.store(alloc, change),
             None => Err(KeeperStop::Failed),
+        }
+    }
+
+    /// Opens the file, or makes it if it was missing. Fails if somebody changed or made it since.
+    fn reached(&self, rt: &HostRuntime, path: &str) -> Result<OpenFile, KeeperStop> {
+        if self.was_missing {
+            made(rt, path)
+        } else {
+            unchanged(rt, path, &self.known)
         }
     }
 
@@ -179,6 +222,28 @@ fn shared(tables: &Tables) -> Result<Tables, KeeperStop> {
     match tables.copy() {
         Ok(tables) => Ok(tables),
         Err(_) => Err(KeeperStop::OutOfMemory),
+    }
+}
+
+fn first_tables(alloc: Global) -> Result<Tables, KeeperStop> {
+    match Tables::first(alloc) {
+        Ok(tables) => Ok(tables),
+        Err(_) => Err(KeeperStop::OutOfMemory),
+    }
+}
+
+/// Makes the file of a path where none was, with the first tables, and fails if somebody else made it since.
+fn made(rt: &HostRuntime, path: &str) -> Result<OpenFile, KeeperStop> {
+    if !is_missing(rt, path)? {
+        return Err(KeeperStop::Failed);
+    }
+    let mut connection = connect(rt, path)?;
+    match begin_new(&mut connection) {
+        Ok(()) => Ok(OpenFile {
+            over: SqliteOver::attached(connection),
+        }),
+        Err(Error::SqliteFailure(ErrorCode::OutOfMemory)) => Err(KeeperStop::OutOfMemory),
+        Err(_) => Err(KeeperStop::Failed),
     }
 }
 

@@ -12,10 +12,11 @@ use office_core::{Change, Keeper, KeeperStop, Tables};
 use pool_model::Name;
 use std::alloc::Global;
 
-/// A store in a file. `attach` opens the file of a path, and makes it if it is missing; before that, each other call fails. It reads and tests
-/// all rows, so it fails if the file holds no tables that keep the facts. `let_go` closes the file, and the next call opens it again if it
-/// must: if somebody else has it open, the call waits for up to five seconds. Tables are read again only if the file may have changed. While
-/// the keeper has the file open, nobody else can open it. Contracts speak of where the keeper is attached, and not of its tables.
+/// A store in a file. `attach` opens the file of a path; before that, each other call fails. It reads and tests all rows, so it fails if
+/// the file holds no tables that keep the facts. If no file is there, `load` returns the first tables, and the first `store` makes the
+/// file. `let_go` closes the file, and the next call opens it again if it must: if somebody else has it open, the call waits for up to five
+/// seconds. Tables are read again only if the file may have changed. While the keeper has the file open, nobody else can open it. Contracts
+/// speak of where the keeper is attached, and not of its tables.
 #[derive(Drop)]
 pub struct SqliteKeeper {
     rt: HostRuntime,

@@ -9,6 +9,7 @@ use Rattle.define_bundles.specs.BundleText.{Bundle}
 use Rattle.define_draws.specs.Dice.{name_ticket}
 use Rattle.define_offices.specs.Commands as office
 use Rattle.define_offices.specs.Tables.{Round, Open, Solved, Sealed, Drawn, bundle_of}
+use Rattle.define_offices.specs.Pools.{drawn_lottery}
 use Rattle.define_offices.specs.Report.{not_gone}
 use Rattle.office_steps.specs.declared.pools.PoolStop.{PoolStop}
 use Rattle.office_steps.specs.declared.pools.PoolStop.TheVariants.{NoRound, Incomplete, OutOfMemory}
@@ -35,8 +36,8 @@ WeightsAgree found = ForSome found (λ bundle. TotalAgrees bundle.answer.lottery
 abbrev pub HasTicket : Round → Type 0
 HasTicket Open = ⊤
 HasTicket (Solved bundle) = ⊤
-HasTicket (Sealed bundle) = ⊤
-HasTicket (Drawn bundle digits dropped) = IsTrue (is_ok (name_ticket bundle.answer.lottery.total digits))
+HasTicket (Sealed bundle tickets) = ⊤
+HasTicket (Drawn bundle tickets digits dropped) = IsTrue (is_ok (name_ticket (drawn_lottery bundle tickets).total digits))
 
 -- if the round has a bundle, its weights sum to its total; if the round was drawn, its digits name a ticket
 pub record KeepsDraw (round : Round) : Type 0 where
@@ -47,9 +48,9 @@ pub record KeepsDraw (round : Round) : Type 0 where
 abbrev pub IsDrawnIn : Round → Option Draw → Type 0
 IsDrawnIn Open drawn = drawn ≡ None
 IsDrawnIn (Solved bundle) drawn = drawn ≡ None
-IsDrawnIn (Sealed bundle) drawn = drawn ≡ None
-IsDrawnIn (Drawn bundle digits dropped) None = ⊥
-IsDrawnIn (Drawn bundle digits dropped) (Some drawn) = Draws bundle digits drawn
+IsDrawnIn (Sealed bundle tickets) drawn = drawn ≡ None
+IsDrawnIn (Drawn bundle tickets digits dropped) None = ⊥
+IsDrawnIn (Drawn bundle tickets digits dropped) (Some drawn) = Draws (drawn_lottery bundle tickets) (length bundle.pool.volunteers) digits drawn
 
 -- the members of what is drawn are volunteers of the pool
 abbrev pub IsOfPool : Pool → Option Draw → Type 0

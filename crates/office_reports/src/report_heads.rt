@@ -3,16 +3,18 @@
 ghost use Rattle.std.specs.Prelude.{◌≡◌, ◌≤ℤ◌, ◌++◌, ◌∷◌, [], length, map, pos, unsigned_abs, OnOk};
 ghost use Rattle.define_lines.specs.Lines.{text_of};
 ghost use Rattle.define_bundles.specs.BundleText.{total_line};
-ghost use Rattle.define_offices.specs.Lines.{member_ids, phase_name as name_of_phase};
+ghost use Rattle.define_draws.specs.Lines.{member_ids};
 ghost use Rattle.define_made_pools.specs.Summary.{number_line};
-ghost use Rattle.define_offices.specs.Report.{draw_lines, head_lines, lottery_lines, member_line, ticket_line};
+ghost use Rattle.define_offices.specs.Report.{draw_lines, head_lines, lottery_lines, member_line};
 ghost use Rattle.office_reports.specs.Groups.{AreBelow};
 
 use define_offices::Phase;
 use itoa::Buffer;
+use office_tables::phase_name;
 use pool_model::{Lottery, Name, Panel, Pool};
+use sealed_draw::push_ticket;
 use std::alloc::AllocError;
-use text_lines::{end_line, push_line, push_number, push_signed};
+use text_lines::{end_line, push_line, push_signed};
 
 /// Appends the lines that each report begins with.
 pub(crate) fn push_head(
@@ -26,24 +28,17 @@ pub(crate) fn push_head(
 {
     push_number_line(text, b"report", number)?;
     push_line(text, b"title", &[title.as_bytes()])?;
-    push_line(text, b"phase", &[phase_name(phase)])?;
+    push_line(text, b"phase", &[phase_name(phase).as_bytes()])?;
     push_number_line(text, b"size", pool.size())?;
     push_number_line(text, b"volunteers", pool.volunteers().len())
 }
 
-fn phase_name(phase: Phase) -> &'static [u8]
-    ensures { result.now ≡ name_of_phase phase }
-{
-    match phase {
-        Phase::Open => b"Open",
-        Phase::Solved => b"Solved",
-        Phase::Sealed => b"Sealed",
-        Phase::Drawn => b"Drawn",
-    }
-}
-
 /// Appends the line of a word and a number.
-fn push_number_line(text: &mut Vec<u8>, word: &[u8], number: usize) -> Result<(), AllocError>
+pub(crate) fn push_number_line(
+    text: &mut Vec<u8>,
+    word: &[u8],
+    number: usize,
+) -> Result<(), AllocError>
     ensures { OnOk result (text.new.items ≡ text.old.items ++ text_of (number_line word.now number ∷ [])) }
 {
     let mut digits = Buffer::new();
@@ -83,17 +78,6 @@ pub(crate) fn push_draw(
     push_line(text, b"digits", &[digits])?;
     push_ticket(text, ticket, used)?;
     push_members(text, pool, panel)
-}
-
-/// Appends a ticket, and how many digits were read.
-fn push_ticket(text: &mut Vec<u8>, ticket: i128, used: usize) -> Result<(), AllocError>
-    requires { pos 0 ≤ℤ ticket }
-    ensures { OnOk result (text.new.items ≡ text.old.items ++ text_of (ticket_line (unsigned_abs ticket) used ∷ [])) }
-{
-    text.extend_from_slice(b"ticket")?;
-    push_signed(text, ticket)?;
-    push_number(text, used)?;
-    end_line(text)
 }
 
 /// Appends a line for each member of a panel.

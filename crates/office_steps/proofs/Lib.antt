@@ -2,8 +2,8 @@ mod DrawnRounds
 mod KeyRows
 mod Members
 mod NamedRounds
-mod PanelLines
 mod RegisterSays
+mod RowsBeyond
 mod SameByPlaces
 mod SortedRows
 mod Numbers

@@ -1,7 +1,7 @@
 -- The phase of the last round is that of the round at the last place, and the number of a round is at most the number of rounds.
-use Rattle.std.proofs.Common.{◌≡◌, ◌≤◌, ◌<◌, ◌-◌, ℕ, zero, suc, List, [], ◌∷◌, Some, None, get_or, length, refl, sym, ap, ◌∙◌, ◌⊎◌, inl, inr, arith}
+use Rattle.std.proofs.Common.{◌≡◌, ◌≤◌, ◌-◌, ℕ, zero, suc, List, [], ◌∷◌, Some, length, refl, sym, ap, ◌∙◌, arith}
 use Rattle.std.specs.List.{slice_get}
-use Rattle.std.proofs.lemmas.Option.{slice_get_past, slice_get_read, slice_get_within}
+use Rattle.std.proofs.lemmas.Option.{slice_get_within}
 use Rattle.define_offices.specs.Tables.{Round, last_phase, named_round, phase_of, round_at}
 
 round_at_is : (rounds : List Round) (place : ℕ) → round_at rounds place ≡ slice_get rounds place

@@ -3,7 +3,7 @@ use Rattle.std.proofs.Common.{◌≡◌, ℕ, zero, suc, ◌-◌, ◌<◌, ◌�
 use Rattle.std.proofs.lemmas.Bool.{ltb-true, ltb-false}
 use Rattle.define_pools.specs.Pool.{Category, IsPool}
 use Rattle.define_offices.specs.Facts.{IsTables}
-use Rattle.define_offices.specs.Pools.{first_pool, open_pool, pool_after}
+use Rattle.define_offices.specs.Pools.{first_pool, open_pool, pool_after, with_bounds}
 use Rattle.define_offices.specs.Tables.{Charter, Round, Open, Drawn, Tables, named_round, round_at}
 use Rattle.define_offices.proofs.Pools.{open_is_pool}
 use Rattle.define_offices.proofs.Rounds.{drawn_before}
@@ -57,9 +57,9 @@ module _ (tables : Tables) (keeps : IsTables tables) where
   is_drawn_at : (before : ℕ) → suc before < length tables.rounds → (round : Round) → round_at tables.rounds before ≡ Some round → IsDrawn round
   is_drawn_at before h round at =
       let drawn = drawn_before tables.rounds before (get_or tables.rounds (suc before) Open) keeps.closed (round_at-within tables.rounds (suc before) Open h) in
-      let kept = keeps.rounds before (Drawn drawn.bundle drawn.digits drawn.dropped) drawn.there in
-      let there : round_at tables.rounds before ≡ Some (Drawn drawn.bundle drawn.digits drawn.dropped) = drawn.there in
-      let same : Drawn drawn.bundle drawn.digits drawn.dropped ≡ round = cc in
+      let kept = keeps.rounds before (Drawn drawn.bundle drawn.tickets drawn.digits drawn.dropped) drawn.there in
+      let there : round_at tables.rounds before ≡ Some (Drawn drawn.bundle drawn.tickets drawn.digits drawn.dropped) = drawn.there in
+      let same : Drawn drawn.bundle drawn.tickets drawn.digits drawn.dropped ≡ round = cc in
       subst IsDrawn same (kept.0.total_agrees, kept.1.named)
 
   -- if there is a round at `place`, the round before it was drawn
@@ -69,10 +69,10 @@ module _ (tables : Tables) (keeps : IsTables tables) where
       let same : suc before - 1 ≡ before = omega arith in
       is_drawn_at before k round (round_at-read tables.rounds before round (omega arith) (rw same at e))
 
--- the pool after the round before `place` is the pool of the open round at `place`
+-- the pool after the round before `place`, with the bounds that were set, is the pool of the open round at `place`
 pub open_pool-later : (charter : Charter) (categories : List Category) (tables : Tables) (place : ℕ) → 0 < place → place < length tables.rounds → (round : Round) → round ≡ get_or tables.rounds (place - 1) round →
-    pool_after tables.register (Some round) ≡ open_pool charter categories tables place
+    with_bounds tables.bounds (pool_after tables.register (Some round)) ≡ open_pool charter categories tables place
 open_pool-later charter categories tables zero h k round e = absurd (omega arith)
 open_pool-later charter categories tables (suc before) h k round e =
     let same : suc before - 1 ≡ before = omega arith in
-    ap (pool_after tables.register) (sym (round_at-read tables.rounds before round (omega arith) (rw same at e)))
+    ap (λ found. with_bounds tables.bounds (pool_after tables.register found)) (sym (round_at-read tables.rounds before round (omega arith) (rw same at e)))

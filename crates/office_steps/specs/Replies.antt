@@ -3,7 +3,7 @@ use Rattle.define_offices.specs.Commands as office
 use Rattle.office_steps.specs.declared.replies.Reply.{Reply}
 use Rattle.office_steps.specs.declared.replies.Reply.TheVariants.{Lines, NoPanel}
 use Rattle.office_steps.specs.declared.replies.Refusal.{Refusal}
-use Rattle.office_steps.specs.declared.replies.Refusal.TheVariants.{NoRound, Incomplete, WrongPhase, RowDiffers, KeyTaken, RegisterFull, NotSealed, SealDiffers, DrawDiffers, BadDigit, MoreDigits, NotSeated, RoundClosed, OtherPool, UnknownKey, TooLate}
+use Rattle.office_steps.specs.declared.replies.Refusal.TheVariants.{NoRound, Incomplete, WrongPhase, RowDiffers, KeyTaken, RegisterFull, NotSealed, SealDiffers, DrawDiffers, BadDigit, MoreDigits, NotSeated, RoundClosed, OtherPool, UnknownKey, TooLate, TicketsDiffer, NotDropped, UnknownId}
 
 abbrev pub seen_reply : Reply → office.Reply
 seen_reply (Lines text) = office.Lines text.items
@@ -26,3 +26,6 @@ seen_refusal (RoundClosed last) = office.RoundClosed last
 seen_refusal (OtherPool round) = office.OtherPool round
 seen_refusal UnknownKey = office.UnknownKey
 seen_refusal TooLate = office.TooLate
+seen_refusal (TicketsDiffer kept) = office.TicketsDiffer kept
+seen_refusal (NotDropped id) = office.NotDropped id
+seen_refusal (UnknownId id) = office.UnknownId id

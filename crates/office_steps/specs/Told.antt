@@ -4,6 +4,7 @@ use Rattle.define_pools.specs.Lottery.{TotalAgrees}
 use Rattle.define_pools.specs.Pool.{Pool}
 use Rattle.define_draws.specs.Dice.{name_ticket}
 use Rattle.define_offices.specs.Commands as office
+use Rattle.define_offices.specs.Pools.{drawn_lottery}
 use Rattle.define_offices.specs.Tables.{Round, Open, Solved, Sealed, Drawn}
 use Rattle.office_steps.specs.declared.pools.PoolStop.{PoolStop}
 use Rattle.office_steps.specs.declared.pools.PoolStop.TheVariants.{NoRound, Incomplete, OutOfMemory}
@@ -20,5 +21,5 @@ TellsPool is (Err OutOfMemory) = ⊤
 abbrev pub IsDrawn : Round → Type 0
 IsDrawn Open = ⊥
 IsDrawn (Solved bundle) = ⊥
-IsDrawn (Sealed bundle) = ⊥
-IsDrawn (Drawn bundle digits dropped) = TotalAgrees bundle.answer.lottery × (is_ok (name_ticket bundle.answer.lottery.total digits) ≡ true)
+IsDrawn (Sealed bundle tickets) = ⊥
+IsDrawn (Drawn bundle tickets digits dropped) = TotalAgrees bundle.answer.lottery × (is_ok (name_ticket (drawn_lottery bundle tickets).total digits) ≡ true)

@@ -1,23 +1,25 @@
-//! The imports of charter and rules.
+//! The imports of charter, rules, and bounds of a round.
 
-ghost use Rattle.std.specs.Prelude.{◌≡◌, ◌&&◌, ◌==◌, bytes_eq, codes};
+ghost use Rattle.std.specs.Prelude.{◌≡◌, ◌&&◌, ◌==◌, bytes_eq, codes, option_map, Ok};
 ghost use Rattle.std.specs.List.{list_all, zip};
 ghost use Rattle.define_pools.specs.Building.{value_names};
-ghost use Rattle.define_offices.specs.Deciding.{are_rules_kept as rules_are_kept, decide_charter, decide_rules, fit_rows as rows_fit, is_charter_kept as charter_is_kept};
-ghost use Rattle.define_offices.specs.Tables.{same_names as are_same_names, same_rules as are_same_rules, same_shape as are_of_one_shape, same_values as are_same_values};
+ghost use Rattle.define_offices.specs.Deciding.{are_rules_kept as rules_are_kept, bounds_in, bounds_over as bounds_with, decide_bounds, decide_charter, decide_rules, fit_rows as rows_fit, is_charter_kept as charter_is_kept, row_beyond as first_beyond};
+ghost use Rattle.define_offices.specs.Tables.{named_round, same_names as are_same_names, same_rules as are_same_rules, same_shape as are_of_one_shape, same_values as are_same_values};
 ghost use Rattle.define_offices.specs.Commands.{Refuses, RowDiffers};
 ghost use Rattle.office_steps.specs.Steps.{Says, Stops};
 
 use crate::lines::line;
-use crate::named::{is_enrolling, last_phase};
+use crate::named::{is_enrolling, last_phase, no_round};
+use crate::pools::{PoolStop, pool_of, round_named};
 use crate::replies::{Refusal, Reply};
 use crate::stops::OfficeStop;
-use office_tables::{Change, Charter, Entry, Rules, Tables};
-use pool_model::{BoundedValue, Category, Name};
+use office_tables::{Change, Charter, Entry, Phase, Round, Rules, Tables};
+use pool_model::{BoundedValue, Category, Name, Pool};
 use std::alloc::Global;
 
 /// Returns the outcome of an import of the charter. For the charter that is kept already, the reply is `same`. A different charter is
-/// refused unless volunteers are enrolled, that is, round 1 is the last one and open.
+/// refused unless volunteers are enrolled, that is, round 1 is the last one and open; and if the register has more rows than it takes under
+/// this charter.
 pub fn set_charter(
     alloc: Global,
     tables: &Tables,
@@ -33,8 +35,23 @@ pub fn set_charter(
             phase: last_phase(tables.rounds()),
         }));
     }
-    let change = Change::Charter(charter.copy()?);
-    Ok((Some(change), line(alloc, b"charter", &[b"set"])?))
+    match row_beyond(tables.register(), charter.volunteers()) {
+        Some(entry) => {
+            let what = entry.id().copy()?;
+            Err(OfficeStop::Refused(Refusal::RowDiffers { what }))
+        }
+        None => {
+            let change = Change::Charter(charter.copy()?);
+            Ok((Some(change), line(alloc, b"charter", &[b"set"])?))
+        }
+    }
+}
+
+/// Returns the first row that a register of this many rows has no room for, if there is one.
+fn row_beyond(register: &[Entry], rows: usize) -> Option<&Entry>
+    ensures { option_map (λ entry. entry.now) result ≡ first_beyond register.now rows }
+{
+    register.get(rows)
 }
 
 /// True if `charter` is the one that is kept.
@@ -43,7 +60,9 @@ fn is_charter_kept(kept: &Option<Charter>, charter: &Charter) -> bool
 {
     match kept {
         Some(kept) => {
-            kept.title().as_bytes() == charter.title().as_bytes() && kept.size() == charter.size()
+            kept.title().as_bytes() == charter.title().as_bytes()
+                && kept.size() == charter.size()
+                && kept.volunteers() == charter.volunteers()
         }
         None => false,
     }
@@ -71,6 +90,67 @@ pub fn set_rules(
         return Err(rules_differ(alloc));
     }
     let change = Change::Rules(rules.copy()?);
+    Ok((Some(change), line(alloc, b"rules", &[b"set"])?))
+}
+
+/// Returns the outcome of bounds for round `number`. For those that the round's pool has, the reply is `same`. Others are refused unless the
+/// round is open and they differ from the pool's in bounds alone.
+pub fn set_bounds(
+    alloc: Global,
+    tables: &Tables,
+    number: usize,
+    bounds: &Rules,
+) -> Result<(Option<Change>, Reply), OfficeStop>
+    ensures { Says (decide_bounds tables.now number bounds.now) result }
+{
+    match pool_of(alloc, tables, number) {
+        Ok(pool) => bounds_over(alloc, tables, number, &pool, bounds),
+        Err(PoolStop::NoRound { last }) => Err(OfficeStop::Refused(Refusal::NoRound { last })),
+        Err(PoolStop::Incomplete { what }) => {
+            Err(OfficeStop::Refused(Refusal::Incomplete { what }))
+        }
+        Err(PoolStop::OutOfMemory) => Err(OfficeStop::OutOfMemory),
+    }
+}
+
+/// Returns the outcome of bounds for round `number`, which has this pool.
+fn bounds_over(
+    alloc: Global,
+    tables: &Tables,
+    number: usize,
+    pool: &Pool,
+    bounds: &Rules,
+) -> Result<(Option<Change>, Reply), OfficeStop>
+    ensures { Says (bounds_with tables.now bounds.now (Ok pool.now) (named_round tables.now.rounds number)) result }
+{
+    let Some(round) = round_named(tables, number) else {
+        return Err(OfficeStop::Refused(no_round(tables)));
+    };
+    if same_rules(pool.categories(), bounds.categories()) {
+        return Ok((None, line(alloc, b"rules", &[b"same"])?));
+    }
+    new_bounds(alloc, pool, round, bounds)
+}
+
+/// Returns the outcome of new bounds for a round with this pool. They are refused unless the round is open and they differ from the pool's
+/// in bounds alone.
+fn new_bounds(
+    alloc: Global,
+    pool: &Pool,
+    round: &Round,
+    bounds: &Rules,
+) -> Result<(Option<Change>, Reply), OfficeStop>
+    ensures { Says (bounds_in pool.now bounds.now round.now) result }
+{
+    if round.phase() != Phase::Open {
+        return Err(OfficeStop::Refused(Refusal::WrongPhase {
+            phase: round.phase(),
+        }));
+    }
+    if !same_shape(pool.categories(), bounds.categories()) {
+        return Err(rules_differ(alloc));
+    }
+    let change = Change::Bounds(bounds.copy()?);
     Ok((Some(change), line(alloc, b"rules", &[b"set"])?))
 }
 
@@ -143,7 +223,7 @@ fn values_agree(one: &[BoundedValue], other: &[BoundedValue]) -> bool
 }
 
 /// True if both lists have the same names of categories and values in the same order, whatever the bounds.
-fn same_shape(one: &[Category], other: &[Category]) -> bool
+pub(crate) fn same_shape(one: &[Category], other: &[Category]) -> bool
     ensures { result ≡ are_of_one_shape one.now other.now }
 {
     one.len() == other.len() && shapes_agree(one, other)

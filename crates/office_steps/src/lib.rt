@@ -18,12 +18,12 @@ mod stops;
 mod withdrawing;
 
 pub use crate::pools::round_named;
-pub use draws::{draw_round, drop_member, seal_round};
-pub use imports::{set_charter, set_rules};
+pub use draws::{draw_round, drop_member, seal_round, try_draw, undrop_member};
+pub use imports::{set_bounds, set_charter, set_rules};
 pub use lines::line;
 pub use named::no_round;
-pub use nexts::{next_round, show_round};
+pub use nexts::{next_round, reopen_round, show_round};
 pub use registering::register;
 pub use replies::{Refusal, Reply};
 pub use stops::OfficeStop;
-pub use withdrawing::withdraw;
+pub use withdrawing::{withdraw, withdraw_id};

@@ -3,8 +3,8 @@
 ghost use Rattle.std.specs.Prelude.{◌≡◌, ◌+◌, ◌<◌, ◌^◌, IfOk};
 ghost use Rattle.define_bundles.specs.BundleText.{bundle_spelling};
 ghost use Rattle.define_offices.specs.Commands as office;
-ghost use Rattle.define_offices.specs.Deciding.{next_after as next_of, next_in, show_in};
-ghost use Rattle.define_offices.specs.Lines.{one_line, round_line as line_of_round};
+ghost use Rattle.define_offices.specs.Deciding.{next_after as next_of, next_in, reopen_at, reopen_in, show_in};
+ghost use Rattle.define_offices.specs.Lines.{one_line, reopened_line, round_line as line_of_round};
 ghost use Rattle.define_offices.specs.Tables.{named_round};
 ghost use Rattle.office_steps.specs.Replies.{seen_reply};
 ghost use Rattle.office_steps.specs.Steps.{Says};
@@ -56,6 +56,51 @@ fn next_after(
         return Err(OfficeStop::Refused(Refusal::Incomplete { what: Part::Drops }));
     }
     Ok((Some(Change::Next), round_line(alloc, number + 1)?))
+}
+
+/// Returns the outcome of taking round `number` away. It is refused unless the round is the last one and open.
+pub fn reopen_round(
+    alloc: Global,
+    tables: &Tables,
+    number: usize,
+) -> Result<(Option<Change>, Reply), OfficeStop>
+    ensures { Says (reopen_in tables.now number (named_round tables.now.rounds number)) result }
+{
+    let Some(round) = round_named(tables, number) else {
+        return Err(OfficeStop::Refused(no_round(tables)));
+    };
+    if number == tables.rounds().len() {
+        reopen_last(alloc, number, round)
+    } else {
+        Err(OfficeStop::Refused(Refusal::RoundClosed {
+            last: tables.rounds().len(),
+        }))
+    }
+}
+
+/// Returns the outcome of taking the last round away, which has this number. It is refused unless the round is open.
+fn reopen_last(
+    alloc: Global,
+    number: usize,
+    round: &Round,
+) -> Result<(Option<Change>, Reply), OfficeStop>
+    ensures { Says (reopen_at number round.now) result }
+{
+    if round.phase() != Phase::Open {
+        return Err(OfficeStop::Refused(Refusal::WrongPhase {
+            phase: round.phase(),
+        }));
+    }
+    let change = Change::Reopened { round: number };
+    Ok((Some(change), reopened_reply(alloc, number)?))
+}
+
+/// Returns the reply that names a round that is taken away.
+fn reopened_reply(alloc: Global, number: usize) -> Result<Reply, AllocError>
+    ensures { IfOk result (λ reply. seen_reply reply ≡ one_line (reopened_line number)) }
+{
+    let mut digits = Buffer::new();
+    line(alloc, b"reopened", &[digits.format(number).as_bytes()])
 }
 
 /// Returns the reply that names a round.

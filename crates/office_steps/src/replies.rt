@@ -42,7 +42,7 @@ pub enum Refusal {
     },
     /// The register is full, with the rows that the import adds before this one.
     RegisterFull {
-        /// The most rows that a register has.
+        /// How many rows the register takes.
         rows: usize,
     },
     /// The round isn't sealed yet.
@@ -91,4 +91,19 @@ pub enum Refusal {
     UnknownKey,
     /// The volunteer can't withdraw any more.
     TooLate,
+    /// The round was sealed with another number of tickets.
+    TicketsDiffer {
+        /// The number that was kept with the seal, 0 if none was.
+        kept: usize,
+    },
+    /// The volunteer didn't drop out of the round.
+    NotDropped {
+        /// The volunteer's id.
+        id: Name,
+    },
+    /// No row of the register has this id.
+    UnknownId {
+        /// The id.
+        id: Name,
+    },
 }

@@ -1,19 +1,22 @@
-//! The withdrawal of a volunteer, who is found by a key.
+//! The withdrawal of a volunteer, who is found by a key or by the id.
 
-ghost use Rattle.std.specs.Prelude.{◌≡◌, ◌<◌, ◌&&◌, bytes_eq, length, not, position, IfOk};
+ghost use Rattle.std.specs.Prelude.{◌≡◌, ◌&&◌, bytes_eq, length, not, position, IfOk};
 ghost use Rattle.define_draws.specs.Seal.{seal_of};
 ghost use Rattle.define_pools.specs.Pool.{volunteer};
-ghost use Rattle.define_offices.specs.Deciding.{is_last_open as last_is_open, is_seated as seated, is_seated_in, place_of_hash, withdraw_at};
+ghost use Rattle.define_offices.specs.Deciding.{is_last_open as last_is_open, is_seated as seated, is_seated_in, place_of_hash, place_of_id, withdraw_at, withdraw_id_at, withdraw_row as row_withdrawn};
+ghost use Rattle.define_offices.specs.Lines.{one_line, withdrawn_line};
+ghost use Rattle.office_steps.specs.Replies.{seen_reply};
 ghost use Rattle.define_offices.specs.Pools.{pool_of as pool_of_round};
 ghost use Rattle.office_steps.specs.Steps.{Says};
-ghost use Rattle.office_steps.specs.Withdrawals.{IsPlaceOf};
+ghost use Rattle.office_steps.specs.Withdrawals.{IsPlaceOf, IsPlaceOfId};
 
+use crate::lines::line;
 use crate::named::last_phase;
 use crate::pools::{PoolStop, pool_of};
 use crate::replies::{Refusal, Reply};
 use crate::stops::OfficeStop;
 use office_tables::{Change, Entry, Phase, Round, Tables};
-use pool_model::{Standing, Volunteer};
+use pool_model::{Name, Standing, Volunteer};
 use sealed_draw::seal;
 use std::alloc::{AllocError, Global};
 
@@ -33,7 +36,43 @@ pub fn withdraw(
         return Err(OfficeStop::Refused(Refusal::UnknownKey));
     };
     let reply = Reply::Lines(Vec::new(alloc));
-    if register[place].withdrawn() {
+    withdraw_row(alloc, tables, place, &register[place], reply)
+}
+
+/// Returns the outcome of a withdrawal that the office enters for the volunteer with this id, by the rules of `withdraw`.
+pub fn withdraw_id(
+    alloc: Global,
+    tables: &Tables,
+    id: &Name,
+) -> Result<(Option<Change>, Reply), OfficeStop>
+    ensures { Says (withdraw_id_at tables.now id.now (place_of_id tables.now.register id.now 0)) result }
+{
+    let register = tables.register();
+    let Some(place) = place_by_id(register, id) else {
+        return Err(OfficeStop::Refused(Refusal::UnknownId { id: id.copy()? }));
+    };
+    let reply = withdrawn_reply(alloc, id)?;
+    withdraw_row(alloc, tables, place, &register[place], reply)
+}
+
+/// Returns the reply that names a withdrawal.
+fn withdrawn_reply(alloc: Global, id: &Name) -> Result<Reply, AllocError>
+    ensures { IfOk result (λ reply. seen_reply reply ≡ one_line (withdrawn_line id.now)) }
+{
+    line(alloc, b"withdrawn", &[id.as_bytes()])
+}
+
+/// Returns the outcome of a withdrawal of the row `entry`, which is at `place`, with `reply` if it withdraws.
+fn withdraw_row(
+    alloc: Global,
+    tables: &Tables,
+    place: usize,
+    entry: &Entry,
+    reply: Reply,
+) -> Result<(Option<Change>, Reply), OfficeStop>
+    ensures { Says (row_withdrawn tables.now (seen_reply reply) place entry.now) result }
+{
+    if entry.withdrawn() {
         return Ok((None, reply));
     }
     if may_withdraw(alloc, tables, place)? {
@@ -41,6 +80,21 @@ pub fn withdraw(
     } else {
         Err(OfficeStop::Refused(Refusal::TooLate))
     }
+}
+
+/// Returns the place of the first row with this id, if there is one.
+fn place_by_id(register: &[Entry], id: &Name) -> Option<usize>
+    ensures { IsPlaceOfId register.now id.now result }
+{
+    position_by_id(register, id)
+}
+
+fn position_by_id(register: &[Entry], id: &Name) -> Option<usize>
+    ensures { result ≡ position (λ entry. bytes_eq id.now entry.id) register.now }
+{
+    register
+        .iter()
+        .position(|entry| id.as_bytes() == entry.id().as_bytes())
 }
 
 /// Returns the place of the row with this digest of a key, if there is one.

@@ -1,7 +1,7 @@
-//! Does each command of an assembly over a keeper in memory and over a store. After each command, a new keeper over the store's connection must
-//! load what the keeper in memory holds. At the end the files are closed and opened again, and a keeper over them must load the same.
+//! Does each command of an assembly over a keeper in memory and over a store. After each command, a new keeper over the store's connection
+//! must load what the keeper in memory holds. At the end the files are closed and opened again, and a keeper over them must load the same.
 
-use crate::assembly::{ENROLLED, HOUSEHOLDS, PLAIN, Row, SEALED, done};
+use crate::assembly::{CORRECTED, ENROLLED, HOUSEHOLDS, PLAIN, Row, SEALED, done};
 use crate::disks::{Stored, closed, loaded, nothing, opened, spelled};
 use office_core::Keeper;
 use office_keeper::{MapKeeper, SqliteOver};
@@ -40,7 +40,7 @@ fn agree<R: Threads + Sync + Abort>(rt: &R, alloc: Global, rows: &[Row]) -> Opti
 
 #[test]
 fn keepers_agree(rt: HostRuntime) {
-    for rows in [PLAIN, HOUSEHOLDS, ENROLLED, SEALED] {
+    for rows in [PLAIN, HOUSEHOLDS, ENROLLED, SEALED, CORRECTED] {
         assert!(rt; agree(&rt, rt.alloc(), rows).is_some());
     }
 }

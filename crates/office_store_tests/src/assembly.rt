@@ -6,6 +6,7 @@ ghost use Rattle.office_core.specs.Commands.{HasWorkers};
 use define_runs::Limits;
 use office_core::{ActStop, Charter, Command, Keeper, Rows, Rules, act};
 use office_import::{read_charter, read_register, read_rules};
+use office_tables::{LaterRound, Tickets};
 use outside::NoWatch;
 use pool_model::Name;
 use std::alloc::Global;
@@ -14,16 +15,22 @@ use std::thread::Threads;
 /// A command of the office. The round is round 1 if none is named.
 #[derive(Clone, Copy)]
 pub(crate) enum Asked {
-    Charter,
+    Charter(&'static [u8]),
     Rules,
     Register(&'static [u8]),
     Solve(usize),
     Seal,
+    SealIn(u32),
     Draw(&'static str, &'static [u8]),
+    Try(&'static str, &'static [u8]),
     DropOut(&'static str),
+    Undrop(&'static str),
     Next,
+    Reopen(usize),
+    Bounds(usize),
     Show,
     Withdraw(&'static str),
+    WithdrawId(&'static str),
 }
 
 /// How a command ends.
@@ -39,7 +46,11 @@ pub(crate) type Row = (Asked, Ending);
 
 const CHARTER: &[u8] = b"title = \"River\"\nsize = 2\n";
 
+const LARGE: &[u8] = b"title = \"River\"\nsize = 2\nvolunteers = 500\n";
+
 const RULES: &[u8] = b"category,name,min,max\ngender,female,1,1\ngender,male,1,1\n";
+
+const WIDER: &[u8] = b"category,name,min,max\ngender,female,0,2\ngender,male,0,2\n";
 
 const FOUR: &[u8] = b"id,key,gender\na,abc,female\nb,k2,female\nc,k3,male\nd,k4,male\n";
 
@@ -67,8 +78,8 @@ pub(crate) const PLAIN: &[Row] = &[
     (Asked::Register(FOUR), Ending::Replies),
     (Asked::Register(DIFFERING), Ending::Refuses),
     (Asked::Register(KEY_TAKEN), Ending::Refuses),
-    (Asked::Charter, Ending::Replies),
-    (Asked::Charter, Ending::Replies),
+    (Asked::Charter(CHARTER), Ending::Replies),
+    (Asked::Charter(CHARTER), Ending::Replies),
     (Asked::Seal, Ending::Refuses),
     (Asked::Solve(1), Ending::Replies),
     (Asked::Solve(1), Ending::Replies),
@@ -97,7 +108,7 @@ pub(crate) const HOUSEHOLDS: &[Row] = &[
     (Asked::Rules, Ending::Replies),
     (Asked::Register(HOUSED), Ending::Replies),
     (Asked::Register(MORE), Ending::Replies),
-    (Asked::Charter, Ending::Replies),
+    (Asked::Charter(CHARTER), Ending::Replies),
     (Asked::Withdraw("k5"), Ending::Replies),
     (Asked::Solve(1), Ending::Replies),
     (Asked::Seal, Ending::Replies),
@@ -110,7 +121,7 @@ pub(crate) const HOUSEHOLDS: &[Row] = &[
 pub(crate) const ENROLLED: &[Row] = &[
     (Asked::Rules, Ending::Replies),
     (Asked::Register(FOUR), Ending::Replies),
-    (Asked::Charter, Ending::Replies),
+    (Asked::Charter(CHARTER), Ending::Replies),
     (Asked::Withdraw("k4"), Ending::Replies),
     (Asked::Withdraw("k4"), Ending::Replies),
     (Asked::Withdraw("k5"), Ending::Refuses),
@@ -120,10 +131,60 @@ pub(crate) const ENROLLED: &[Row] = &[
 pub(crate) const SEALED: &[Row] = &[
     (Asked::Rules, Ending::Replies),
     (Asked::Register(FOUR), Ending::Replies),
-    (Asked::Charter, Ending::Replies),
+    (Asked::Charter(CHARTER), Ending::Replies),
     (Asked::Solve(1), Ending::Replies),
     (Asked::Seal, Ending::Replies),
     (Asked::Withdraw("k4"), Ending::Refuses),
+];
+
+/// An assembly whose commands make each change that a store of version 2 has no place for, and take changes back. The first round is drawn
+/// in 10 tickets.
+pub(crate) const CORRECTED: &[Row] = &[
+    (Asked::Rules, Ending::Replies),
+    (Asked::Register(FOUR), Ending::Replies),
+    (Asked::Charter(CHARTER), Ending::Replies),
+    (Asked::Charter(LARGE), Ending::Replies),
+    (Asked::Charter(CHARTER), Ending::Replies),
+    (Asked::Charter(LARGE), Ending::Replies),
+    (Asked::Bounds(2), Ending::Refuses),
+    (Asked::Reopen(2), Ending::Refuses),
+    (Asked::Solve(1), Ending::Replies),
+    (Asked::SealIn(10), Ending::Replies),
+    (Asked::SealIn(100), Ending::Refuses),
+    (Asked::Try(SEAL, b"0"), Ending::Replies),
+    (Asked::Draw(SEAL, b"7"), Ending::Replies),
+    (Asked::Undrop("b"), Ending::Refuses),
+    (Asked::DropOut("b"), Ending::Replies),
+    (Asked::DropOut("d"), Ending::Replies),
+    (Asked::Undrop("b"), Ending::Replies),
+    (Asked::DropOut("b"), Ending::Replies),
+    (Asked::Undrop("d"), Ending::Replies),
+    (Asked::Next, Ending::Replies),
+    (Asked::Undrop("b"), Ending::Refuses),
+    (Asked::Bounds(2), Ending::Replies),
+    (Asked::Bounds(2), Ending::Replies),
+    (Asked::WithdrawId("c"), Ending::Replies),
+    (Asked::WithdrawId("d"), Ending::Refuses),
+    (Asked::Reopen(2), Ending::Replies),
+    (Asked::Reopen(2), Ending::Refuses),
+    (Asked::Next, Ending::Replies),
+    (Asked::Bounds(2), Ending::Replies),
+];
+
+/// Changes of each kind that a store of version 2 has no place for, or that take a change back.
+pub(crate) const FURTHER: &[Row] = &[
+    (Asked::Rules, Ending::Replies),
+    (Asked::Register(FOUR), Ending::Replies),
+    (Asked::Charter(LARGE), Ending::Replies),
+    (Asked::Solve(1), Ending::Replies),
+    (Asked::SealIn(10), Ending::Replies),
+    (Asked::Draw(SEAL, b"7"), Ending::Replies),
+    (Asked::DropOut("b"), Ending::Replies),
+    (Asked::DropOut("d"), Ending::Replies),
+    (Asked::Undrop("b"), Ending::Replies),
+    (Asked::Next, Ending::Replies),
+    (Asked::Bounds(2), Ending::Replies),
+    (Asked::Reopen(2), Ending::Replies),
 ];
 
 /// Does a command over a keeper. Returns how it ends, or None if the command can't be made, for want of memory.
@@ -146,23 +207,32 @@ pub(crate) fn command_of(alloc: Global, asked: Asked) -> Option<Command>
     ensures { IfSome result HasWorkers }
 {
     match asked {
-        Asked::Charter => charter(alloc),
+        Asked::Charter(charter) => set_charter(alloc, charter),
         Asked::Rules => rules(alloc),
         Asked::Register(rows) => register(alloc, rows),
         Asked::Solve(round) => solve(round),
-        Asked::Seal => Some(Command::Seal { round: 1 }),
+        Asked::Seal => Some(Command::Seal {
+            round: 1,
+            tickets: None,
+        }),
+        Asked::SealIn(tickets) => seal_in(tickets),
         Asked::Draw(seal, digits) => draw(alloc, seal, digits),
+        Asked::Try(seal, digits) => try_draw(alloc, seal, digits),
         Asked::DropOut(id) => drop_out(alloc, id),
+        Asked::Undrop(id) => undrop(alloc, id),
         Asked::Next => Some(Command::NextRound { after: 1 }),
+        Asked::Reopen(round) => reopen(round),
+        Asked::Bounds(round) => bounds(alloc, round),
         Asked::Show => Some(Command::Show { round: 1 }),
         Asked::Withdraw(key) => withdraw(alloc, key),
+        Asked::WithdrawId(id) => withdraw_id(alloc, id),
     }
 }
 
-fn charter(alloc: Global) -> Option<Command>
+fn set_charter(alloc: Global, charter: &[u8]) -> Option<Command>
     ensures { IfSome result HasWorkers }
 {
-    Some(Command::Charter(read_charter(alloc, CHARTER).ok()?))
+    Some(Command::Charter(read_charter(alloc, charter).ok()?))
 }
 
 fn rules(alloc: Global) -> Option<Command>
@@ -211,4 +281,55 @@ fn withdraw(alloc: Global, key: &str) -> Option<Command>
 {
     let key = Vec::from_slice(alloc, key.as_bytes()).ok()?;
     Some(Command::Withdraw { key })
+}
+
+fn seal_in(tickets: u32) -> Option<Command>
+    ensures { IfSome result HasWorkers }
+{
+    Some(Command::Seal {
+        round: 1,
+        tickets: Some(Tickets::new(tickets)?),
+    })
+}
+
+fn try_draw(alloc: Global, seal: &str, digits: &[u8]) -> Option<Command>
+    ensures { IfSome result HasWorkers }
+{
+    Some(Command::Try {
+        round: 1,
+        seal: Name::new(alloc, seal).ok()?,
+        digits: Vec::from_slice(alloc, digits).ok()?,
+    })
+}
+
+fn undrop(alloc: Global, id: &str) -> Option<Command>
+    ensures { IfSome result HasWorkers }
+{
+    let id = Name::new(alloc, id).ok()?;
+    Some(Command::Undrop { round: 1, id })
+}
+
+fn reopen(round: usize) -> Option<Command>
+    ensures { IfSome result HasWorkers }
+{
+    Some(Command::Reopen {
+        round: LaterRound::new(round)?,
+    })
+}
+
+/// Returns the command that sets the bounds `WIDER` for a round.
+fn bounds(alloc: Global, round: usize) -> Option<Command>
+    ensures { IfSome result HasWorkers }
+{
+    Some(Command::Bounds {
+        round: LaterRound::new(round)?,
+        bounds: read_rules(alloc, WIDER).ok()?,
+    })
+}
+
+fn withdraw_id(alloc: Global, id: &str) -> Option<Command>
+    ensures { IfSome result HasWorkers }
+{
+    let id = Name::new(alloc, id).ok()?;
+    Some(Command::WithdrawId { id })
 }

@@ -128,12 +128,55 @@ const UNSOUND: &[&str] = &[
 
 /// Changes after which the table `meta` doesn't hold exactly one version that this program knows.
 const OTHER: &[&str] = &[
-    "UPDATE meta SET version = 3",
+    "UPDATE meta SET version = 4",
     "UPDATE meta SET version = 0",
     "INSERT INTO meta VALUES (2)",
     "DELETE FROM meta",
     "DROP TABLE meta; CREATE TABLE meta (version TEXT NOT NULL) STRICT; INSERT INTO meta VALUES ('2')",
     "DROP TABLE meta; CREATE TABLE meta (other INTEGER NOT NULL) STRICT; INSERT INTO meta VALUES (2)",
+];
+
+/// Leaves the store at version 2.
+const SECOND: &str = "UPDATE meta SET version = 2";
+
+/// Brings the store to version 3.
+const THIRD: &str = "
+CREATE TABLE most_rows (one INTEGER PRIMARY KEY, volunteers INTEGER NOT NULL) STRICT;
+CREATE TABLE tickets (round INTEGER PRIMARY KEY REFERENCES round (number), number INTEGER NOT NULL) STRICT;
+CREATE TABLE round_bound (category_place INTEGER NOT NULL, category TEXT NOT NULL, value_place INTEGER NOT NULL, value TEXT NOT NULL,
+    lower INTEGER NOT NULL, upper INTEGER NOT NULL, PRIMARY KEY (category_place, value_place)) STRICT;
+UPDATE meta SET version = 3;
+";
+
+/// Changes of the store of version 3 after which its rows are still those of tables.
+const THIRD_SOUND: &[&str] = &[
+    "DELETE FROM most_rows",
+    "INSERT INTO most_rows VALUES (1, 5)",
+    "INSERT INTO most_rows VALUES (1, 4000)",
+    "INSERT INTO most_rows VALUES (1, 401); UPDATE charter SET size = 1000",
+    "INSERT INTO tickets VALUES (1, 2)",
+    "INSERT INTO tickets VALUES (1, 1000000000); UPDATE round SET digits = '000000000' WHERE number = 1",
+    "INSERT INTO round_bound VALUES (0, 'gender', 0, 'female', 0, 2), (0, 'gender', 1, 'male', 0, 2)",
+];
+
+/// Changes of it after which the rows make no tables.
+const THIRD_UNSOUND: &[&str] = &[
+    "INSERT INTO most_rows VALUES (1, 4)",
+    "INSERT INTO most_rows VALUES (1, 0)",
+    "INSERT INTO most_rows VALUES (1, 4001)",
+    "INSERT INTO most_rows VALUES (1, -1)",
+    "INSERT INTO most_rows VALUES (2, 400)",
+    "INSERT INTO most_rows VALUES (1, 5), (2, 5)",
+    "INSERT INTO most_rows VALUES (1, 400); UPDATE charter SET size = 201",
+    "INSERT INTO most_rows VALUES (1, 401); UPDATE charter SET size = 1001",
+    "INSERT INTO tickets VALUES (1, 0)",
+    "INSERT INTO tickets VALUES (1, 1000000001)",
+    "INSERT INTO tickets VALUES (1, 1000)",
+    "INSERT INTO tickets VALUES (2, 2)",
+    "INSERT INTO round_bound VALUES (0, 'gender', 0, 'female', 2, 1)",
+    "INSERT INTO round_bound VALUES (0, 'gender', 1, 'female', 0, 1)",
+    "INSERT INTO round_bound VALUES (1, 'gender', 0, 'female', 0, 1)",
+    "INSERT INTO round_bound VALUES (0, 'key', 0, 'female', 0, 1)",
 ];
 
 /// Attaches a keeper and loads its tables. Returns how that ended.
@@ -147,10 +190,11 @@ fn outcome_of(alloc: Global, keeper: &mut SqliteOver<Stored>) -> Taken {
     }
 }
 
-/// True if, after the change by hand, a new keeper does with the store what `wanted` says, a call that fails counts a fault, and the rows
+/// True if, after both changes by hand, a new keeper does with the store what `wanted` says, a call that fails counts a fault, and the rows
 /// of the store stay the same.
-fn is_taken(alloc: Global, change: &str, wanted: Taken) -> Option<bool> {
+fn is_taken(alloc: Global, first: &str, change: &str, wanted: Taken) -> Option<bool> {
     let mut connection = store(alloc)?;
+    connection.execute_batch(first).ok()?;
     connection.execute_batch(change).ok()?;
     let before = rows_of(alloc, &mut connection)?;
     let mut keeper = SqliteOver::new(connection);
@@ -181,10 +225,14 @@ fn assembled<R: Threads + Sync>(rt: &R, alloc: Global) -> Option<String> {
     spelled(alloc, map.tables())
 }
 
-/// Makes each of these changes by itself, and asserts that a new keeper then does with the store what `wanted` says.
-fn judge(rt: &impl Abort, alloc: Global, changes: &[&str], wanted: Taken) {
+/// Makes each of these changes by itself, after the change `first`, and asserts that a new keeper then does with the store what `wanted`
+/// says.
+fn judge(rt: &impl Abort, alloc: Global, first: &str, changes: &[&str], wanted: Taken) {
     for change in changes {
-        assert!(rt; is_taken(alloc, change, wanted) == Some(true), "{change}");
+        assert!(rt;
+            is_taken(alloc, first, change, wanted) == Some(true),
+            "{change}"
+        );
     }
 }
 
@@ -199,9 +247,12 @@ fn loaded_after(alloc: Global, change: &str) -> Option<String> {
 #[test]
 fn changes_by_hand_are_judged(rt: HostRuntime) {
     let alloc = rt.alloc();
-    judge(&rt, alloc, SOUND, Taken::Loaded);
-    judge(&rt, alloc, UNSOUND, Taken::Unsound);
-    judge(&rt, alloc, OTHER, Taken::Refused);
+    judge(&rt, alloc, SECOND, SOUND, Taken::Loaded);
+    judge(&rt, alloc, SECOND, UNSOUND, Taken::Unsound);
+    judge(&rt, alloc, SECOND, OTHER, Taken::Refused);
+    judge(&rt, alloc, THIRD, SOUND, Taken::Loaded);
+    judge(&rt, alloc, THIRD, THIRD_SOUND, Taken::Loaded);
+    judge(&rt, alloc, THIRD, THIRD_UNSOUND, Taken::Unsound);
     let whole = loaded_after(alloc, "UPDATE meta SET version = 2");
     assert!(rt; whole.is_some() && whole == assembled(&rt, alloc));
     let raised = loaded_after(alloc, "DROP TABLE household; UPDATE meta SET version = 1");

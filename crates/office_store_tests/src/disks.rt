@@ -82,9 +82,12 @@ const ALL: &[&str] = &[
     "SELECT * FROM household ORDER BY place",
     "SELECT * FROM round ORDER BY number",
     "SELECT * FROM dropped ORDER BY round, place",
+    "SELECT * FROM most_rows ORDER BY one",
+    "SELECT * FROM tickets ORDER BY round",
+    "SELECT * FROM round_bound ORDER BY category_place, value_place",
 ];
 
-/// Returns the rows of all tables, as a text.
+/// Returns the rows of all tables, as a text. Of a table that isn't there, which version 2 hasn't, it has the error.
 pub(crate) fn rows_of(alloc: Global, connection: &mut Connection<Stored>) -> Option<String> {
     let mut all = String::new(alloc);
     for query in ALL {

@@ -1,8 +1,8 @@
 //! Tests in which the machine stops at a call on a file, tried for each call: while a new store is made, while a change of each kind is
-//! stored, and while a store of version 1 is brought to version 2. When the store is opened again, it must hold what it held before the
-//! step, or what it holds after it.
+//! stored, some of which bring the store to version 3, and while a store of version 1 is brought to version 2. When the store is opened
+//! again, it must hold what it held before the step, or what it holds after it.
 
-use crate::assembly::{Asked, HOUSEHOLDS, command_of, done};
+use crate::assembly::{Asked, FURTHER, HOUSEHOLDS, Row, command_of, done};
 use crate::disks::{
     Kept, Stored, bytes_of, changed, closed, files, loaded, nothing, opened, rows_of,
 };
@@ -146,16 +146,23 @@ fn change_of<R: Threads + Sync>(
     change
 }
 
-/// Stops each step of an assembly: making a new store, storing a change of each kind, and bringing a store of version 1 to version 2.
-fn stop_all<R: Threads + Sync + Abort>(rt: &R, alloc: Global) -> Option<()> {
+/// Stops each step of an assembly: making a new store, and storing the change of each row. Returns the store at the end.
+fn stop_rows<R: Threads + Sync + Abort>(rt: &R, alloc: Global, rows: &[Row]) -> Option<Kept> {
     let mut kept = stop(rt, alloc, &nothing(alloc), &None)?;
     let mut map = MapKeeper::new(alloc, &[]).ok()?;
-    for (asked, _) in HOUSEHOLDS {
+    for (asked, _) in rows {
         let change = change_of(rt, alloc, map.tables(), *asked);
         assert!(rt; change.is_some());
         kept = stop(rt, alloc, &kept, &change)?;
         let _ = done(rt, alloc, &mut map, *asked);
     }
+    Some(kept)
+}
+
+/// Stops each step of two assemblies, and bringing a store of version 1 to version 2.
+fn stop_all<R: Threads + Sync + Abort>(rt: &R, alloc: Global) -> Option<()> {
+    let _ = stop_rows(rt, alloc, FURTHER)?;
+    let kept = stop_rows(rt, alloc, HOUSEHOLDS)?;
     let first = changed(
         alloc,
         &kept,

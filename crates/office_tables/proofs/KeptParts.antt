@@ -1,53 +1,22 @@
--- Tests of lists, element by element: names that differ, ids that agree, rounds that have a dropout, members of a panel.
-use Rattle.std.proofs.Common.{◌≡◌, ◌<◌, ◌≤◌, ◌+◌, ◌-◌, ℕ, zero, suc, Bool, true, false, not, ◌&&◌, ◌||◌, List, [], ◌∷◌, length, get_or, map, drop, take, refl, sym, ap, ap₂, ◌∙◌, ltb, subst, arith}
+-- Tests of lists, element by element: ids that agree, rounds that have a dropout, members of a panel.
+use Rattle.std.proofs.Common.{◌≡◌, ◌<◌, ◌≤◌, ◌+◌, ◌-◌, ℕ, zero, suc, Bool, true, ◌&&◌, ◌||◌, List, [], ◌∷◌, length, get_or, map, drop, take, refl, sym, ap, ap₂, ◌∙◌, ltb, subst, arith}
 use Rattle.std.specs.List.{AllByRecursion, list_all, list_any, zip}
 use Rattle.std.specs.Str.{bytes_eq}
-use Rattle.std.proofs.Math.ListN.{drop_of_length-le}
-use Rattle.std.proofs.Math.Seq.{take-length}
 use Rattle.std.proofs.lemmas.Bool.{and_from, and_parts}
-use Rattle.std.proofs.lemmas.List.{get_or_default, length-drop, take-append-drop, take_all}
+use Rattle.std.proofs.lemmas.List.{get_or_default, take-append-drop, take_all}
 use Rattle.std.proofs.lemmas.List.Folds.{list_any-append, list_any_more}
 use Rattle.std.proofs.lemmas.Slice.Eq.{bytes_eq-Decides}
 use Rattle.define_pools.proofs.Each.{below_at}
 use Rattle.define_pools.specs.Building.{ids}
-use Rattle.define_pools.specs.Lists.{all_different, includes_list}
+use Rattle.define_pools.specs.Lists.{includes_list}
 use Rattle.define_pools.specs.Pool.{Pool, Volunteer, volunteer}
 use Rattle.define_offices.specs.Facts.{closed_but_last, entry_ids, has_drop}
-use Rattle.define_offices.specs.Lines.{member_ids}
+use Rattle.define_draws.specs.Lines.{member_ids}
 use Rattle.define_offices.specs.Tables.{Entry, Round}
 
 pub list_any-map : {X Y : Type 0} (p : Y → Bool) (f : X → Y) (xs : List X) → list_any p (map f xs) ≡ list_any (λ x. p (f x)) xs
 list_any-map p f [] = refl
 list_any-map p f (x ∷ xs) = ap (λ b. p (f x) || b) (list_any-map p f xs)
-
--- the names from place `i` on differ exactly if that of place `i` isn't among those after it, and those after it differ
-pub different_from : {X : Type 0} (f : X → List ℕ) (xs : List X) (i : ℕ) (x : X) → i < length xs → x ≡ get_or xs i x →
-    all_different (map f (drop i xs)) ≡ (not (includes_list (map f (drop (i + 1) xs)) (f x)) && all_different (map f (drop (i + 1) xs)))
-different_from f [] i x l e = absurd (omega arith)
-different_from f (y ∷ xs) zero x l e = ap (λ z. not (includes_list (map f xs) (f z)) && all_different (map f xs)) (sym e)
-different_from f (y ∷ xs) (suc i) x l e = let more : suc i + 1 ≡ suc (i + 1) = omega arith in rw more (different_from f xs i x (omega arith) e)
-
--- the slice of a list from place `n` to its end is the list without its first `n` elements
-behind : {X : Type 0} (xs : List X) (n : ℕ) → take (length xs - n) (drop n xs) ≡ drop n xs
-behind xs n = rw (← length-drop n xs) (take-length (drop n xs))
-
--- if no name before place `i` comes again, but the name at `i` does, the names don't all differ
-pub comes_twice : {X : Type 0} (f : X → List ℕ) (xs : List X) (i : ℕ) (x : X) (name : List ℕ) (among : Bool) → i < length xs → x ≡ get_or xs i x → name ≡ f x →
-    among ≡ includes_list (map f (take (length xs - (i + 1)) (drop (i + 1) xs))) name → among ≡ true → all_different (map f (drop i xs)) ≡ all_different (map f xs) →
-    false ≡ all_different (map f xs)
-comes_twice f xs i x name among l e same is found so_far =
-    let tells : includes_list (map f (drop (i + 1) xs)) (f x) ≡ true = ap₂ (λ ys n. includes_list (map f ys) n) (sym (behind xs (i + 1))) (sym same) ∙ (sym is ∙ found) in
-    sym (sym so_far ∙ (different_from f xs i x l e ∙ ap (λ b. not b && all_different (map f (drop (i + 1) xs))) tells))
-
-pub comes_once : {X : Type 0} (f : X → List ℕ) (xs : List X) (i : ℕ) (x : X) (name : List ℕ) (among : Bool) → i < length xs → x ≡ get_or xs i x → name ≡ f x →
-    among ≡ includes_list (map f (take (length xs - (i + 1)) (drop (i + 1) xs))) name → among ≡ false → all_different (map f (drop i xs)) ≡ all_different (map f xs) →
-    all_different (map f (drop (i + 1) xs)) ≡ all_different (map f xs)
-comes_once f xs i x name among l e same is missing so_far =
-    let tells : includes_list (map f (drop (i + 1) xs)) (f x) ≡ false = ap₂ (λ ys n. includes_list (map f ys) n) (sym (behind xs (i + 1))) (sym same) ∙ (sym is ∙ missing) in
-    sym (different_from f xs i x l e ∙ ap (λ b. not b && all_different (map f (drop (i + 1) xs))) tells) ∙ so_far
-
-pub none_twice : {X : Type 0} (f : X → List ℕ) (xs : List X) (i : ℕ) → length xs ≤ i → all_different (map f (drop i xs)) ≡ all_different (map f xs) → true ≡ all_different (map f xs)
-none_twice f xs i l so_far = ap (λ ys. all_different (map f ys)) (sym (drop_of_length-le xs l)) ∙ so_far
 
 pub closed_where_drops : (rounds : List Round) → 0 < length rounds → closed_but_last rounds ≡ list_all has_drop (take (length rounds - 1) rounds)
 closed_where_drops [] l = absurd (omega arith)

@@ -1,4 +1,7 @@
 mod ChangedPlaces
+mod Different
 mod DrawnPanels
 mod FactsOfTables
 mod KeptParts
+mod KeptRounds
+mod TakenRounds

@@ -3,12 +3,13 @@
 ghost use Rattle.std.specs.Prelude.{◌≡◌, ◌++◌, [], ◌∷◌, IfOk, OnOk};
 ghost use Rattle.define_offices.specs.Facts.{IsTables};
 ghost use Rattle.define_offices.specs.Steps.{apply as applied, withdrawn_at};
-ghost use Rattle.define_offices.specs.Tables.{Open, changed_named};
+ghost use Rattle.define_offices.specs.Tables.{Open, changed_named, taken_named};
 ghost use Rattle.office_tables.specs.Changes.{round_after, seen_change};
 ghost use Rattle.office_tables.specs.Seen.{seen_parts};
 
 use crate::charters::{Charter, Rules};
 use crate::kept_rounds::{Round, copied_rounds};
+use crate::numbers::Tickets;
 use crate::rows::{Entry, copied_entries};
 use crate::tables::{Parts, Tables, copied_charter, copied_rules};
 use bundle_text::Bundle;
@@ -35,6 +36,8 @@ pub enum Change {
     Sealed {
         /// The round's number.
         round: usize,
+        /// The round number of tickets that is kept with the seal, if one is.
+        tickets: Option<Tickets>,
     },
     /// A sealed round was drawn.
     Drawn {
@@ -57,6 +60,20 @@ pub enum Change {
         /// The place of the volunteer's row, counted from 0.
         place: usize,
     },
+    /// Sets other bounds for the last round.
+    Bounds(Rules),
+    /// A dropout is taken back.
+    TakenBack {
+        /// The round's number.
+        round: usize,
+        /// The member's id.
+        id: Name,
+    },
+    /// The last round is taken away while it is open.
+    Reopened {
+        /// The round's number.
+        round: usize,
+    },
 }
 
 /// Returns the tables after a change. The caller must show that `IsTables` holds of the changed tables. It does after each change that an
@@ -78,6 +95,7 @@ fn changed_parts(alloc: Global, tables: &Tables, change: &Change) -> Result<Part
         rules: rules_after(tables, change)?,
         register: register_after(alloc, tables, change)?,
         rounds: rounds_after(alloc, tables, change)?,
+        bounds: bounds_after(tables, change)?,
     })
 }
 
@@ -98,6 +116,17 @@ fn rules_after(tables: &Tables, change: &Change) -> Result<Option<Rules>, AllocE
     match change {
         Change::Rules(rules) => Ok(Some(rules.copy()?)),
         _ => copied_rules(tables.rules()),
+    }
+}
+
+/// Returns the bounds of the last round after a change.
+fn bounds_after(tables: &Tables, change: &Change) -> Result<Option<Rules>, AllocError>
+    ensures { IfOk result (λ bounds. bounds ≡ (applied tables.now (seen_change change.now)).bounds) }
+{
+    match change {
+        Change::Bounds(bounds) => Ok(Some(bounds.copy()?)),
+        Change::Next | Change::Reopened { .. } => Ok(None),
+        _ => copied_rules(tables.bounds()),
     }
 }
 
@@ -150,10 +179,12 @@ fn rounds_after(alloc: Global, tables: &Tables, change: &Change) -> Result<Vec<R
 {
     match change {
         Change::Solved { round, .. }
-        | Change::Sealed { round }
+        | Change::Sealed { round, .. }
         | Change::Drawn { round, .. }
-        | Change::Dropped { round, .. } => with_round(alloc, tables.rounds(), *round, change),
+        | Change::Dropped { round, .. }
+        | Change::TakenBack { round, .. } => with_round(alloc, tables.rounds(), *round, change),
         Change::Next => one_more(alloc, tables.rounds()),
+        Change::Reopened { round } => without_round(alloc, tables.rounds(), *round),
         _ => copied_rounds(alloc, tables.rounds()),
     }
 }
@@ -193,10 +224,25 @@ fn changed_round(round: &Round, change: &Change) -> Result<Round, AllocError>
 {
     match change {
         Change::Solved { bundle, .. } => round.copy_solved(bundle),
-        Change::Sealed { .. } => round.copy_sealed(),
+        Change::Sealed { tickets, .. } => round.copy_sealed(tickets),
         Change::Drawn { digits, .. } => round.copy_drawn(digits),
         Change::Dropped { id, .. } => round.copy_dropped(id),
+        Change::TakenBack { id, .. } => round.copy_taken_back(id),
         _ => round.copy(),
+    }
+}
+
+/// Returns the rounds without round `number`, counted from 1, if it is the last and open; else equal rounds.
+fn without_round(alloc: Global, rounds: &[Round], number: usize) -> Result<Vec<Round>, AllocError>
+    ensures { IfOk result (λ after. after.items ≡ taken_named rounds.now number) }
+{
+    if number == 0 || rounds.len() != number {
+        return copied_rounds(alloc, rounds);
+    }
+    let place = number - 1;
+    match rounds[place].bundle() {
+        None => copied_rounds(alloc, &rounds[..place]),
+        Some(_) => copied_rounds(alloc, rounds),
     }
 }
 

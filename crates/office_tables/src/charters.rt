@@ -2,23 +2,25 @@
 
 ghost use Rattle.std.specs.Prelude.{◌≡◌, nat_le, not, ◌&&◌, length, if◌then◌else◌, Some, None, IfOk, IsTrue};
 ghost use Rattle.std.specs.List.{list_all};
-ghost use Rattle.define_pools.specs.Pool.{is_size as is_panel_size};
-ghost use Rattle.define_pools.specs.declared.Limits.TheVariants.{Usual};
-ghost use Rattle.define_offices.specs.Facts.{AreRules, are_rules as make_rules, is_charter, is_reserved as is_taken};
+ghost use Rattle.define_pools.specs.Pool.{is_size as is_panel_size, limits_for};
+ghost use Rattle.define_offices.specs.Facts.{AreRules, are_rules as make_rules, is_charter, is_most as is_number_of_rows, is_reserved as is_taken};
 
 use crate::names::is_name;
-use pool_model::{Category, Name, Pool};
+use define_pools::Limits;
+use pool_model::{Category, Name, Pool, copied_categories};
 use std::alloc::{AllocError, Global};
 use std::marker::Model;
 
-/// The most members that a panel may have.
-const MAX_SIZE: usize = 200;
+/// The most rows that a register may take.
+const MAX_ROWS: usize = 4000;
 
-/// The title of an assembly, and the number of members of its panel, from 1 to 200. The title has the limits of a name.
+/// The title of an assembly, the number of members of its panel, from 1 to 200, and how many rows its register takes, from 1 to 4000. If
+/// these are more than 400, a panel may have up to 1000 members. The title has the limits of a name.
 #[derive(Debug, Drop)]
 pub struct Charter {
     title: Name,
     size: usize,
+    volunteers: usize,
 }
 
 impl Model for Charter {
@@ -28,18 +30,22 @@ impl Model for Charter {
 
     ghost Value = { Seen };
 
-    ghost view = { λ c. record { title = c.title; size = c.size } };
+    ghost view = { λ c. record { title = c.title; size = c.size; volunteers = c.volunteers } };
 
-    ghost invariant = { λ c. IsTrue (is_charter (record { title = c.title; size = c.size })) };
+    ghost invariant = { λ c. IsTrue (is_charter (record { title = c.title; size = c.size; volunteers = c.volunteers })) };
 }
 
 impl Charter {
-    /// Returns the charter of this title and size, or None exactly if one of them is out of its limits.
-    pub fn new(title: Name, size: usize) -> Option<Charter>
-        ensures { result ≡ (if is_charter (record { title = title; size = size }) then Some (record { title = title; size = size }) else None) }
+    /// Returns the charter of this title, size and number of rows, or None exactly if one of them is out of its limits.
+    pub fn new(title: Name, size: usize, volunteers: usize) -> Option<Charter>
+        ensures { result ≡ (if is_charter (record { title = title; size = size; volunteers = volunteers }) then Some (record { title = title; size = size; volunteers = volunteers }) else None) }
     {
-        if is_name(title.as_str()) && is_size(size) {
-            Some(Charter { title, size })
+        if is_name(title.as_str()) && is_most(volunteers) && is_size(volunteers, size) {
+            Some(Charter {
+                title,
+                size,
+                volunteers,
+            })
         } else {
             None
         }
@@ -52,11 +58,18 @@ impl Charter {
         &self.title
     }
 
-    /// Returns the number of members of a panel, from 1 to 200.
+    /// Returns the number of members of a panel.
     pub fn size(&self) -> usize
         ensures { result ≡ self.now.size }
     {
         self.size
+    }
+
+    /// Returns how many rows the register takes, from 1 to 4000.
+    pub fn volunteers(&self) -> usize
+        ensures { result ≡ self.now.volunteers }
+    {
+        self.volunteers
     }
 
     /// Does nothing; its contract says what holds of each charter.
@@ -73,15 +86,30 @@ impl Charter {
         Ok(Charter {
             title: self.title.copy()?,
             size: self.size,
+            volunteers: self.volunteers,
         })
     }
 }
 
-/// True if a panel may have `size` members: from 1 to 200.
-fn is_size(size: usize) -> bool
-    ensures { result ≡ is_panel_size Usual size }
+/// True if a panel may have `size` members, if the register takes this many rows.
+fn is_size(volunteers: usize, size: usize) -> bool
+    ensures { result ≡ is_panel_size (limits_for volunteers) size }
 {
-    1 <= size && size <= MAX_SIZE
+    is_within(Limits::of(volunteers), size)
+}
+
+/// True if a panel within these limits may have `size` members.
+fn is_within(limits: Limits, size: usize) -> bool
+    ensures { result ≡ is_panel_size limits size }
+{
+    1 <= size && size <= limits.members()
+}
+
+/// True if a register may take this many rows: from 1 to 4000.
+fn is_most(volunteers: usize) -> bool
+    ensures { result ≡ is_number_of_rows volunteers }
+{
+    1 <= volunteers && volunteers <= MAX_ROWS
 }
 
 /// The categories of an assembly with the bounds of their values. They have the limits of a pool's categories. There is at least one, each
@@ -163,18 +191,4 @@ fn is_reserved(name: &[u8]) -> bool
     ensures { result ≡ is_taken name.now }
 {
     name == b"id".as_slice() || name == b"key".as_slice()
-}
-
-/// Returns equal categories.
-pub fn copied_categories(
-    alloc: Global,
-    categories: &[Category],
-) -> Result<Vec<Category>, AllocError>
-    ensures { IfOk result (λ copies. copies.items ≡ categories.now) }
-{
-    let mut copies = Vec::new(alloc);
-    for category in categories {
-        copies.push(category.copy()?)?;
-    }
-    Ok(copies)
 }

@@ -8,14 +8,15 @@ ghost use Rattle.define_pools.specs.Lottery.{TotalAgrees};
 ghost use Rattle.define_pools.specs.Pool.{Category as SeenCategory};
 ghost use Rattle.define_offices.specs.Deciding.{fits_rules as row_fits};
 ghost use Rattle.define_offices.specs.Facts.{AreRules, IsTables, KeepsBundle, KeepsDraw, KeepsRound, closed_but_last as each_is_closed_but_last, entry_hashes, entry_ids, has_drop, is_charter, is_entry as keeps_limits, rows_fit as all_fit};
-ghost use Rattle.define_offices.specs.Lines.{member_ids};
-ghost use Rattle.define_offices.specs.Tables.{Charter as SeenCharter};
-ghost use Rattle.office_tables.specs.Seen.{seen_parts};
+ghost use Rattle.define_draws.specs.Lines.{member_ids};
+ghost use Rattle.define_offices.specs.Tables.{Charter as SeenCharter, most_rows as rows_at_most};
+ghost use Rattle.office_tables.specs.Seen.{register_test, seen_parts};
 
-use crate::charters::Rules;
+use crate::charters::{Charter, Rules};
 use crate::drawn::{drawn_by, is_member};
 use crate::kept_rounds::Round;
 use crate::names::{is_household, is_name};
+use crate::numbers::{Tickets, tickets_facts};
 use crate::rows::Entry;
 use crate::tables::Parts;
 use bundle_text::Bundle;
@@ -23,26 +24,30 @@ use define_offices::Phase;
 use pool_model::{Category, Name, Panel, Pool, Volunteer, are_named};
 use sealed_draw::total_agrees;
 use std::alloc::{AllocError, Global};
+use std::collections::BTreeSet;
 
-/// The most rows that a register has.
-const MAX_ROWS: usize = 400;
+/// The most rows that a register takes without a charter.
+const USUAL_ROWS: usize = 400;
 
 /// True if the facts of `IsTables` hold of the tables that have these parts.
 pub(crate) fn are_tables(alloc: Global, parts: &Parts) -> Result<bool, AllocError>
     ensures { IfOk result (λ are. IsTrue are ↔ IsTables (seen_parts parts.now)) }
 {
     charter_and_rules_keep(parts);
-    Ok(
-        is_register(&parts.register, &parts.rules)
-            && closed_but_last(&parts.rounds)
-            && rounds_keep(alloc, parts)?,
-    )
+    if !is_register(alloc, &parts.charter, &parts.register, &parts.rules)? {
+        return Ok(false);
+    }
+    if !closed_but_last(&parts.rounds) {
+        return Ok(false);
+    }
+    rounds_keep(alloc, parts)
 }
 
 /// Does nothing; its contract says that a charter and rules are always within their limits, so `are_tables` needn't test them.
 fn charter_and_rules_keep(parts: &Parts)
     ensures charter { (charter : SeenCharter) → parts.now.charter ≡ Some charter → IsTrue (is_charter charter) }
     ensures rules { (rules : List SeenCategory) → parts.now.rules ≡ Some rules → AreRules rules }
+    ensures bounds { (bounds : List SeenCategory) → parts.now.bounds ≡ Some bounds → AreRules bounds }
 {
     if let Some(charter) = &parts.charter {
         charter.facts();
@@ -50,19 +55,45 @@ fn charter_and_rules_keep(parts: &Parts)
     if let Some(rules) = &parts.rules {
         let _categories = rules.categories();
     }
+    if let Some(bounds) = &parts.bounds {
+        let _categories = bounds.categories();
+    }
 }
 
-/// True if there are at most 400 rows, their ids and households are names, each fits `rules`, and their ids and digests are all different.
-/// Compares each id and each digest with all those after it, which is fast enough at 400 rows.
-fn is_register(register: &[Entry], rules: &Option<Rules>) -> bool
-    ensures { result ≡ (nat_le (length register.now) 400 && list_all keeps_limits register.now && all_fit rules.now register.now
-        && all_different (entry_ids register.now) && all_different (entry_hashes register.now)) }
+/// True if there are at most as many rows as the charter says, their ids and households are names, each fits `rules`, and their ids and
+/// digests are all different.
+fn is_register(
+    alloc: Global,
+    charter: &Option<Charter>,
+    register: &[Entry],
+    rules: &Option<Rules>,
+) -> Result<bool, AllocError>
+    ensures { IfOk result (λ is. is ≡ register_test (rows_at_most charter.now) rules.now register.now) }
 {
-    register.len() <= MAX_ROWS
-        && are_entries(register)
-        && rows_fit(rules, register)
-        && ids_differ(register)
-        && hashes_differ(register)
+    if !are_rows(charter, register, rules) {
+        return Ok(false);
+    }
+    if !ids_differ(alloc, register)? {
+        return Ok(false);
+    }
+    hashes_differ(alloc, register)
+}
+
+/// True if there are at most as many rows as the charter says, their ids and households are names, and each fits `rules`.
+fn are_rows(charter: &Option<Charter>, register: &[Entry], rules: &Option<Rules>) -> bool
+    ensures { result ≡ (nat_le (length register.now) (rows_at_most charter.now) && list_all keeps_limits register.now && all_fit rules.now register.now) }
+{
+    register.len() <= most_rows(charter) && are_entries(register) && rows_fit(rules, register)
+}
+
+/// Returns how many rows the register takes.
+pub fn most_rows(charter: &Option<Charter>) -> usize
+    ensures { result ≡ rows_at_most charter.now }
+{
+    match charter {
+        Some(charter) => charter.volunteers(),
+        None => USUAL_ROWS,
+    }
 }
 
 /// True if the ids and households of all rows are names.
@@ -105,45 +136,33 @@ pub fn fits_rules(categories: &[Category], values: &[Name]) -> bool
 }
 
 /// True if no id comes twice.
-fn ids_differ(register: &[Entry]) -> bool
-    ensures { result ≡ all_different (entry_ids register.now) }
+fn ids_differ(alloc: Global, register: &[Entry]) -> Result<bool, AllocError>
+    ensures { IfOk result (λ differ. differ ≡ all_different (entry_ids register.now)) }
 {
-    for (i, entry) in register.iter().enumerate() {
-        if has_id(&register[i + 1..], entry.id()) {
-            return false;
+    let mut earlier: BTreeSet<&[u8]> = BTreeSet::new(alloc);
+    for entry in register {
+        let id = entry.id();
+        let is_new = earlier.insert(id.as_bytes())?;
+        if !is_new {
+            return Ok(false);
         }
     }
-    true
-}
-
-/// True if a row has this id.
-fn has_id(register: &[Entry], id: &Name) -> bool
-    ensures { result ≡ includes_list (entry_ids register.now) id.now }
-{
-    register
-        .iter()
-        .any(|entry| id.as_bytes() == entry.id().as_bytes())
+    Ok(true)
 }
 
 /// True if no digest of a key comes twice.
-fn hashes_differ(register: &[Entry]) -> bool
-    ensures { result ≡ all_different (entry_hashes register.now) }
+fn hashes_differ(alloc: Global, register: &[Entry]) -> Result<bool, AllocError>
+    ensures { IfOk result (λ differ. differ ≡ all_different (entry_hashes register.now)) }
 {
-    for (i, entry) in register.iter().enumerate() {
-        if has_hash(&register[i + 1..], entry.hash()) {
-            return false;
+    let mut earlier: BTreeSet<&[u8]> = BTreeSet::new(alloc);
+    for entry in register {
+        let hash = entry.hash();
+        let is_new = earlier.insert(hash.as_bytes())?;
+        if !is_new {
+            return Ok(false);
         }
     }
-    true
-}
-
-/// True if a row has this digest of a key.
-fn has_hash(register: &[Entry], hash: &Name) -> bool
-    ensures { result ≡ includes_list (entry_hashes register.now) hash.now }
-{
-    register
-        .iter()
-        .any(|entry| hash.as_bytes() == entry.hash().as_bytes())
+    Ok(true)
 }
 
 /// True if there is a round, and each but the last is drawn and has a dropout.
@@ -181,8 +200,12 @@ fn round_keeps(alloc: Global, parts: &Parts, round: &Round) -> Result<bool, Allo
             if !bundle_keeps(parts, bundle) {
                 return Ok(false);
             }
+            let tickets = round.tickets();
+            tickets_facts(tickets);
             match round.phase() {
-                Phase::Drawn => draw_keeps(alloc, bundle, round.digits(), round.dropped()),
+                Phase::Drawn => {
+                    draw_keeps(alloc, bundle, tickets, round.digits(), round.dropped())
+                }
                 _ => Ok(true),
             }
         }
@@ -216,17 +239,19 @@ fn ids_agree(volunteers: &[Volunteer], register: &[Entry]) -> bool
         == entry.id().as_bytes())
 }
 
-/// True if the digits name a ticket of the bundle, and those who dropped out are from the panel of that ticket.
+/// True if the digits name a ticket, and those who dropped out are from the panel of that ticket.
 fn draw_keeps(
     alloc: Global,
     bundle: &Bundle,
+    tickets: &Option<Tickets>,
     digits: &[u8],
     dropped: &[Name],
 ) -> Result<bool, AllocError>
     requires { TotalAgrees bundle.now.answer.lottery }
-    ensures { IfOk result (λ keeps. IsTrue keeps ↔ KeepsDraw bundle.now digits.now dropped.now) }
+    ensures { IfOk result (λ keeps. IsTrue keeps ↔ KeepsDraw bundle.now tickets.now digits.now dropped.now) }
 {
-    match drawn_by(alloc, bundle, digits)? {
+    tickets_facts(tickets);
+    match drawn_by(alloc, bundle, tickets, digits)? {
         Some(drawn) => Ok(are_members(bundle.pool(), &drawn.panel, dropped)),
         None => Ok(false),
     }

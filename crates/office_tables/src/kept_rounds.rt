@@ -1,24 +1,26 @@
 //! Rounds: how far each has come, and what it keeps.
 
-ghost use Rattle.std.specs.Prelude.{◌≡◌, ◌++◌, [], ◌∷◌, if◌then◌else◌, IfOk, Some, None};
+ghost use Rattle.std.specs.Prelude.{◌≡◌, ◌++◌, [], ◌∷◌, bytes_eq, if◌then◌else◌, not, IfOk, OnOk, Some, None};
 ghost use Rattle.define_offices.specs.Facts.{has_drop};
-ghost use Rattle.define_offices.specs.Steps.{drawn_by, dropped_out, seal_told, solved_with};
-ghost use Rattle.define_offices.specs.Tables.{Open, bundle_of, phase_of};
+ghost use Rattle.define_offices.specs.Steps.{drawn_by, dropped_out, seal_told, solved_with, taken_back, without_id};
+ghost use Rattle.define_offices.specs.Tables.{Open, bundle_of, phase_of, tickets_of};
 ghost use Rattle.office_tables.specs.Parts.{digits_of, dropped_of, parts_fit, round_of};
 
 use crate::names::copied_names;
+use crate::numbers::{Tickets, copied_tickets};
 use bundle_text::Bundle;
 use define_offices::Phase;
 use pool_model::Name;
 use std::alloc::{AllocError, Global};
 use std::marker::Model;
 
-/// A round. An open round has nothing; from `Solved` on it has a bundle; a drawn round also has the digits of the dice, and the ids of
-/// those who dropped out since.
+/// A round. An open round has nothing; from `Solved` on it has a bundle; from `Sealed` on maybe the round number of tickets that was kept
+/// with the seal; a drawn round also has the digits of the dice, and the ids of those who dropped out since.
 #[derive(Debug, Drop)]
 pub struct Round {
     phase: Phase,
     bundle: Option<Bundle>,
+    tickets: Option<Tickets>,
     digits: Vec<u8>,
     dropped: Vec<Name>,
 }
@@ -30,9 +32,9 @@ impl Model for Round {
 
     ghost Value = { Seen };
 
-    ghost view = { λ r. round_of r.phase r.bundle r.digits.items r.dropped.items };
+    ghost view = { λ r. round_of r.phase r.bundle r.tickets r.digits.items r.dropped.items };
 
-    ghost invariant = { λ r. IsTrue (parts_fit r.phase r.bundle r.digits.items r.dropped.items) };
+    ghost invariant = { λ r. IsTrue (parts_fit r.phase r.bundle r.tickets r.digits.items r.dropped.items) };
 }
 
 impl Round {
@@ -43,27 +45,30 @@ impl Round {
         Round {
             phase: Phase::Open,
             bundle: None,
+            tickets: None,
             digits: Vec::new(alloc),
             dropped: Vec::new(alloc),
         }
     }
 
-    /// Returns the round of these parts, or None exactly if they don't fit: it has a bundle exactly if it is past `Open`, and digits
-    /// and dropouts only if it is drawn.
+    /// Returns the round of these parts, or None exactly if they don't fit: it has a bundle exactly if it is past `Open`, a
+    /// number of tickets only from `Sealed` on, and digits and dropouts only if it is drawn.
     pub fn from_parts(
         phase: Phase,
         bundle: Option<Bundle>,
+        tickets: Option<Tickets>,
         digits: Vec<u8>,
         dropped: Vec<Name>,
     ) -> Option<Round>
-        ensures { result ≡ (if parts_fit phase bundle digits.items dropped.items then Some (round_of phase bundle digits.items dropped.items) else None) }
+        ensures { result ≡ (if parts_fit phase bundle tickets digits.items dropped.items then Some (round_of phase bundle tickets digits.items dropped.items) else None) }
     {
-        if !fit(phase, &bundle, &digits, &dropped) {
+        if !fit(phase, &bundle, &tickets, &digits, &dropped) {
             return None;
         }
         Some(Round {
             phase,
             bundle,
+            tickets,
             digits,
             dropped,
         })
@@ -81,6 +86,13 @@ impl Round {
         ensures { result.now ≡ bundle_of self.now }
     {
         &self.bundle
+    }
+
+    /// Returns the round number of tickets that was kept with the seal, if there is one.
+    pub fn tickets(&self) -> &Option<Tickets>
+        ensures { result.now ≡ tickets_of self.now }
+    {
+        &self.tickets
     }
 
     /// Returns the digits of the dice, or no digits if the round is not drawn yet.
@@ -115,6 +127,7 @@ impl Round {
         Ok(Round {
             phase: self.phase,
             bundle: copied_bundle(&self.bundle)?,
+            tickets: copied_tickets(&self.tickets),
             digits: Vec::from_slice(alloc, &self.digits)?,
             dropped: copied_names(alloc, &self.dropped)?,
         })
@@ -130,6 +143,7 @@ impl Round {
                 Ok(Round {
                     phase: Phase::Solved,
                     bundle: Some(bundle.copy()?),
+                    tickets: None,
                     digits: Vec::new(alloc),
                     dropped: Vec::new(alloc),
                 })
@@ -138,9 +152,9 @@ impl Round {
         }
     }
 
-    /// Returns the round as sealed if it is solved, else an equal one.
-    pub(crate) fn copy_sealed(&self) -> Result<Round, AllocError>
-        ensures { IfOk result (λ copied. copied ≡ seal_told self.now) }
+    /// Returns the round as sealed with this number of tickets if it is solved, else an equal one.
+    pub(crate) fn copy_sealed(&self, tickets: &Option<Tickets>) -> Result<Round, AllocError>
+        ensures { IfOk result (λ copied. copied ≡ seal_told tickets.now self.now) }
     {
         match self.phase {
             Phase::Solved => {
@@ -148,6 +162,7 @@ impl Round {
                 Ok(Round {
                     phase: Phase::Sealed,
                     bundle: copied_bundle(&self.bundle)?,
+                    tickets: copied_tickets(tickets),
                     digits: Vec::new(alloc),
                     dropped: Vec::new(alloc),
                 })
@@ -166,6 +181,7 @@ impl Round {
                 Ok(Round {
                     phase: Phase::Drawn,
                     bundle: copied_bundle(&self.bundle)?,
+                    tickets: copied_tickets(&self.tickets),
                     digits: Vec::from_slice(alloc, digits)?,
                     dropped: Vec::new(alloc),
                 })
@@ -184,6 +200,7 @@ impl Round {
                 Ok(Round {
                     phase: Phase::Drawn,
                     bundle: copied_bundle(&self.bundle)?,
+                    tickets: copied_tickets(&self.tickets),
                     digits: Vec::from_slice(alloc, &self.digits)?,
                     dropped: with_one_more(alloc, &self.dropped, id)?,
                 })
@@ -191,15 +208,68 @@ impl Round {
             _ => self.copy(),
         }
     }
+
+    /// Returns the round without the dropout of `id` if it was drawn, else an equal one.
+    pub(crate) fn copy_taken_back(&self, id: &Name) -> Result<Round, AllocError>
+        ensures { IfOk result (λ copied. copied ≡ taken_back id.now self.now) }
+    {
+        match self.phase {
+            Phase::Drawn => {
+                let alloc = *self.digits.allocator();
+                Ok(Round {
+                    phase: Phase::Drawn,
+                    bundle: copied_bundle(&self.bundle)?,
+                    tickets: copied_tickets(&self.tickets),
+                    digits: Vec::from_slice(alloc, &self.digits)?,
+                    dropped: without(alloc, &self.dropped, id)?,
+                })
+            }
+            _ => self.copy(),
+        }
+    }
+}
+
+/// Returns the names other than `id`.
+fn without(alloc: Global, names: &[Name], id: &Name) -> Result<Vec<Name>, AllocError>
+    ensures { IfOk result (λ others. others.items ≡ without_id id.now names.now) }
+{
+    let mut others = Vec::new(alloc);
+    for name in names {
+        push_other(&mut others, name, id)?;
+    }
+    Ok(others)
+}
+
+/// Appends a name, unless it is `id`.
+fn push_other(others: &mut Vec<Name>, name: &Name, id: &Name) -> Result<(), AllocError>
+    ensures { OnOk result (others.new.items ≡ others.old.items ++ (if not (bytes_eq id.now name.now) then name.now ∷ [] else [])) }
+{
+    if id.as_bytes() == name.as_bytes() {
+        return Ok(());
+    }
+    others.push(name.copy()?)?;
+    Ok(())
 }
 
 /// True if the parts fit: see `Round::from_parts`.
-fn fit(phase: Phase, bundle: &Option<Bundle>, digits: &[u8], dropped: &[Name]) -> bool
-    ensures { result ≡ parts_fit phase bundle.now digits.now dropped.now }
+fn fit(
+    phase: Phase,
+    bundle: &Option<Bundle>,
+    tickets: &Option<Tickets>,
+    digits: &[u8],
+    dropped: &[Name],
+) -> bool
+    ensures { result ≡ parts_fit phase bundle.now tickets.now digits.now dropped.now }
 {
     match phase {
-        Phase::Open => bundle.is_none() && digits.is_empty() && dropped.is_empty(),
-        Phase::Solved => bundle.is_some() && digits.is_empty() && dropped.is_empty(),
+        Phase::Open => bundle.is_none()
+            && tickets.is_none()
+            && digits.is_empty()
+            && dropped.is_empty(),
+        Phase::Solved => bundle.is_some()
+            && tickets.is_none()
+            && digits.is_empty()
+            && dropped.is_empty(),
         Phase::Sealed => bundle.is_some() && digits.is_empty() && dropped.is_empty(),
         Phase::Drawn => bundle.is_some(),
     }

@@ -2,10 +2,10 @@
 
 ghost use Rattle.std.specs.Prelude.{◌≡◌, nat_le, ◌&&◌, IfOk};
 ghost use Rattle.std.specs.List.{list_all};
-ghost use Rattle.define_pools.specs.Pool.{is_name as is_allowed, is_household as is_allowed_household, keeps_name_limits};
+ghost use Rattle.define_pools.specs.Pool.{is_name as is_allowed, is_household as is_allowed_household};
 ghost use Rattle.define_offices.specs.Facts.{is_key as is_allowed_key};
 
-use pool_model::{Name, household_kind};
+use pool_model::{Name, keeps_name_limits};
 use std::alloc::{AllocError, Global};
 
 /// The most bytes that a key may have.
@@ -15,16 +15,7 @@ const MAX_KEY_LEN: usize = 200;
 pub(crate) fn is_name(name: &str) -> bool
     ensures { result ≡ is_allowed name.now }
 {
-    keeps_limits(name.as_bytes())
-}
-
-fn keeps_limits(name: &[u8]) -> bool
-    ensures { result ≡ keeps_name_limits name.now }
-{
-    match household_kind(name) {
-        Some(_) => false,
-        None => true,
-    }
+    keeps_name_limits(name.as_bytes())
 }
 
 /// True if there is no household, or its name is allowed.

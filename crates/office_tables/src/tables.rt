@@ -24,6 +24,8 @@ pub struct Parts {
     pub register: Vec<Entry>,
     /// The rounds, numbered from 1.
     pub rounds: Vec<Round>,
+    /// The categories with the bounds that were set for the last round, if some were.
+    pub bounds: Option<Rules>,
 }
 
 /// The tables of an office. `IsTables` holds of them at every moment; `tables_of` lists its facts. Tables never change, so equal ones share
@@ -58,6 +60,7 @@ impl Tables {
             rules: None,
             register: Vec::new(alloc),
             rounds,
+            bounds: None,
         };
         Tables::from_parts(alloc, parts)
     }
@@ -107,6 +110,13 @@ impl Tables {
         &self.parts.rounds
     }
 
+    /// Returns the categories with the bounds that were set for the last round, if some were.
+    pub fn bounds(&self) -> &Option<Rules>
+        ensures { result.now ≡ self.now.bounds }
+    {
+        &self.parts.bounds
+    }
+
     /// Returns equal tables, which share the parts.
     pub fn copy(&self) -> Result<Tables, AllocError>
         ensures { IfOk result (λ copied. copied ≡ self.now) }
@@ -139,8 +149,8 @@ pub(crate) fn copied_rules(rules: &Option<Rules>) -> Result<Option<Rules>, Alloc
 
 /// Returns the tables of these parts, or None exactly if one of these facts doesn't hold of them:
 ///
-/// - At most 400 rows, whose ids and households are names. Ids are different, and so are the digests of keys. If there are rows, there are
-///   rules, and each row has the name of one value of each category.
+/// - At most as many rows as the charter says, or 400 without a charter, whose ids and households are names. Ids are different, and so are
+///   the digests of keys. If there are rows, there are rules, and each row has the name of one value of each category.
 /// - At least one round; each but the last is drawn and has a dropout.
 /// - If a round is past `Open`, there are charter and rules; the weights of its bundle sum to the total, and the ids of the bundle's pool
 ///   are those of the register, in order.

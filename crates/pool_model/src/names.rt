@@ -13,7 +13,8 @@ use std::alloc::{AllocError, Global};
 /// The most bytes that a name or id may have.
 const MAX_NAME_LEN: usize = 200;
 
-pub(crate) fn keeps_name_limits(name: &[u8]) -> bool
+/// True for 1 to 200 bytes, none of which is below 32 or is 127.
+pub fn keeps_name_limits(name: &[u8]) -> bool
     ensures { result ≡ is_within_limits name.now }
 {
     1 <= name.len() && name.len() <= MAX_NAME_LEN && has_right_bytes(name)

@@ -22,7 +22,8 @@ const MAX_CATEGORIES: usize = 20;
 
 const MAX_VALUES: usize = 50;
 
-const MAX_BOUND: usize = 999;
+/// The greatest bound.
+pub const MAX_BOUND: usize = 999;
 
 /// A pool: the size of its panels, its categories and its volunteers, who are numbered from 0. It is always within these limits. The size
 /// is from 1 to 1,000. There are at most 20 categories, 50 values a category and 4,000 volunteers. A lower bound is at most its upper bound,
@@ -398,7 +399,11 @@ fn set_household_of(volunteers: &mut Vec<Volunteer>, number: usize, name: Name)
     volunteer.set_household(name);
 }
 
-fn copied_categories(alloc: Global, categories: &[Category]) -> Result<Vec<Category>, AllocError>
+/// Returns equal categories.
+pub fn copied_categories(
+    alloc: Global,
+    categories: &[Category],
+) -> Result<Vec<Category>, AllocError>
     ensures { IfOk result (λ copies. copies.items ≡ categories.now) }
 {
     let mut copies = Vec::new(alloc);
@@ -408,7 +413,11 @@ fn copied_categories(alloc: Global, categories: &[Category]) -> Result<Vec<Categ
     Ok(copies)
 }
 
-fn copied_volunteers(alloc: Global, volunteers: &[Volunteer]) -> Result<Vec<Volunteer>, AllocError>
+/// Returns equal volunteers.
+pub fn copied_volunteers(
+    alloc: Global,
+    volunteers: &[Volunteer],
+) -> Result<Vec<Volunteer>, AllocError>
     ensures { IfOk result (λ copies. copies.items ≡ volunteers.now) }
 {
     let mut copies = Vec::new(alloc);

@@ -10,13 +10,10 @@ ghost use Rattle.pool_text.specs.Progress.{with_pool};
 
 use crate::versions::{limits_in, may_house, must_house, must_pass};
 use define_bundles::Passed;
-use pool_model::{BuildStop, Pool, Standing, Volunteer, household_kind};
+use pool_model::{BuildStop, MAX_BOUND, Pool, Standing, Volunteer, household_kind};
 use std::alloc::{AllocError, Global};
 use std::str;
 use text_lines::{fields, number_up_to};
-
-/// The greatest bound.
-const MAX_BOUND: usize = 999;
 
 /// What a field that spells no bound is read as.
 const NO_BOUND: usize = 1000;

@@ -79,21 +79,8 @@ pub(crate) fn class_mix(
 {
     let free = FreeClasses::new(alloc, classes, chances)?;
     let own = class_rows(alloc, &free, rows)?;
-    let search = search_of(alloc, &free, &own)?;
-    let columns = known_columns(alloc, &free, &own, known)?;
-    let point = free.point()?;
-    let mut mix = ClassMix {
-        alloc,
-        free,
-        search,
-        columns,
-        master: Master::new(alloc, &point)?,
-    };
-    match mix.generate(budget)? {
-        Place::Inside => mix.whole(budget),
-        Place::Outside => Ok(Mixed::Outside),
-        Place::Doubt => Ok(Mixed::Doubt),
-    }
+    let mut mix = ClassMix::new(alloc, free, &own, known)?;
+    mix.find(budget)
 }
 
 /// Returns the known compositions that are on the face of the point.
@@ -114,7 +101,43 @@ fn known_columns(
     Ok(columns)
 }
 
-impl ClassMix<'_> {
+/// Returns the program of the point of these classes.
+fn master_of(alloc: Global, free: &FreeClasses<'_>) -> Result<Master, AllocError> {
+    let point = free.point()?;
+    Master::new(alloc, &point)
+}
+
+impl<'a> ClassMix<'a> {
+    /// Returns the state before the first search.
+    fn new(
+        alloc: Global,
+        free: FreeClasses<'a>,
+        rows: &[ClassRow],
+        known: &[Vec<i64>],
+    ) -> Result<ClassMix<'a>, ProveStop> {
+        let search = search_of(alloc, &free, rows)?;
+        let columns = known_columns(alloc, &free, rows, known)?;
+        let master = master_of(alloc, &free)?;
+        Ok(ClassMix {
+            alloc,
+            free,
+            search,
+            columns,
+            master,
+        })
+    }
+
+    /// Looks for panels that make up the point.
+    fn find(&mut self, budget: &mut Budget) -> Result<Mixed, ProveStop>
+        ensures { SpendsOn budget.old budget.new }
+    {
+        match self.generate(budget)? {
+            Place::Inside => self.whole(budget),
+            Place::Outside => Ok(Mixed::Outside),
+            Place::Doubt => Ok(Mixed::Doubt),
+        }
+    }
+
     /// Searches for compositions until the known ones make up the point, or none is left that could help.
     fn generate(&mut self, budget: &mut Budget) -> Result<Place, ProveStop>
         ensures { SpendsOn budget.old budget.new }

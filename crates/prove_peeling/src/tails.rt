@@ -70,23 +70,37 @@ pub(crate) fn tail_of(
     let face = Face::of(alloc, remainder, rows)?;
     let mut mix = PanelMix::new(alloc, remainder, &face, limits.width)?;
     let numbers = panels_of(alloc, seen, rows, &face)?;
-    for number in &numbers {
-        mix.join(alloc, seen, *number, remainder.total)?;
-    }
+    mix.join_all(alloc, seen, &numbers, remainder.total)?;
+    tail_by(
+        alloc, table, seen, remainder, limits, &face, &mut mix, budget,
+    )
+}
+
+/// Looks for weights of the mix's panels that make up a remainder. While there are none, searches for a further panel of the face.
+fn tail_by(
+    alloc: Global,
+    table: &mut Table,
+    seen: &mut SeenPanels,
+    remainder: &Remainder,
+    limits: &TailLimits,
+    face: &Face,
+    mix: &mut PanelMix,
+    budget: &mut Budget,
+) -> Result<Tail, ProveStop>
+    requires parts { length remainder.now.parts.items ≡ table.old.columns }
+    requires columns { length face.now.columns.items ≡ table.old.columns }
+    requires rows { length face.now.rows.items ≡ table.old.rows }
+    requires mix { IsPanelMix mix.old }
+    ensures sizes { OnOk result (SameSizes table.old table.new) }
+    ensures spends { SpendsOn budget.old budget.new }
+{
     'steps: for _ in 0..limits.steps {
         if mix.has_point(budget)? {
             return mix.weights(alloc);
         }
         let (wishes, need) = mix.wanted(alloc, remainder)?;
-        let found = beat(alloc, table, &face, &wishes, need, limits.nodes, budget)?;
-        match found {
-            Found::Point(point) => {
-                let number = seen.see(&point)?;
-                if mix.panels.contains(&number) {
-                    return Err(ProveStop::Lost);
-                }
-                mix.join(alloc, seen, number, remainder.total)?;
-            }
+        match beat(alloc, table, face, &wishes, need, limits.nodes, budget)? {
+            Found::Point(point) => mix.join_further(alloc, seen, &point, remainder.total)?,
             Found::Nothing => return Ok(Tail::Outside),
             Found::Doubt => return Ok(Tail::Doubt),
         }
@@ -209,6 +223,41 @@ impl PanelMix {
         self.columns.push(Span::reaching(Narrow::ZERO, total))?;
         self.panels.push(number)?;
         Ok(())
+    }
+
+    /// Adds a column for each of the seen panels of these numbers.
+    fn join_all(
+        &mut self,
+        alloc: Global,
+        seen: &SeenPanels,
+        numbers: &[usize],
+        total: Narrow,
+    ) -> Result<(), ProveStop>
+        requires { IsPanelMix self.old }
+        ensures { OnOk result (IsPanelMix self.new) }
+    {
+        for number in numbers {
+            self.join(alloc, seen, *number, total)?;
+        }
+        Ok(())
+    }
+
+    /// Adds a column for a panel that a search found. Stops if the tail has one for it.
+    fn join_further(
+        &mut self,
+        alloc: Global,
+        seen: &mut SeenPanels,
+        point: &[Narrow],
+        total: Narrow,
+    ) -> Result<(), ProveStop>
+        requires { IsPanelMix self.old }
+        ensures { OnOk result (IsPanelMix self.new) }
+    {
+        let number = seen.see(point)?;
+        if self.panels.contains(&number) {
+            return Err(ProveStop::Lost);
+        }
+        self.join(alloc, seen, number, total)
     }
 
     /// True if some weights of the panels make up the remainder.

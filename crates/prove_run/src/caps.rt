@@ -314,13 +314,34 @@ impl<'a> CapSearch<'a> {
         ensures { SpendsOn budget.old budget.new }
     {
         let mut few = CapSearch::new(self.alloc, self.program, self.quotas)?;
+        if self.lend_needed(&mut few, earlier, weights, cap, budget)? {
+            few.steps(earlier, weights, cap, budget)
+        } else {
+            Ok(None)
+        }
+    }
+
+    /// Adds the rows of earlier stages to `few` until no panel is above a cap there. False if a panel that weighs exactly all earlier caps
+    /// is above it.
+    fn lend_needed(
+        &self,
+        few: &mut CapSearch<'_>,
+        earlier: usize,
+        weights: &[Narrow],
+        cap: Narrow,
+        budget: &mut Budget,
+    ) -> Result<bool, ProveStop>
+        requires { IsCapSearch few.old }
+        ensures few { OnOk result (IsCapSearch few.new) }
+        ensures spends { SpendsOn budget.old budget.new }
+    {
         'stages: for _ in 0..=earlier {
             match few.panel_above(weights, cap, budget)? {
                 Found::Point(panel) => match self.stage_missed(earlier, &panel)? {
-                    Some(stage) => self.lend(stage, &mut few)?,
-                    None => return Ok(None),
+                    Some(stage) => self.lend(stage, few)?,
+                    None => return Ok(false),
                 },
-                Found::Nothing => return few.steps(earlier, weights, cap, budget),
+                Found::Nothing => return Ok(true),
                 Found::Doubt => return Err(ProveStop::Lost),
             }
         }

@@ -11,6 +11,7 @@ use proof_text::{Leaf, Multiplier, TreeLine, TreeLines};
 use prove_branching::{Refutation, Step};
 use prove_limits::{Budget, Narrow, ProveStop, narrow_add};
 use prove_peeling::weights_of;
+use prove_program::Program;
 use prove_stages::ClassStage;
 use std::alloc::{AllocError, Global};
 
@@ -26,24 +27,52 @@ pub(crate) fn stage_trees(
     ensures { SpendsOn budget.old budget.new }
 {
     let mut search = CapSearch::new(alloc, &programs.by_volunteer, quotas)?;
+    trees_by(alloc, &programs.by_class, &mut search, stages, budget)
+}
+
+/// Returns a tree for each stage, by `search` where the stage has no refutation.
+fn trees_by(
+    alloc: Global,
+    classes: &Program,
+    search: &mut CapSearch<'_>,
+    stages: Vec<ClassStage>,
+    budget: &mut Budget,
+) -> Result<Vec<TreeLines>, ProveStop>
+    requires { IsCapSearch search.old }
+    ensures { SpendsOn budget.old budget.new }
+{
     let mut trees = Vec::new(alloc);
     for stage in stages {
-        let ClassStage {
-            weights,
-            cap,
-            shown_by,
-        } = stage;
-        let tree = match shown_by {
-            Some(refutation) => tree_of_refutation(alloc, refutation)?,
-            None => {
-                let weights = weights_of(alloc, &programs.by_class, &weights)?;
-                let steps = search.tree(&weights, cap, budget)?.ok_or(ProveStop::Lost)?;
-                tree_of_steps(alloc, steps)?
-            }
-        };
-        trees.push(tree)?;
+        trees.push(stage_tree(alloc, classes, search, stage, budget)?)?;
     }
     Ok(trees)
+}
+
+/// Returns the tree of the next stage.
+fn stage_tree(
+    alloc: Global,
+    classes: &Program,
+    search: &mut CapSearch<'_>,
+    stage: ClassStage,
+    budget: &mut Budget,
+) -> Result<TreeLines, ProveStop>
+    requires { IsCapSearch search.old }
+    ensures search { OnOk result (IsCapSearch search.new) }
+    ensures spends { SpendsOn budget.old budget.new }
+{
+    let ClassStage {
+        weights,
+        cap,
+        shown_by,
+    } = stage;
+    match shown_by {
+        Some(refutation) => Ok(tree_of_refutation(alloc, refutation)?),
+        None => {
+            let weights = weights_of(alloc, classes, &weights)?;
+            let steps = search.tree(&weights, cap, budget)?;
+            Ok(tree_of_steps(alloc, steps.ok_or(ProveStop::Lost)?)?)
+        }
+    }
 }
 
 /// Returns a tree of one leaf, with the multipliers of a refutation.
@@ -96,11 +125,23 @@ pub(crate) fn searched_trees(
     requires { IsCapSearch search }
     ensures { SpendsOn trees.old trees.new }
 {
+    trees_if_all(alloc, &mut search, stages, by, trees)
+}
+
+/// Returns a tree for each stage by a search, or None if some panel is above the cap of a stage.
+fn trees_if_all(
+    alloc: Global,
+    search: &mut CapSearch<'_>,
+    stages: &[Stage],
+    by: TreesBy,
+    trees: &mut Budget,
+) -> Result<Option<Vec<TreeLines>>, ProveStop>
+    requires { IsCapSearch search.old }
+    ensures { SpendsOn trees.old trees.new }
+{
     let mut found = Vec::new(alloc);
     for stage in stages {
-        let weights = narrow_weights(alloc, stage)?;
-        let cap = narrow_add(stage.cap(), 0)?;
-        match searched_tree(&mut search, &weights, cap, by, trees)? {
+        match searched_tree(alloc, search, stage, by, trees)? {
             Some(steps) => found.push(tree_of_steps(alloc, steps)?)?,
             None => return Ok(None),
         }
@@ -110,9 +151,9 @@ pub(crate) fn searched_trees(
 
 /// Returns the steps that show the cap of the next stage, or None if a panel is above it.
 fn searched_tree(
+    alloc: Global,
     search: &mut CapSearch<'_>,
-    weights: &[Narrow],
-    cap: Narrow,
+    stage: &Stage,
     by: TreesBy,
     trees: &mut Budget,
 ) -> Result<Option<Vec<Step>>, ProveStop>
@@ -120,9 +161,11 @@ fn searched_tree(
     ensures search { OnOk result (IsCapSearch search.new) }
     ensures spends { SpendsOn trees.old trees.new }
 {
+    let weights = narrow_weights(alloc, stage)?;
+    let cap = narrow_add(stage.cap(), 0)?;
     match by {
-        TreesBy::Tables => search.tree_or_splits(weights, cap, trees),
-        TreesBy::Splits => search.next_split_tree(weights, cap, trees),
+        TreesBy::Tables => search.tree_or_splits(&weights, cap, trees),
+        TreesBy::Splits => search.next_split_tree(&weights, cap, trees),
     }
 }
 

@@ -3,6 +3,7 @@
 //! chances. Promise: nothing of the budget is given back.
 
 ghost use Rattle.std.specs.Prelude.{◌≡◌, ◌<◌, IfOk, OnOk, length};
+ghost use Rattle.prove_table.specs.Sizes.{Spends};
 ghost use Rattle.prove_stages.specs.Shapes.{IsFinder, IsCompositionMix};
 ghost use Rattle.prove_limits.specs.Budgets.{SpendsOn};
 
@@ -58,11 +59,41 @@ pub fn column_stages(
     ensures { SpendsOn budget.old budget.new }
 {
     let mut finder = Finder::new(alloc, program)?;
-    let Some(first) = finder.any(budget)? else {
-        return Ok(Columned::Empty);
-    };
+    match finder.any(budget)? {
+        Some(first) => stages_from(alloc, program, first, &mut finder, budget),
+        None => Ok(Columned::Empty),
+    }
+}
+
+/// Finds the stages of a pool from a first composition on.
+fn stages_from(
+    alloc: Global,
+    program: &Program,
+    first: Vec<Narrow>,
+    finder: &mut Finder<'_>,
+    budget: &mut Budget,
+) -> Result<Columned, ProveStop>
+    requires first { length first.items ≡ length program.now.firsts }
+    requires finder { IsFinder (length program.now.firsts) finder.old }
+    ensures { SpendsOn budget.old budget.new }
+{
     let mut mix = CompositionMix::new(alloc, program.columns())?;
     mix.join(first)?;
+    all_stages(alloc, program, &mut mix, finder, budget)
+}
+
+/// Finds the stages of a pool, one after the other, by the mix and the searches.
+fn all_stages(
+    alloc: Global,
+    program: &Program,
+    mix: &mut CompositionMix,
+    finder: &mut Finder<'_>,
+    budget: &mut Budget,
+) -> Result<Columned, ProveStop>
+    requires mix { IsCompositionMix (length program.now.firsts) mix.old }
+    requires finder { IsFinder (length program.now.firsts) finder.old }
+    ensures { SpendsOn budget.old budget.new }
+{
     let mut chances = Chances::unsettled(alloc, program.columns())?;
     let mut stages = Vec::new(alloc);
     // each stage settles some column
@@ -70,13 +101,31 @@ pub fn column_stages(
         if chances.are_settled() {
             return Ok(Columned::Settled(stages, chances));
         }
-        let (stage, chance) = stage(alloc, program, &chances, &mut mix, &mut finder, budget)?;
-        settle(&mut chances, &stage.weights, chance)?;
-        mix.close(&stage.weights, stage.cap)?;
-        finder.close(&stage.weights, stage.cap)?;
-        stages.push(stage)?;
+        stages.push(closed_stage(alloc, program, &mut chances, mix, finder, budget)?)?;
     }
     Err(ProveStop::Lost)
+}
+
+/// Finds the next stage, and closes it: settles its columns, and keeps the mix and the searches at its cap.
+fn closed_stage(
+    alloc: Global,
+    program: &Program,
+    chances: &mut Chances,
+    mix: &mut CompositionMix,
+    finder: &mut Finder<'_>,
+    budget: &mut Budget,
+) -> Result<ClassStage, ProveStop>
+    requires mix { IsCompositionMix (length program.now.firsts) mix.old }
+    requires finder { IsFinder (length program.now.firsts) finder.old }
+    ensures mix { OnOk result (IsCompositionMix (length program.now.firsts) mix.new) }
+    ensures finder { OnOk result (IsFinder (length program.now.firsts) finder.new) }
+    ensures spends { SpendsOn budget.old budget.new }
+{
+    let (stage, chance) = stage(alloc, program, chances, mix, finder, budget)?;
+    settle(chances, &stage.weights, chance)?;
+    mix.close(&stage.weights, stage.cap)?;
+    finder.close(&stage.weights, stage.cap)?;
+    Ok(stage)
 }
 
 /// Finds the next stage, and the chance of the columns that it settles: the level falls, or compositions join, until the known
@@ -98,28 +147,15 @@ fn stage(
 {
     let mut level = Chance::ONE;
     let mut last = None;
-    loop {
-        let total = chances.common_with(level)?;
-        let spans = chances.column_spans(alloc, program, level, total, true)?;
-        if mix.has_point(&spans, total, budget)? {
-            break;
-        }
+    'levels: while !gives(alloc, program, chances, mix, level, budget)? {
         let weights = weights_of(alloc, program, chances, &mix.multipliers()?)?;
         let own = weight_sums(program, chances, &weights)?;
         let need = need(own, level, chances.common())?;
-        if let Some(counts) = finder.beating(&weights, need, budget)? {
-            if mix.knows(&counts) {
-                return Err(ProveStop::Lost);
-            }
-            mix.join(counts)?;
+        if has_joined(mix, finder, &weights, need, budget)? {
             continue;
         }
         let cap = raised_cap(mix, finder, &weights, budget)?;
-        let lower = own.level(cap, chances.common())?;
-        if !lower.is_below(level) {
-            return Err(ProveStop::Lost);
-        }
-        level = lower;
+        level = own.level_below(cap, chances.common(), level)?;
         last = Some((weights, cap));
     }
     let (weights, cap) = match last {
@@ -132,6 +168,49 @@ fn stage(
         shown_by: None,
     };
     Ok((stage, level))
+}
+
+/// True if the known compositions give every unsettled column a chance of at least `level`.
+fn gives(
+    alloc: Global,
+    program: &Program,
+    chances: &Chances,
+    mix: &mut CompositionMix,
+    level: Chance,
+    budget: &mut Budget,
+) -> Result<bool, ProveStop>
+    requires { IsCompositionMix (length program.now.firsts) mix.old }
+    ensures mix { OnOk result (IsCompositionMix (length program.now.firsts) mix.new) }
+    ensures spends { Spends budget.old budget.new }
+{
+    let total = chances.common_with(level)?;
+    let spans = chances.column_spans(alloc, program, level, total, true)?;
+    mix.has_point(&spans, total, budget)
+}
+
+/// Searches for a composition that weighs at least `need`. True if one was found; then it joins the mix.
+fn has_joined(
+    mix: &mut CompositionMix,
+    finder: &mut Finder<'_>,
+    weights: &[Narrow],
+    need: Narrow,
+    budget: &mut Budget,
+) -> Result<bool, ProveStop>
+    requires mix { IsCompositionMix (length weights.now) mix.old }
+    requires finder { IsFinder (length weights.now) finder.old }
+    ensures mix { OnOk result (IsCompositionMix (length weights.now) mix.new) }
+    ensures finder { OnOk result (IsFinder (length weights.now) finder.new) }
+    ensures spends { SpendsOn budget.old budget.new }
+    ensures nodes { OnOk result (budget.new.nodes < budget.old.nodes) }
+{
+    let Some(counts) = finder.beating(weights, need, budget)? else {
+        return Ok(false);
+    };
+    if mix.knows(&counts) {
+        return Err(ProveStop::Lost);
+    }
+    mix.join(counts)?;
+    Ok(true)
 }
 
 /// Returns the greatest weight of any composition that attains the closed caps. Each heavier composition that is found joins the mix.

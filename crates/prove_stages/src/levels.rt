@@ -62,6 +62,21 @@ impl WeightSums {
         let (num, den) = (narrow_div(num, divisor)?, narrow_div(den, divisor)?);
         Chance::new(num, den).ok_or(ProveStop::Lost)
     }
+
+    /// Returns the level that a cap allows, as `level` does. Stops if it is not below `last`.
+    pub(crate) fn level_below(
+        self,
+        cap: Narrow,
+        common: Narrow,
+        last: Chance,
+    ) -> Result<Chance, ProveStop> {
+        let level = self.level(cap, common)?;
+        if level.is_below(last) {
+            Ok(level)
+        } else {
+            Err(ProveStop::Lost)
+        }
+    }
 }
 
 /// Returns the greatest common divisor of `x` and `y`, at least 1.

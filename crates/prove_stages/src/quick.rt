@@ -5,7 +5,7 @@
 ghost use Rattle.prove_limits.specs.Budgets.{SpendsOn};
 
 use crate::chances::Chances;
-use crate::class_stages::{ClassStage, everybody_left, settle};
+use crate::class_stages::{ClassStage, everybody_left, one_if, settle};
 use crate::columned::Columned;
 use crate::fractions::Chance;
 use crate::levels::weight_sums;
@@ -15,7 +15,7 @@ use prove_branching::Found;
 use prove_limits::{Budget, Narrow, ProveStop, Span, narrow_add, wide_mul};
 use prove_mixes::{Columns, Master, Solved, UNIT, fraction};
 use prove_program::Program;
-use std::alloc::Global;
+use std::alloc::{AllocError, Global};
 use std::mem;
 
 /// How many steps a stage may have, each of which may add a composition, and how many stages there may be.
@@ -140,17 +140,30 @@ fn from_known(
 ) -> Result<Option<Columned>, ProveStop>
     ensures { SpendsOn budget.old budget.new }
 {
-    let Some(unreached) = cover(alloc, program, &mut search, known, budget)? else {
-        return Ok(None);
-    };
-    let mut quick = begun(alloc, program, search, known, unreached)?;
+    match cover(alloc, program, &mut search, known, budget)? {
+        Some(unreached) => {
+            let quick = begun(alloc, program, search, known, unreached)?;
+            found_by(quick, known, budget)
+        }
+        None => Ok(None),
+    }
+}
+
+/// Finds the stages from a state on, and notes the compositions that it used. Returns None in doubt.
+fn found_by(
+    mut quick: Quick<'_>,
+    known: &mut Vec<Vec<i64>>,
+    budget: &mut Budget,
+) -> Result<Option<Columned>, ProveStop>
+    ensures { SpendsOn budget.old budget.new }
+{
     let is_settled = quick.stages(budget)?;
     quick.note(known)?;
-    if is_settled {
-        Ok(Some(Columned::Settled(quick.stages, quick.chances)))
+    Ok(if is_settled {
+        Some(quick.settled())
     } else {
-        Ok(None)
-    }
+        None
+    })
 }
 
 /// Returns the state after the stage of the columns of which no panel has a member, or before any stage if there are none. Each of these
@@ -166,14 +179,32 @@ fn begun<'a>(
     let mut stages = Vec::new(alloc);
     if unreached.iter().any(|weight| !weight.is_zero()) {
         search.add_row(&unreached, Span::point(Narrow::ZERO))?;
-        settle(&mut chances, &unreached, Chance::ZERO)?;
-        stages.push(ClassStage {
-            weights: unreached,
-            cap: Narrow::ZERO,
-            shown_by: None,
-        })?;
+        push_stage(
+            &mut chances,
+            &mut stages,
+            unreached,
+            Narrow::ZERO,
+            Chance::ZERO,
+        )?;
     }
     Quick::new(alloc, program, search, known, chances, stages)
+}
+
+/// Adds a stage, and settles its columns.
+fn push_stage(
+    chances: &mut Chances,
+    stages: &mut Vec<ClassStage>,
+    weights: Vec<Narrow>,
+    cap: Narrow,
+    chance: Chance,
+) -> Result<(), ProveStop> {
+    settle(chances, &weights, chance)?;
+    stages.push(ClassStage {
+        weights,
+        cap,
+        shown_by: None,
+    })?;
+    Ok(())
 }
 
 /// Adds compositions until each column of which a panel can have a member has one in some known composition. Returns a weight for each
@@ -187,17 +218,7 @@ fn cover(
 ) -> Result<Option<Vec<Narrow>>, ProveStop>
     ensures { SpendsOn budget.old budget.new }
 {
-    let mut weights = Vec::new(alloc);
-    for span in program.spans() {
-        weights.push(if span.least().is_zero() {
-            Narrow::ONE
-        } else {
-            Narrow::ZERO
-        })?;
-    }
-    for counts in known.iter() {
-        clear(&mut weights, counts);
-    }
+    let mut weights = uncovered(alloc, program, known)?;
     'searches: for _ in 0..program.columns() {
         match search.beating(&weights, Narrow::ONE, u64::MAX, budget)? {
             Found::Point(point) => {
@@ -210,6 +231,22 @@ fn cover(
         }
     }
     Ok(Some(weights))
+}
+
+/// Returns a weight for each column: 1 if no known composition has a member of it and it isn't seated, else 0.
+fn uncovered(
+    alloc: Global,
+    program: &Program,
+    known: &[Vec<i64>],
+) -> Result<Vec<Narrow>, ProveStop> {
+    let mut weights = Vec::new(alloc);
+    for span in program.spans() {
+        weights.push(one_if(span.least().is_zero()))?;
+    }
+    for counts in known {
+        clear(&mut weights, counts);
+    }
+    Ok(weights)
 }
 
 /// Sets the weights of the columns of which a composition has members to 0.
@@ -230,6 +267,50 @@ fn counts_of(alloc: Global, point: &[Narrow]) -> Result<Vec<i64>, ProveStop> {
     Ok(counts)
 }
 
+/// The free columns, the entries of the level, and the point of the fixed-point program before the next stage.
+#[derive(Drop)]
+struct FreeColumns {
+    numbers: Vec<usize>,
+    entries: Vec<i64>,
+    point: Vec<i64>,
+}
+
+impl FreeColumns {
+    /// Returns the columns that are free before the next stage.
+    fn of(alloc: Global, program: &Program, chances: &Chances) -> Result<FreeColumns, ProveStop> {
+        let mut free = FreeColumns {
+            numbers: Vec::new(alloc),
+            entries: Vec::new(alloc),
+            point: Vec::new(alloc),
+        };
+        for column in 0..program.columns() {
+            if chances.chance(column).is_none() && !program.spans()[column].is_point() {
+                free.push(column, program.size_of(column))?;
+            }
+        }
+        free.entries.push(0)?;
+        free.point.push(UNIT)?;
+        Ok(free)
+    }
+
+    /// Adds a free column of `size` members.
+    fn push(&mut self, column: usize, size: Narrow) -> Result<(), AllocError> {
+        self.numbers.push(column)?;
+        self.entries.push(-size.get())?;
+        self.point.push(0)?;
+        Ok(())
+    }
+
+    /// Returns the fixed-point program, in which the row of each free column is open.
+    fn master(&self, alloc: Global) -> Result<Master, AllocError> {
+        let mut master = Master::new(alloc, &self.point)?;
+        for row in 0..self.numbers.len() {
+            master.set_row(row, 0, true);
+        }
+        Ok(master)
+    }
+}
+
 impl<'a> Quick<'a> {
     /// Returns the state before the next stage, with the known compositions as columns of the program.
     fn new(
@@ -240,37 +321,34 @@ impl<'a> Quick<'a> {
         chances: Chances,
         stages: Vec<ClassStage>,
     ) -> Result<Quick<'a>, ProveStop> {
-        let mut free = Vec::new(alloc);
-        let mut entries = Vec::new(alloc);
-        let mut point = Vec::new(alloc);
-        for column in 0..program.columns() {
-            if chances.chance(column).is_none() && !program.spans()[column].is_point() {
-                free.push(column)?;
-                entries.push(-program.size_of(column).get())?;
-                point.push(0)?;
-            }
-        }
-        entries.push(0)?;
-        point.push(UNIT)?;
-        let mut master = Master::new(alloc, &point)?;
-        for row in 0..free.len() {
-            master.set_row(row, 0, true);
-        }
+        let free = FreeColumns::of(alloc, program, &chances)?;
+        let master = free.master(alloc)?;
         let mut quick = Quick {
             alloc,
             program,
             search,
-            free,
+            free: free.numbers,
             columns: Columns::new(alloc),
             master,
-            entries,
+            entries: free.entries,
             chances,
             stages,
         };
-        for counts in known {
-            let _is_new = quick.join(counts)?;
-        }
+        quick.join_all(known)?;
         Ok(quick)
+    }
+
+    /// Adds the known compositions.
+    fn join_all(&mut self, known: &[Vec<i64>]) -> Result<(), ProveStop> {
+        for counts in known {
+            let _is_new = self.join(counts)?;
+        }
+        Ok(())
+    }
+
+    /// Returns the stages and the chances, once all columns are settled.
+    fn settled(self) -> Columned {
+        Columned::Settled(self.stages, self.chances)
     }
 
     /// Adds a composition, given by its count for each column. False if one with the same counts of the free columns is known.
@@ -356,14 +434,17 @@ impl<'a> Quick<'a> {
         ensures { SpendsOn budget.old budget.new }
     {
         match self.heavier(budget)? {
-            Found::Point(point) => {
-                let counts = counts_of(self.alloc, &point)?;
-                let is_new = self.join(&counts)?;
-                Ok(if is_new { Step::Further } else { Step::Closed })
-            }
+            Found::Point(point) => self.join_point(&point, Step::Closed),
             Found::Nothing => Ok(Step::Closed),
             Found::Doubt => Ok(Step::Doubt),
         }
+    }
+
+    /// Adds the composition of a point. Returns `known` if one with the same counts of the free columns is known, else `Further`.
+    fn join_point(&mut self, point: &[Narrow], known: Step) -> Result<Step, ProveStop> {
+        let counts = counts_of(self.alloc, point)?;
+        let is_new = self.join(&counts)?;
+        Ok(if is_new { Step::Further } else { known })
     }
 
     /// True if a free column is unsettled.
@@ -377,12 +458,13 @@ impl<'a> Quick<'a> {
     fn close_last(&mut self) -> Result<bool, ProveStop> {
         if !self.chances.are_settled() {
             let (weights, cap) = everybody_left(self.alloc, self.program, &self.chances)?;
-            settle(&mut self.chances, &weights, Chance::ONE)?;
-            self.stages.push(ClassStage {
+            push_stage(
+                &mut self.chances,
+                &mut self.stages,
                 weights,
                 cap,
-                shown_by: None,
-            })?;
+                Chance::ONE,
+            )?;
         }
         Ok(true)
     }
@@ -502,29 +584,11 @@ impl<'a> Quick<'a> {
     {
         let cap = self.heaviest(own)?;
         let weights = self.spread_weights(own)?;
-        if weights.len() != self.program.columns() {
-            return Err(ProveStop::Lost);
-        }
-        let sums = weight_sums(self.program, &self.chances, &weights)?;
-        if sums.unsettled.get() <= 0 {
+        let Some(chance) = chance_near(self.program, &self.chances, &weights, cap, level)? else {
             return Ok(Step::Doubt);
-        }
-        let chance = sums.level(cap, self.chances.common())?;
-        let exact = fraction(chance.num().wide(), chance.den().wide());
-        if exact.saturating_sub(level).unsigned_abs() > MOST_ERROR {
-            return Ok(Step::Doubt);
-        }
-        let need = narrow_add(cap.wide(), 1)?;
-        let found = match self.search.beating(&weights, need, u64::MAX, budget) {
-            Err(ProveStop::Wide(_) | ProveStop::BeyondWidth) => Found::Doubt,
-            found => found?,
         };
-        match found {
-            Found::Point(point) => {
-                let counts = counts_of(self.alloc, &point)?;
-                let is_new = self.join(&counts)?;
-                Ok(if is_new { Step::Further } else { Step::Doubt })
-            }
+        match above(&mut self.search, &weights, cap, budget)? {
+            Found::Point(point) => self.join_point(&point, Step::Doubt),
             Found::Nothing => {
                 self.settle(own, weights, cap, chance)?;
                 Ok(Step::Closed)
@@ -560,13 +624,7 @@ impl<'a> Quick<'a> {
         }
         self.fix_rows(own, chance)?;
         self.search.add_row(&weights, Span::point(cap))?;
-        settle(&mut self.chances, &weights, chance)?;
-        self.stages.push(ClassStage {
-            weights,
-            cap,
-            shown_by: None,
-        })?;
-        Ok(())
+        push_stage(&mut self.chances, &mut self.stages, weights, cap, chance)
     }
 
     /// Fixes the rows of the unsettled columns whose weight is above 0: each has the chance `chance`.
@@ -584,6 +642,44 @@ impl<'a> Quick<'a> {
             }
         }
         Ok(())
+    }
+}
+
+/// Returns the chance that a stage of these weights and this cap gives its columns. Returns None if the chance is too far from the level of
+/// the fixed-point program, or if the stage settles no column.
+fn chance_near(
+    program: &Program,
+    chances: &Chances,
+    weights: &[Narrow],
+    cap: Narrow,
+    level: i64,
+) -> Result<Option<Chance>, ProveStop> {
+    if weights.len() != program.columns() {
+        return Err(ProveStop::Lost);
+    }
+    let sums = weight_sums(program, chances, weights)?;
+    if sums.unsettled.get() <= 0 {
+        return Ok(None);
+    }
+    let chance = sums.level(cap, chances.common())?;
+    let exact = fraction(chance.num().wide(), chance.den().wide());
+    let is_near = exact.saturating_sub(level).unsigned_abs() <= MOST_ERROR;
+    Ok(is_near.then_some(chance))
+}
+
+/// Searches for a composition above a cap. Returns `Doubt` if numbers pass 2^62.
+fn above(
+    search: &mut CompositionSearch,
+    weights: &[Narrow],
+    cap: Narrow,
+    budget: &mut Budget,
+) -> Result<Found, ProveStop>
+    ensures { SpendsOn budget.old budget.new }
+{
+    let need = narrow_add(cap.wide(), 1)?;
+    match search.beating(weights, need, u64::MAX, budget) {
+        Err(ProveStop::Wide(_) | ProveStop::BeyondWidth) => Ok(Found::Doubt),
+        found => found,
     }
 }
 

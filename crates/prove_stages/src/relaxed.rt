@@ -100,31 +100,54 @@ fn stage(
         let shown = Shown::of_weights(weights, Narrow::ZERO);
         return found_by(alloc, program, shown, Chance::ZERO, &[], earlier);
     }
+    falling_stage(alloc, program, chances, table, earlier, budget)
+}
+
+/// Finds the stage after `earlier` earlier ones, of a level that falls until some point gives it to every unsettled column.
+fn falling_stage(
+    alloc: Global,
+    program: &Program,
+    chances: &Chances,
+    table: &mut Table,
+    earlier: usize,
+    budget: &mut Budget,
+) -> Result<FoundStage, ProveStop>
+    requires rows { table.old.rows ≡ length program.now.rows }
+    requires columns { table.old.columns ≡ length program.now.firsts }
+    requires few { earlier < 2 ^ 63 }
+    ensures sizes { SameSizes table.old table.new }
+    ensures spends { SpendsOn budget.old budget.new }
+    ensures one_each { IfOk result (λ found. length found.stage.weights.items ≡ length program.now.firsts) }
+{
     let mut level = Chance::ONE;
     let mut last = None;
-    loop {
-        if has_point(alloc, program, chances, table, level, budget)? {
-            break;
-        }
+    'levels: while !has_point(alloc, program, chances, table, level, budget)? {
         budget.take_node()?;
         let multipliers = table.refutation(alloc)?;
         let shown = shown_by(alloc, program, chances, &multipliers)?;
         let sums = weight_sums(program, chances, &shown.weights)?;
-        let lower = sums.level(shown.cap, chances.common())?;
-        if !lower.is_below(level) {
-            return Err(ProveStop::Lost);
-        }
-        level = lower;
+        level = sums.level_below(shown.cap, chances.common(), level)?;
         last = Some((shown, multipliers));
     }
     match last {
         Some((shown, multipliers)) => found_by(alloc, program, shown, level, &multipliers, earlier),
-        None => {
-            let (weights, cap) = everybody_left(alloc, program, chances)?;
-            let shown = Shown::of_weights(weights, cap);
-            found_by(alloc, program, shown, level, &[], earlier)
-        }
+        None => stage_of_all(alloc, program, chances, earlier),
     }
+}
+
+/// Returns the stage after `earlier` earlier ones in which all unsettled columns get the chance 1.
+fn stage_of_all(
+    alloc: Global,
+    program: &Program,
+    chances: &Chances,
+    earlier: usize,
+) -> Result<FoundStage, ProveStop>
+    requires { earlier < 2 ^ 63 }
+    ensures { IfOk result (λ found. length found.stage.weights.items ≡ length program.now.firsts) }
+{
+    let (weights, cap) = everybody_left(alloc, program, chances)?;
+    let shown = Shown::of_weights(weights, cap);
+    found_by(alloc, program, shown, Chance::ONE, &[], earlier)
 }
 
 /// True if some point meets the quotas and gives settled columns their chances and all others at least `level`.

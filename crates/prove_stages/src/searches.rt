@@ -76,8 +76,7 @@ impl CompositionSearch {
         self.beating_by_few_rows(weights, need, most, budget)
     }
 
-    /// Searches within the rows without a coefficient above 1 by absolute value. While the point found breaks another row, adds that row,
-    /// and searches again.
+    /// Searches within the rows without a coefficient above 1 by absolute value, and within others as `beating_by` adds them.
     fn beating_by_few_rows(
         &self,
         weights: &[Narrow],
@@ -88,9 +87,23 @@ impl CompositionSearch {
         ensures { SpendsOn budget.old budget.new }
     {
         let mut search = self.of_few_rows()?;
+        self.beating_by(&mut search, weights, need, most, budget)
+    }
+
+    /// Searches by `search`, which has some of the rows. While the point found breaks another row, adds that row, and searches again.
+    fn beating_by(
+        &self,
+        search: &mut CompositionSearch,
+        weights: &[Narrow],
+        need: Narrow,
+        most: u64,
+        budget: &mut Budget,
+    ) -> Result<Found, ProveStop>
+        ensures { SpendsOn budget.old budget.new }
+    {
         'rows: for _ in 0..=self.rows.len() {
             let found = search.beating_once(weights, need, most, budget)?;
-            if !self.extend(&mut search, &found)? {
+            if !self.extend(search, &found)? {
                 return Ok(found);
             }
         }

@@ -6,7 +6,7 @@ ghost use Rattle.define_quotas.specs.Teams.{is_team, loosened as loosened_for, l
 ghost use Rattle.define_pools.specs.Building.{category_kind};
 ghost use Rattle.define_pools.specs.Pool.{IsPool, is_category, members_with};
 
-use pool_model::{Category, Limits, Panel, Pool, Volunteer};
+use pool_model::{Category, Limits, Panel, Pool, Volunteer, copied_categories, copied_volunteers};
 use std::alloc::{AllocError, Global};
 
 // Returns the pool with each bound moved only as far as the team needs to meet it.
@@ -75,24 +75,4 @@ pub fn number_with(volunteers: &[Volunteer], team: &[usize], category: usize, va
         }
     }
     count
-}
-
-fn copied_categories(alloc: Global, categories: &[Category]) -> Result<Vec<Category>, AllocError>
-    ensures { IfOk result (λ copies. copies.items ≡ categories.now) }
-{
-    let mut copies = Vec::new(alloc);
-    for category in categories {
-        copies.push(category.copy()?)?;
-    }
-    Ok(copies)
-}
-
-fn copied_volunteers(alloc: Global, volunteers: &[Volunteer]) -> Result<Vec<Volunteer>, AllocError>
-    ensures { IfOk result (λ copies. copies.items ≡ volunteers.now) }
-{
-    let mut copies = Vec::new(alloc);
-    for volunteer in volunteers {
-        copies.push(volunteer.copy()?)?;
-    }
-    Ok(copies)
 }

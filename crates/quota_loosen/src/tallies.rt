@@ -7,12 +7,10 @@ ghost use Rattle.define_searches.specs.Tallies.{HaveCells, CanGive, AreAtMost, F
 ghost use Rattle.quota_loosen.specs.Sums.{AreLimited, AreSmallIn, are_few, missed_in, missed_in_all};
 
 use alike::{Bounds, ValueBounds};
+use pool_model::MAX_BOUND;
 
 // How many places each category has.
 pub(crate) const PLACES: usize = 50;
-
-// The greatest bound that a value may have.
-pub(crate) const MOST: usize = 999;
 
 // Adds `count` to the counter of each category's value. A search often tries the count 0, which changes nothing.
 pub(crate) fn add_to(cells: &mut [usize], values: &[usize], count: usize)
@@ -61,7 +59,7 @@ fn hold_few_of(values: &[Bounds], held: &[usize], category: usize) -> bool
     ensures { result ≡ are_few values.now held.now category }
 {
     values.iter().enumerate().all(|(value, _bound)| number_in(held, PLACES * category + value)
-        <= MOST)
+        <= MAX_BOUND)
 }
 
 // Returns the number in a cell, or 0 if there is no such cell.

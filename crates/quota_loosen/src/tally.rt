@@ -10,8 +10,9 @@ ghost use Rattle.define_searches.specs.Tallies.{AreAtMost};
 ghost use Rattle.quota_loosen.specs.Front.{Tracks};
 
 use crate::homes;
-use crate::tallies::{MOST, PLACES, add_to, hold_few, missed_by_all, take_from};
+use crate::tallies::{PLACES, add_to, hold_few, missed_by_all, take_from};
 use alike::Classes;
+use pool_model::MAX_BOUND;
 use std::alloc::{AllocError, Global};
 
 // How many members a front takes and the most that later classes can give, in all and of each value; and how many members the front takes
@@ -109,7 +110,7 @@ impl Tally {
         ensures { result ≡ values_reachable (widened classes.now) front.now }
     {
         classes.facts();
-        self.taken <= MOST || hold_few(classes.bounds(), &self.held)
+        self.taken <= MAX_BOUND || hold_few(classes.bounds(), &self.held)
     }
 
     // True if at most one is taken of each household.

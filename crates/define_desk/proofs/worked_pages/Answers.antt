@@ -28,3 +28,7 @@ returns-clause-undrawn c = refl
 pub returns-clause-drawn : goal.returns-clause-drawn
 unfolding digits sha256 hash_after compress rounds schedule first_words digest_bytes encode_with escape_byte
 returns-clause-drawn c = refl
+
+pub returns-clause-tickets : goal.returns-clause-tickets
+unfolding digits sha256 hash_after compress rounds schedule first_words digest_bytes encode_with escape_byte
+returns-clause-tickets c = refl

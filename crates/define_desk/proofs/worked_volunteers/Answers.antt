@@ -18,6 +18,10 @@ pub returns-clause-sealed : goal.returns-clause-sealed
 unfolding digits common_divisor_up_to gcd_of sha256 hash_after compress rounds schedule first_words digest_bytes encode_with escape_byte
 returns-clause-sealed c = refl
 
+pub returns-clause-in_ten : goal.returns-clause-in_ten
+unfolding digits common_divisor_up_to gcd_of sha256 hash_after compress rounds schedule first_words digest_bytes encode_with escape_byte
+returns-clause-in_ten c = refl
+
 pub returns-clause-drawn : goal.returns-clause-drawn
 unfolding digits common_divisor_up_to gcd_of sha256 hash_after compress rounds schedule first_words digest_bytes encode_with escape_byte
 returns-clause-drawn c = refl

@@ -46,3 +46,23 @@ returns-clause-too_great c = refl
 pub returns-clause-blanks_stay : goal.returns-clause-blanks_stay
 unfolding is_utf8 chars encode
 returns-clause-blanks_stay c = refl
+
+pub returns-clause-large : goal.returns-clause-large
+unfolding is_utf8 chars encode
+returns-clause-large c = refl
+
+pub returns-clause-few : goal.returns-clause-few
+unfolding is_utf8 chars encode
+returns-clause-few c = refl
+
+pub returns-clause-no_rows : goal.returns-clause-no_rows
+unfolding is_utf8 chars encode
+returns-clause-no_rows c = refl
+
+pub returns-clause-too_many : goal.returns-clause-too_many
+unfolding is_utf8 chars encode
+returns-clause-too_many c = refl
+
+pub returns-clause-rows_no_number : goal.returns-clause-rows_no_number
+unfolding is_utf8 chars encode
+returns-clause-rows_no_number c = refl

@@ -4,11 +4,11 @@ ghost use Rattle.std.specs.Prelude.{◌≡◌, map, true, is_ok, Some, IfOk};
 ghost use Rattle.define_pools.specs.Lists.{includes_list};
 ghost use Rattle.define_pools.specs.Lottery.{TotalAgrees};
 ghost use Rattle.define_draws.specs.Dice.{name_ticket};
-ghost use Rattle.define_offices.specs.Pools.{after_withdrawals, drawn_of, next_pool as pool_next, numbers_of as numbers_by, pool_after as pool_after_round, restood_pool};
+ghost use Rattle.define_offices.specs.Pools.{after_withdrawals, drawn_lottery, drawn_of, next_pool as pool_next, numbers_of as numbers_by, pool_after as pool_after_round, restood_pool};
 ghost use Rattle.office_steps.specs.Told.{IsDrawn};
 
 use bundle_text::Bundle;
-use office_tables::{Entry, Round, drawn_by};
+use office_tables::{Entry, Round, Tickets, drawn_by};
 use pool_model::{Name, Panel, Pool};
 use rounds::{pool_after, withdraw};
 use std::alloc::{AllocError, Global};
@@ -24,7 +24,13 @@ pub(crate) fn later_pool(
 {
     match before.bundle() {
         Some(bundle) => {
-            let next = next_pool(alloc, bundle, before.digits(), before.dropped())?;
+            let next = next_pool(
+                alloc,
+                bundle,
+                before.tickets(),
+                before.digits(),
+                before.dropped(),
+            )?;
             without_withdrawn(alloc, next, register)
         }
         None => unreachable!(),
@@ -40,29 +46,36 @@ fn without_withdrawn(alloc: Global, mut pool: Pool, register: &[Entry]) -> Resul
     Ok(pool)
 }
 
-/// Returns the pool after the digits drew a panel from a bundle and the volunteers of these ids dropped out.
+/// Returns the pool after the digits drew a panel in a round with this bundle, from its lottery or shortened to `tickets` tickets, and the
+/// volunteers of these ids dropped out.
 fn next_pool(
     alloc: Global,
     bundle: &Bundle,
+    tickets: &Option<Tickets>,
     digits: &[u8],
     dropped: &[Name],
 ) -> Result<Pool, AllocError>
     requires total { TotalAgrees bundle.now.answer.lottery }
-    requires named { is_ok (name_ticket bundle.now.answer.lottery.total digits.now) ≡ true }
-    ensures { IfOk result (λ pool. pool ≡ pool_next bundle.now.pool (drawn_of bundle.now digits.now).panel (numbers_by bundle.now.pool dropped.now)) }
+    requires named { is_ok (name_ticket (drawn_lottery bundle.now tickets.now).total digits.now) ≡ true }
+    ensures { IfOk result (λ pool. pool ≡ pool_next bundle.now.pool (drawn_of bundle.now tickets.now digits.now).panel (numbers_by bundle.now.pool dropped.now)) }
 {
-    let panel = panel_drawn(alloc, bundle, digits)?;
+    let panel = panel_drawn(alloc, bundle, tickets, digits)?;
     let drops = numbers_of(alloc, bundle.pool(), dropped)?;
     pool_after(bundle.pool(), &panel, &drops)
 }
 
 /// Returns the panel that digits draw from a bundle.
-fn panel_drawn(alloc: Global, bundle: &Bundle, digits: &[u8]) -> Result<Panel, AllocError>
+fn panel_drawn(
+    alloc: Global,
+    bundle: &Bundle,
+    tickets: &Option<Tickets>,
+    digits: &[u8],
+) -> Result<Panel, AllocError>
     requires total { TotalAgrees bundle.now.answer.lottery }
-    requires named { is_ok (name_ticket bundle.now.answer.lottery.total digits.now) ≡ true }
-    ensures { IfOk result (λ panel. panel ≡ (drawn_of bundle.now digits.now).panel) }
+    requires named { is_ok (name_ticket (drawn_lottery bundle.now tickets.now).total digits.now) ≡ true }
+    ensures { IfOk result (λ panel. panel ≡ (drawn_of bundle.now tickets.now digits.now).panel) }
 {
-    match drawn_by(alloc, bundle, digits)? {
+    match drawn_by(alloc, bundle, tickets, digits)? {
         Some(drawn) => Ok(drawn.panel),
         None => unreachable!(),
     }

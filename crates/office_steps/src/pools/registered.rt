@@ -4,8 +4,10 @@ ghost use Rattle.std.specs.Prelude.{◌≡◌, map, IfOk};
 ghost use Rattle.define_pools.specs.Pool.{IsPool};
 ghost use Rattle.define_offices.specs.Pools.{first_pool as pool_at_first, standing_of as standing_by, volunteer_of as volunteer_by};
 
-use office_tables::{Charter, Entry, Rules, copied_categories};
-use pool_model::{Category, Pool, Standing, Volunteer, copied_name, places_named};
+use office_tables::{Charter, Entry, Rules};
+use pool_model::{
+    Category, Pool, Standing, Volunteer, copied_categories, copied_name, places_named,
+};
 use std::alloc::{AllocError, Global};
 
 /// Returns the pool of the charter's size, the categories of the rules, and the rows of the register as volunteers.

@@ -8,7 +8,7 @@ use Rattle.define_draws.specs.Draw.{Drawn, draw}
 use Rattle.define_draws.specs.Seal.{seal_of}
 use Rattle.command_meanings.specs.Lines.{panel_line}
 use Rattle.command_meanings.specs.Draw.{ticket_line}
-use Rattle.command_meanings.specs.Seal.{bundle_seal}
+use Rattle.define_draws.specs.Lines.{bundle_seal}
 use Rattle.command_bundles.proofs.Members.{drawn_in_range}
 use Rattle.command_bundles.proofs.Stopped.{refusal_is_told}
 use Rattle.command_bundles.proofs.draw.drawn.Goals as goal

@@ -12,7 +12,7 @@ use Rattle.define_draws.specs.Seal.{seal_of}
 use Rattle.define_draws.specs.Short.{shortened}
 use Rattle.command_meanings.specs.Lines.{panel_line}
 use Rattle.command_meanings.specs.Draw.{ticket_line}
-use Rattle.command_meanings.specs.Seal.{bundle_seal}
+use Rattle.define_draws.specs.Lines.{bundle_seal}
 use Rattle.command_bundles.proofs.ShortDrawn.{short_drawn_in_range, short_refusal_is_told}
 use Rattle.command_bundles.proofs.short_draw.drawn.Goals as goal
 

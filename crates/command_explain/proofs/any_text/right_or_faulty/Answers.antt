@@ -8,8 +8,9 @@ use Rattle.define_covers.specs.CoverText.{IsCover, cover_spelling}
 use Rattle.define_pools.specs.Pool.{IsPool}
 use Rattle.define_proofs.specs.ProofReading.{read_proof}
 use Rattle.define_proofs.specs.ProofText.{IsProof, proof_spelling}
+use Rattle.command_shell.specs.BundlesOrProofs.{begins_as_proof}
 use Rattle.command_shell.specs.Formats.{begins_as_bundle}
-use Rattle.command_explain.specs.AnyTexts.{begins_as_cover, begins_as_proof}
+use Rattle.command_explain.specs.AnyTexts.{begins_as_cover}
 use Rattle.command_explain.proofs.Looking.{decided, decided_by_word}
 use Rattle.command_explain.proofs.any_text.right_or_faulty.Goals as goal
 

@@ -2,7 +2,7 @@ use Rattle.std.proofs.Common.{◌≡◌, ℕ, List, Ok, ap, subst, ◌∙◌, ru
 use Rattle.bundle_page.specs.Drawn.{seen_draw}
 use Rattle.bundle_page.specs.Page.{drawn_page_text}
 use Rattle.define_draws.specs.Draw.{draw}
-use Rattle.command_meanings.specs.Page.{lottery_in}
+use Rattle.define_offices.specs.Pools.{lottery_in}
 use Rattle.command_questions.proofs.Refusing.{refused_so}
 use Rattle.command_questions.proofs.drawn_pages.drawn.Goals as goal
 

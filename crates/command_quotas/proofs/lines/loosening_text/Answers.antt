@@ -14,7 +14,7 @@ push_panel-requires c =
     let pool = c.args.pool.now in
     let all : list_all (λ i. ltb i (length pool.volunteers)) c.args.loosened.now.panel ≡ true =
     (and_parts _ _ (team_parts pool c.args.loosened.now.panel c.requires).of_size).1 in
-    subst (λ (members : List ℕ). list_all (λ i. ltb i (length pool.volunteers)) members ≡ true) (sym (c.members.ensures.value ∙ c.panel.ensures)) all
+    subst (λ (members : List ℕ). list_all (λ i. ltb i (length pool.volunteers)) members ≡ true) (sym c.panel.ensures) all
 
 pub returns : goal.returns
 returns c =
@@ -31,5 +31,5 @@ returns c =
     ∙ (ap (λ (after : List Category). total ++ text_of (moved_lines pool.categories after)) (c.categories-2.ensures ∙ ap (λ (made : Pool). made.categories) c.pool.ensures)
     ∙ text_of-append [] (total_line loosening.total ∷ []) lines))) in
     c.in_ok-push_panel.ensures
-    ∙ (ap (λ before. before ++ panel_line pool c.members.result.now) moved
-    ∙ ap (λ (members : List ℕ). text_of (total_line loosening.total ∷ lines) ++ panel_line pool members) (c.members.ensures.value ∙ c.panel.ensures))
+    ∙ (ap (λ before. before ++ panel_line pool c.panel.result.now) moved
+    ∙ ap (λ (members : List ℕ). text_of (total_line loosening.total ∷ lines) ++ panel_line pool members) c.panel.ensures)

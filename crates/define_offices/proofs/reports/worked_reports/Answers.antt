@@ -10,6 +10,10 @@ pub returns-clause-drawn : goal.returns-clause-drawn
 unfolding sha256 hash_after compress rounds schedule first_words digest_bytes encode_with digits common_divisor_up_to gcd_of
 returns-clause-drawn c = refl
 
+pub returns-clause-tickets : goal.returns-clause-tickets
+unfolding sha256 hash_after compress rounds schedule first_words digest_bytes encode_with digits common_divisor_up_to gcd_of
+returns-clause-tickets c = refl
+
 pub returns-clause-open : goal.returns-clause-open
 unfolding digits
 returns-clause-open c = refl

@@ -1,7 +1,7 @@
 use Rattle.std.proofs.Common.{refl}
 use Rattle.define_draws.specs.Seal.{seal_of}
-use Rattle.define_offices.specs.Commands.{SetCharter, SetRules, Register, Keep, Seal, Draw, Drop, NextRound, Show, Withdraw}
-use Rattle.define_offices.specs.Deciding.{decide_charter, decide_register, decide_rules, draw_in, drop_in, keep_in, next_in, place_of_hash, seal_in, show_in, withdraw_at}
+use Rattle.define_offices.specs.Commands.{SetCharter, SetRules, Register, Keep, Seal, Draw, Drop, NextRound, Show, Withdraw, SetBounds, TryDraw, Undrop, Reopen, WithdrawId}
+use Rattle.define_offices.specs.Deciding.{decide_bounds, decide_charter, decide_register, decide_rules, draw_in, drop_in, keep_in, next_in, place_of_hash, place_of_id, reopen_in, seal_in, show_in, undrop_in, withdraw_at, withdraw_id_at, without_change}
 use Rattle.define_offices.specs.Tables.{named_round}
 use Rattle.office_core.specs.Commands.{seen_command}
 use Rattle.office_core.specs.Deciding.{IsSolve}
@@ -26,7 +26,7 @@ returns-in-Register-clause-decides g c =
 pub returns-in-Seal-clause-decides : goal.returns-in-Seal-clause-decides
 returns-in-Seal-clause-decides g c =
     let tables = c.args.tables.now in
-    rw c.in-Seal.is (at_once tables (Seal c.in-Seal.round) (seal_in tables c.in-Seal.round (named_round tables.rounds c.in-Seal.round)) c.stepped-in-Seal.result refl (c.stepped-in-Seal.ensures.says _ c.seal_round.ensures))
+    rw c.in-Seal.is (at_once tables (Seal c.in-Seal.round c.in-Seal.tickets) (seal_in tables c.in-Seal.round c.in-Seal.tickets (named_round tables.rounds c.in-Seal.round)) c.stepped-in-Seal.result refl (c.stepped-in-Seal.ensures.says _ c.seal_round.ensures))
 
 pub returns-in-Draw-clause-decides : goal.returns-in-Draw-clause-decides
 returns-in-Draw-clause-decides g c =
@@ -58,6 +58,31 @@ returns-in-Keep-clause-decides g c =
     let tables = c.args.tables.now in
     let round = c.in-Keep.round in
     rw c.in-Keep.is (at_once tables (Keep round c.in-Keep.proof) (keep_in tables round c.in-Keep.proof (named_round tables.rounds round)) c.keep_proof.result refl c.keep_proof.ensures.says)
+
+pub returns-in-Bounds-clause-decides : goal.returns-in-Bounds-clause-decides
+returns-in-Bounds-clause-decides g c =
+    let tables = c.args.tables.now in
+    rw c.in-Bounds.is (at_once tables (SetBounds c.in-Bounds.round c.in-Bounds.bounds) (decide_bounds tables c.in-Bounds.round c.in-Bounds.bounds) c.stepped-in-Bounds.result refl (c.stepped-in-Bounds.ensures.says _ (rw c.number.ensures.value at c.set_bounds.ensures)))
+
+pub returns-in-Try-clause-decides : goal.returns-in-Try-clause-decides
+returns-in-Try-clause-decides g c =
+    let tables = c.args.tables.now in
+    rw c.in-Try.is (at_once tables (TryDraw c.in-Try.round c.in-Try.seal c.in-Try.digits.items) (without_change (draw_in tables c.in-Try.round c.in-Try.seal c.in-Try.digits.items (named_round tables.rounds c.in-Try.round))) c.stepped-in-Try.result refl (c.stepped-in-Try.ensures.says _ (rw (c.as_str-in-Try.ensures, c.deref-in-Try.ensures.value) at c.try_draw.ensures)))
+
+pub returns-in-Undrop-clause-decides : goal.returns-in-Undrop-clause-decides
+returns-in-Undrop-clause-decides g c =
+    let tables = c.args.tables.now in
+    rw c.in-Undrop.is (at_once tables (Undrop c.in-Undrop.round c.in-Undrop.id) (undrop_in tables c.in-Undrop.round c.in-Undrop.id (named_round tables.rounds c.in-Undrop.round)) c.stepped-in-Undrop.result refl (c.stepped-in-Undrop.ensures.says _ c.undrop_member.ensures))
+
+pub returns-in-Reopen-clause-decides : goal.returns-in-Reopen-clause-decides
+returns-in-Reopen-clause-decides g c =
+    let tables = c.args.tables.now in
+    rw c.in-Reopen.is (at_once tables (Reopen c.in-Reopen.round) (reopen_in tables c.in-Reopen.round (named_round tables.rounds c.in-Reopen.round)) c.stepped-in-Reopen.result refl (c.stepped-in-Reopen.ensures.says _ (rw c.number-in-Reopen.ensures.value at c.reopen_round.ensures)))
+
+pub returns-in-WithdrawId-clause-decides : goal.returns-in-WithdrawId-clause-decides
+returns-in-WithdrawId-clause-decides g c =
+    let tables = c.args.tables.now in
+    rw c.in-WithdrawId.is (at_once tables (WithdrawId c.in-WithdrawId.id) (withdraw_id_at tables c.in-WithdrawId.id (place_of_id tables.register c.in-WithdrawId.id 0)) c.stepped-in-WithdrawId.result refl (c.stepped-in-WithdrawId.ensures.says _ c.withdraw_id.ensures))
 
 pub returns-in-Charter-clause-runs : goal.returns-in-Charter-clause-runs
 returns-in-Charter-clause-runs g c =
@@ -94,6 +119,26 @@ returns-in-Show-clause-runs g c =
 pub returns-in-Withdraw-clause-runs : goal.returns-in-Withdraw-clause-runs
 returns-in-Withdraw-clause-runs g c =
     no_run (IsSolve (seen_command c.args.command.now)) c.stepped-in-Withdraw.result c.stepped-in-Withdraw.ensures.no_run
+
+pub returns-in-Bounds-clause-runs : goal.returns-in-Bounds-clause-runs
+returns-in-Bounds-clause-runs g c =
+    no_run (IsSolve (seen_command c.args.command.now)) c.stepped-in-Bounds.result c.stepped-in-Bounds.ensures.no_run
+
+pub returns-in-Try-clause-runs : goal.returns-in-Try-clause-runs
+returns-in-Try-clause-runs g c =
+    no_run (IsSolve (seen_command c.args.command.now)) c.stepped-in-Try.result c.stepped-in-Try.ensures.no_run
+
+pub returns-in-Undrop-clause-runs : goal.returns-in-Undrop-clause-runs
+returns-in-Undrop-clause-runs g c =
+    no_run (IsSolve (seen_command c.args.command.now)) c.stepped-in-Undrop.result c.stepped-in-Undrop.ensures.no_run
+
+pub returns-in-Reopen-clause-runs : goal.returns-in-Reopen-clause-runs
+returns-in-Reopen-clause-runs g c =
+    no_run (IsSolve (seen_command c.args.command.now)) c.stepped-in-Reopen.result c.stepped-in-Reopen.ensures.no_run
+
+pub returns-in-WithdrawId-clause-runs : goal.returns-in-WithdrawId-clause-runs
+returns-in-WithdrawId-clause-runs g c =
+    no_run (IsSolve (seen_command c.args.command.now)) c.stepped-in-WithdrawId.result c.stepped-in-WithdrawId.ensures.no_run
 
 pub returns-in-Keep-clause-runs : goal.returns-in-Keep-clause-runs
 returns-in-Keep-clause-runs g c =

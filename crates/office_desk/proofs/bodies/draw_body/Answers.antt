@@ -1,4 +1,4 @@
-use Rattle.std.proofs.Common.{◌≡◌, ap, ◌∙◌, false}
+use Rattle.std.proofs.Common.{◌≡◌, ap, ◌∙◌, false, option_map, string_bytes, String, Global}
 use Rattle.std.proofs.lemmas.Result.{IfOk-weaker}
 use Rattle.serde_json.specs.Data.{Data, array}
 use Rattle.serde_json.specs.View.{items_view, view}
@@ -13,7 +13,8 @@ returns c =
     let panel : Data = array (items_view c.args.panel.items) in
     let seal = c.args.seal.now in
     let ticket = c.args.ticket.now in
-    let is = c.in_ok-value.ensures ∙ ap (λ (p : Data). draw_data digits p seal ticket) c.array_of-panel.ensures in
+    let tickets = option_map (λ (text : String Global). string_bytes text) c.args.tickets in
+    let is = c.in_ok-value.ensures ∙ ap (λ (p : Data). draw_data digits p seal ticket tickets) c.array_of-panel.ensures in
     IfOk-weaker c.to_string.result _ _
-    (λ body printed. printed (ap has_float is ∙ draw_data-float digits panel seal ticket c.requires) ∙ (ap compact_text is ∙ draw_data-text digits panel seal ticket))
+    (λ body printed. printed (ap has_float is ∙ draw_data-float digits panel seal ticket tickets c.requires) ∙ (ap compact_text is ∙ draw_data-text digits panel seal ticket tickets))
     c.to_string.ensures.text

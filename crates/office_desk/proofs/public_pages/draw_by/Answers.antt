@@ -12,4 +12,4 @@ pub returns-then-eq : goal.returns-then-eq
 returns-then-eq c =
     let got : bytes_eq c.args.request.now.method (codes "GET") ≡ true = search rules in
     IfOk-weaker c.told_draw.result _ _
-    (λ answer is. is ∙ ap sent_of (sym (by_method (codes "GET") c.args.request.now (told (draw_body c.args.bundle.now c.args.digits.now)) got))) c.told_draw.ensures
+    (λ answer is. is ∙ ap sent_of (sym (by_method (codes "GET") c.args.request.now (told (draw_body c.args.bundle.now c.args.tickets.now c.args.digits.now)) got))) c.told_draw.ensures

@@ -1,4 +1,4 @@
-use Rattle.std.proofs.Common.{◌≡◌, ℕ, List, FitsSigned, unsigned_abs, map, ap, ◌∙◌, rules}
+use Rattle.std.proofs.Common.{◌≡◌, ℕ, List, Option, option_map, String, Global, string_bytes, FitsSigned, unsigned_abs, map, ap, ◌∙◌, rules}
 use Rattle.std.specs.Int.{w128}
 use Rattle.std.proofs.lemmas.Int.{to_z-of_z}
 use Rattle.std.specs.Fmt.{decimal}
@@ -7,7 +7,7 @@ use Rattle.serde_json.specs.Data.{array, string}
 use Rattle.serde_json.specs.View.{items_view, view}
 use Rattle.serde_json.specs.Written.{compact_text}
 use Rattle.define_pools.specs.Pool.{Pool}
-use Rattle.define_offices.specs.Lines.{bundle_seal, member_ids}
+use Rattle.define_draws.specs.Lines.{bundle_seal, member_ids}
 use Rattle.office_desk.specs.Bodies.{draw_text}
 use Rattle.office_desk.proofs.DrawnBodies.{drawn_as_text, values_have_no_float}
 use Rattle.office_desk.proofs.public_pages.drawn_body.Goals as goal
@@ -27,9 +27,11 @@ returns c =
     let ticket : c.as_str-3.result.now ≡ decimal (unsigned_abs drawn.ticket) = c.as_str-3.ensures.value ∙ (c.in_ok-ticket.ensures.ok ∙ ap decimal number) in
     let named = c.in_ok-panel.ensures ∙ ap (λ (pool : Pool). map string (member_ids pool drawn.panel)) c.pool.ensures in
     let panel = compact_text (array (items_view values)) in
+    let tickets = option_map (λ (text : String Global). string_bytes text) c.in_ok-number.number in
     let whole =
-    ap (λ (d : List ℕ). draw_text d panel c.as_str-2.result.now c.as_str-3.result.now) digits
-    ∙ (ap (λ (s : List ℕ). draw_text c.args.digits.now panel s c.as_str-3.result.now) kept
-    ∙ (ap (λ (t : List ℕ). draw_text c.args.digits.now panel (bundle_seal bundle) t) ticket
-    ∙ drawn_as_text bundle c.args.digits.now drawn values c.requires.drawn named)) in
+    ap (λ (d : List ℕ). draw_text d panel c.as_str-2.result.now c.as_str-3.result.now tickets) digits
+    ∙ (ap (λ (s : List ℕ). draw_text c.args.digits.now panel s c.as_str-3.result.now tickets) kept
+    ∙ (ap (λ (t : List ℕ). draw_text c.args.digits.now panel (bundle_seal bundle) t tickets) ticket
+    ∙ (ap (λ (t : Option (List ℕ)). draw_text c.args.digits.now panel (bundle_seal bundle) (decimal (unsigned_abs drawn.ticket)) t) c.in_ok-number.ensures
+    ∙ drawn_as_text bundle c.args.tickets.now c.args.digits.now drawn values c.requires.drawn named))) in
     IfOk-weaker c.draw_body.result _ _ (λ body is. is ∙ whole) c.draw_body.ensures

@@ -1,4 +1,4 @@
-use Rattle.std.proofs.Common.{◌≡◌, ◌∷◌, [], ◌++◌, append_assoc, ap, ◌∙◌}
+use Rattle.std.proofs.Common.{◌∷◌, [], ◌++◌, append_assoc, ap, ◌∙◌}
 use Rattle.define_legs.specs.LegTexts.{bound_field}
 use Rattle.define_legs.specs.Legs.{leg_bases}
 use Rattle.define_lines.specs.Lines.{line_feed}

@@ -2,7 +2,7 @@ use Rattle.std.proofs.Common.{◌≡◌, ◌<◌, ◌∙◌, ◌++◌, ap, get_o
 use Rattle.std.proofs.lemmas.List.{take_all}
 use Rattle.define_pools.proofs.Each.{below_at}
 use Rattle.define_lines.specs.Lines.{text_of}
-use Rattle.define_offices.specs.Lines.{member_ids}
+use Rattle.define_draws.specs.Lines.{member_ids}
 use Rattle.define_offices.specs.Report.{member_line}
 use Rattle.define_offices.proofs.VolunteerSteps.{member_added}
 use Rattle.office_reports.proofs.report_heads.push_members.Goals as goal

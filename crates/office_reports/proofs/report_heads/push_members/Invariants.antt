@@ -1,6 +1,6 @@
 use Rattle.std.proofs.Common.{◌≡◌, ◌++◌, map, take}
 use Rattle.define_lines.specs.Lines.{text_of}
-use Rattle.define_offices.specs.Lines.{member_ids}
+use Rattle.define_draws.specs.Lines.{member_ids}
 use Rattle.define_offices.specs.Report.{member_line}
 use Rattle.office_reports.proofs.report_heads.push_members.Given as goal
 

@@ -1,8 +1,15 @@
-use Rattle.std.proofs.Common.{◌≡◌, drop}
+use Rattle.std.proofs.Common.{◌≡◌, ℕ, true, List, map, take}
+use Rattle.std.specs.BTreeSet.{contains_by}
+use Rattle.std.specs.Cmp.Lexicographic.{slice_cmp}
+use Rattle.std.specs.Ordering.{nat_cmp}
 use Rattle.define_pools.specs.Lists.{all_different}
-use Rattle.define_offices.specs.Facts.{entry_ids}
+use Rattle.define_offices.specs.Tables.{Entry}
+use Rattle.office_tables.proofs.Different.{came}
 use Rattle.office_tables.proofs.checking.ids_differ.Given as goal
 
--- the ids before row `i` differ from all others, so all ids differ exactly if those from row `i` on do
-abbrev pub invariant-loop-i : goal.invariant-loop-i
-invariant-loop-i l = all_different (entry_ids (drop l.i l.register)) ≡ all_different (entry_ids l.register)
+-- the ids read so far all differ, and the set has exactly these
+abbrev pub invariant-loop-entry : goal.invariant-loop-entry
+invariant-loop-entry l = record {
+  once : all_different (map (λ (entry : Entry). entry.id) (take l.entry-index l.register)) ≡ true;
+  kept : (xs : List ℕ) → contains_by (λ k. slice_cmp nat_cmp xs k.now) l.earlier ≡ came (λ (entry : Entry). entry.id) (take l.entry-index l.register) xs;
+}

@@ -1,7 +1,7 @@
 use Rattle.std.proofs.Common.{◌≡◌, ◌∙◌, ◌+◌, ◌||◌, ap, ap₂, sym, true, take}
 use Rattle.std.proofs.Math.Bool.{or-true}
 use Rattle.define_pools.specs.Lists.{includes_list}
-use Rattle.define_offices.specs.Lines.{member_ids}
+use Rattle.define_draws.specs.Lines.{member_ids}
 use Rattle.office_tables.proofs.KeptParts.{member_among, member_step}
 use Rattle.office_tables.proofs.drawn.is_member.Goals as goal
 

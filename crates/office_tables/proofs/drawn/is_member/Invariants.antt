@@ -1,6 +1,6 @@
 use Rattle.std.proofs.Common.{◌≡◌, false, take}
 use Rattle.define_pools.specs.Lists.{includes_list}
-use Rattle.define_offices.specs.Lines.{member_ids}
+use Rattle.define_draws.specs.Lines.{member_ids}
 use Rattle.office_tables.proofs.drawn.is_member.Given as goal
 
 -- no member read so far has the id

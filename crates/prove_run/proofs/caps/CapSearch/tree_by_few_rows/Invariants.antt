@@ -1,6 +1,0 @@
-use Rattle.prove_limits.specs.Budgets.{SpendsOn}
-use Rattle.prove_run.specs.Shapes.{IsCapSearch}
-use Rattle.prove_run.proofs.caps.CapSearch.tree_by_few_rows.Given as goal
-
-abbrev pub invariant-stages : goal.invariant-stages
-invariant-stages l = IsCapSearch l.few × SpendsOn l.fn.budget l.budget

@@ -1,6 +1,0 @@
-use Rattle.prove_limits.specs.Budgets.{SpendsOn}
-use Rattle.prove_run.specs.Shapes.{IsCapSearch}
-use Rattle.prove_run.proofs.trees.searched_trees.Given as goal
-
-abbrev pub invariant-loop-stage : goal.invariant-loop-stage
-invariant-loop-stage l = IsCapSearch l.search × SpendsOn l.fn.trees l.trees
