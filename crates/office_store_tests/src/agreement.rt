@@ -1,7 +1,7 @@
 //! Does each command of an assembly over a keeper in memory and over a store. After each command, a new keeper over the store's connection
 //! must load what the keeper in memory holds. At the end the files are closed and opened again, and a keeper over them must load the same.
 
-use crate::assembly::{CORRECTED, ENROLLED, HOUSEHOLDS, PLAIN, Row, SEALED, done};
+use crate::assembly::{CORRECTED, HOUSEHOLDS, PLAIN, Row, done};
 use crate::disks::{Stored, closed, loaded, nothing, opened, spelled};
 use office_core::Keeper;
 use office_keeper::{MapKeeper, SqliteOver};
@@ -21,16 +21,36 @@ fn agrees(alloc: Global, over: &mut SqliteOver<Stored>, map: &MapKeeper) -> bool
     held.is_some() && held == spelled(alloc, map.tables())
 }
 
+/// Does the command of a row over both keepers. Returns a new keeper over the store's connection, or None if a command doesn't end as the
+/// row says, or the new keeper doesn't load what the keeper in memory holds.
+fn after_row<R: Threads + Sync>(
+    rt: &R,
+    alloc: Global,
+    map: &mut MapKeeper,
+    mut over: SqliteOver<Stored>,
+    row: &Row,
+) -> Option<SqliteOver<Stored>> {
+    if !ends(rt, alloc, map, row) || !ends(rt, alloc, &mut over, row) {
+        return None;
+    }
+    let mut renewed = SqliteOver::new(over.into_connection());
+    if agrees(alloc, &mut renewed, map) {
+        Some(renewed)
+    } else {
+        None
+    }
+}
+
 /// Does the commands of an assembly over both keepers.
 fn agree<R: Threads + Sync + Abort>(rt: &R, alloc: Global, rows: &[Row]) -> Option<()> {
     let mut map = MapKeeper::new(alloc, &[]).ok()?;
     let mut over = SqliteOver::new(opened(alloc, &nothing(alloc))?);
     assert!(rt; agrees(alloc, &mut over, &map));
     for (place, row) in rows.iter().enumerate() {
-        assert!(rt; ends(rt, alloc, &mut map, row), "row {place}");
-        assert!(rt; ends(rt, alloc, &mut over, row), "row {place}");
-        over = SqliteOver::new(over.into_connection());
-        assert!(rt; agrees(alloc, &mut over, &map), "row {place}");
+        match after_row(rt, alloc, &mut map, over, row) {
+            Some(renewed) => over = renewed,
+            None => panic!(rt; "row {place}"),
+        }
     }
     let kept = closed(alloc, over.into_connection())?;
     let mut again = SqliteOver::new(opened(alloc, &kept)?);
@@ -40,7 +60,7 @@ fn agree<R: Threads + Sync + Abort>(rt: &R, alloc: Global, rows: &[Row]) -> Opti
 
 #[test]
 fn keepers_agree(rt: HostRuntime) {
-    for rows in [PLAIN, HOUSEHOLDS, ENROLLED, SEALED, CORRECTED] {
+    for rows in [PLAIN, HOUSEHOLDS, CORRECTED] {
         assert!(rt; agree(&rt, rt.alloc(), rows).is_some());
     }
 }

@@ -127,16 +127,6 @@ pub(crate) const ENROLLED: &[Row] = &[
     (Asked::Withdraw("k5"), Ending::Refuses),
 ];
 
-/// The same round without a withdrawal, which is solved and then sealed, when nobody may withdraw.
-pub(crate) const SEALED: &[Row] = &[
-    (Asked::Rules, Ending::Replies),
-    (Asked::Register(FOUR), Ending::Replies),
-    (Asked::Charter(CHARTER), Ending::Replies),
-    (Asked::Solve(1), Ending::Replies),
-    (Asked::Seal, Ending::Replies),
-    (Asked::Withdraw("k4"), Ending::Refuses),
-];
-
 /// An assembly whose commands make each change that a store of version 2 has no place for, and take changes back. The first round is drawn
 /// in 10 tickets.
 pub(crate) const CORRECTED: &[Row] = &[

@@ -2,7 +2,7 @@
 //! fails, counts one fault and changes nothing.
 
 use crate::assembly::{HOUSEHOLDS, done};
-use crate::disks::{Stored, loaded, nothing, opened, rows_of, spelled};
+use crate::disks::{Stored, loaded, nothing, opened, rows_of, run, spelled};
 use office_core::Keeper;
 use office_keeper::{MapKeeper, SqliteOver};
 use sqlite::{Connection, params};
@@ -194,8 +194,8 @@ fn outcome_of(alloc: Global, keeper: &mut SqliteOver<Stored>) -> Taken {
 /// of the store stay the same.
 fn is_taken(alloc: Global, first: &str, change: &str, wanted: Taken) -> Option<bool> {
     let mut connection = store(alloc)?;
-    connection.execute_batch(first).ok()?;
-    connection.execute_batch(change).ok()?;
+    run(&mut connection, first)?;
+    run(&mut connection, change)?;
     let before = rows_of(alloc, &mut connection)?;
     let mut keeper = SqliteOver::new(connection);
     let is_wanted = outcome_of(alloc, &mut keeper) == wanted;
@@ -210,10 +210,15 @@ fn store(alloc: Global) -> Option<Connection<Stored>> {
     let mut keeper = SqliteOver::new(opened(alloc, &nothing(alloc))?);
     keeper.attach(alloc, "").ok()?;
     let mut connection = keeper.into_connection();
-    connection.execute_batch(STORE).ok()?;
-    let draw = "UPDATE round SET phase = 3, bundle = ?1, digits = '0' WHERE number = 1";
-    connection.execute(draw, params![BUNDLE]).ok()?;
+    run(&mut connection, STORE)?;
+    draw_first(&mut connection)?;
     Some(connection)
+}
+
+/// Marks round 1 as drawn from `BUNDLE` by the digit 0.
+fn draw_first(connection: &mut Connection<Stored>) -> Option<usize> {
+    let draw = "UPDATE round SET phase = 3, bundle = ?1, digits = '0' WHERE number = 1";
+    connection.execute(draw, params![BUNDLE]).ok()
 }
 
 /// Returns the tables of `HOUSEHOLDS`, as a text.
@@ -239,7 +244,7 @@ fn judge(rt: &impl Abort, alloc: Global, first: &str, changes: &[&str], wanted: 
 /// Returns the tables that are loaded after a change by hand, as a text.
 fn loaded_after(alloc: Global, change: &str) -> Option<String> {
     let mut connection = store(alloc)?;
-    connection.execute_batch(change).ok()?;
+    run(&mut connection, change)?;
     let mut keeper = SqliteOver::new(connection);
     loaded(alloc, &mut keeper, "")
 }

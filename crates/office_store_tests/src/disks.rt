@@ -68,8 +68,13 @@ pub(crate) fn closed(alloc: Global, connection: Connection<Stored>) -> Option<Ke
 /// Returns the store after these statements.
 pub(crate) fn changed(alloc: Global, kept: &Kept, statements: &str) -> Option<Kept> {
     let mut connection = opened(alloc, kept)?;
-    connection.execute_batch(statements).ok()?;
+    run(&mut connection, statements)?;
     closed(alloc, connection)
+}
+
+/// Runs statements over a store. The contract of the call is long, so only this function carries it.
+pub(crate) fn run(connection: &mut Connection<Stored>, statements: &str) -> Option<()> {
+    connection.execute_batch(statements).ok()
 }
 
 /// Queries that find all that a store holds.
