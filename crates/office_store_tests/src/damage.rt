@@ -1,10 +1,10 @@
-//! Stores that were changed by hand. A store is loaded if its rows still make tables of which `IsTables` holds. Over any other store a call
-//! fails, counts one fault and changes nothing.
+//! Tests of stores that were changed by hand. A store is loaded if its rows still make tables of which `IsTables` holds. Over any other store
+//! a call fails and changes nothing, and not for want of memory; so it counts one fault, by its contract.
 
-use crate::assembly::{HOUSEHOLDS, done};
-use crate::disks::{Stored, loaded, nothing, opened, rows_of, spelled};
-use office_core::Keeper;
-use office_keeper::{MapKeeper, SqliteOver};
+use crate::assembly::{HOUSEHOLDS, held_after};
+use crate::disks::{Kept, Stored, changed, closed, loaded_of, nothing, opened, rows_of};
+use office_core::{Keeper, KeeperStop};
+use office_keeper::SqliteOver;
 use sqlite::{Connection, params};
 use std::alloc::Global;
 use std::process::Abort;
@@ -20,6 +20,24 @@ enum Taken {
     /// Its `attach` fails.
     Refused,
 }
+
+/// Gives a new store the rows that a store has after all commands of `HOUSEHOLDS`, except round 1.
+const STORE: &str = "
+INSERT INTO charter VALUES (1, 'River', 2);
+INSERT INTO bound VALUES (0, 'gender', 0, 'female', 1, 1), (0, 'gender', 1, 'male', 1, 1);
+INSERT INTO volunteer VALUES
+    (0, 'a', 'ba7816bf8f01cfea414140de5dae2223b00361a396177a9cb410ff61f20015ad', 'female', 0),
+    (1, 'b', '015f7e6bc5aeaf483724089e9252cc13b50951a6b69412522765cff4d780306e', 'female', 0),
+    (2, 'c', '2f5052c9fd15b19a18c584d01363568198613f0c34e84409ef7938709a159ec2', 'male', 0),
+    (3, 'd', '94091dd64a21ffe94214bc6d17deeb43873a5cf2f0a71b4b5caa9a5c81b6967d', 'male', 0),
+    (4, 'e', '88dbf612972c594a2c2f6dde493ef1c4cd27adba8c36e6ebd00b89ff143aba61', 'male', 1);
+INSERT INTO household VALUES (0, 'h'), (2, 'h');
+INSERT INTO round VALUES (2, 0, x'', '');
+INSERT INTO dropped VALUES (1, 0, 'a');
+";
+
+/// Makes round 1 of a new store the round that it is after all commands of `HOUSEHOLDS`, drawn from `BUNDLE`.
+const DRAW: &str = "UPDATE round SET phase = 3, bundle = ?1, digits = '0' WHERE number = 1";
 
 /// The bundle of round 1.
 const BUNDLE: &[u8] = b"\
@@ -46,21 +64,6 @@ stage\t1\t1\t1\t0\t0\t-2
 stage\t0\t0\t-1\t1\t0\t0
 stage\t0\t-1\t1\t-1\t1\t0
 done
-";
-
-/// The rows of a store after all commands of `HOUSEHOLDS`, except round 1, which a new store has already.
-const STORE: &str = "
-INSERT INTO charter VALUES (1, 'River', 2);
-INSERT INTO bound VALUES (0, 'gender', 0, 'female', 1, 1), (0, 'gender', 1, 'male', 1, 1);
-INSERT INTO volunteer VALUES
-    (0, 'a', 'ba7816bf8f01cfea414140de5dae2223b00361a396177a9cb410ff61f20015ad', 'female', 0),
-    (1, 'b', '015f7e6bc5aeaf483724089e9252cc13b50951a6b69412522765cff4d780306e', 'female', 0),
-    (2, 'c', '2f5052c9fd15b19a18c584d01363568198613f0c34e84409ef7938709a159ec2', 'male', 0),
-    (3, 'd', '94091dd64a21ffe94214bc6d17deeb43873a5cf2f0a71b4b5caa9a5c81b6967d', 'male', 0),
-    (4, 'e', '88dbf612972c594a2c2f6dde493ef1c4cd27adba8c36e6ebd00b89ff143aba61', 'male', 1);
-INSERT INTO household VALUES (0, 'h'), (2, 'h');
-INSERT INTO round VALUES (2, 0, x'', '');
-INSERT INTO dropped VALUES (1, 0, 'a');
 ";
 
 /// Changes of `STORE` by hand after which its rows are still those of tables.
@@ -136,6 +139,9 @@ const OTHER: &[&str] = &[
     "DROP TABLE meta; CREATE TABLE meta (other INTEGER NOT NULL) STRICT; INSERT INTO meta VALUES (2)",
 ];
 
+/// Brings a store of version 2 back to version 1, which has no households.
+pub(crate) const FIRST: &str = "DROP TABLE household; UPDATE meta SET version = 1";
+
 /// Leaves the store at version 2.
 const SECOND: &str = "UPDATE meta SET version = 2";
 
@@ -179,82 +185,125 @@ const THIRD_UNSOUND: &[&str] = &[
     "INSERT INTO round_bound VALUES (0, 'key', 0, 'female', 0, 1)",
 ];
 
-/// Attaches a keeper and loads its tables. Returns how that ended.
-fn outcome_of(alloc: Global, keeper: &mut SqliteOver<Stored>) -> Taken {
-    if keeper.attach(alloc, "").is_err() {
-        return Taken::Refused;
+/// A first change of a store by hand, further ones, and what a new keeper does with the store after the first one and any one of the others.
+type Table = (&'static str, &'static [&'static str], Taken);
+
+const TABLES: &[Table] = &[
+    (SECOND, SOUND, Taken::Loaded),
+    (SECOND, UNSOUND, Taken::Unsound),
+    (SECOND, OTHER, Taken::Refused),
+    (THIRD, SOUND, Taken::Loaded),
+    (THIRD, THIRD_SOUND, Taken::Loaded),
+    (THIRD, THIRD_UNSOUND, Taken::Unsound),
+];
+
+/// Returns `taken` for a call that failed, or None if memory ran out.
+fn failed(stop: KeeperStop, taken: Taken) -> Option<Taken> {
+    match stop {
+        KeeperStop::Failed => Some(taken),
+        KeeperStop::OutOfMemory => None,
     }
-    match keeper.load(alloc) {
-        Ok(_) => Taken::Loaded,
-        Err(_) => Taken::Unsound,
+}
+
+/// Attaches a keeper and loads its tables. Returns how that ended, or None if memory ran out.
+fn outcome_of(alloc: Global, keeper: &mut SqliteOver<Stored>) -> Option<Taken> {
+    match keeper.attach(alloc, "") {
+        Ok(()) => match keeper.load(alloc) {
+            Ok(_) => Some(Taken::Loaded),
+            Err(stop) => failed(stop, Taken::Unsound),
+        },
+        Err(stop) => failed(stop, Taken::Refused),
     }
 }
 
-/// True if, after both changes by hand, a new keeper does with the store what `wanted` says, a call that fails counts a fault, and the rows
-/// of the store stay the same.
-fn is_taken(alloc: Global, first: &str, change: &str, wanted: Taken) -> Option<bool> {
-    let mut connection = store(alloc)?;
-    connection.execute_batch(first).ok()?;
-    connection.execute_batch(change).ok()?;
-    let before = rows_of(alloc, &mut connection)?;
-    let mut keeper = SqliteOver::new(connection);
-    let is_wanted = outcome_of(alloc, &mut keeper) == wanted;
-    let is_counted = keeper.faults() == u64::from(wanted != Taken::Loaded);
-    let mut connection = keeper.into_connection();
-    let after = rows_of(alloc, &mut connection)?;
-    Some(is_wanted && is_counted && before == after)
-}
-
-/// Returns a store in memory with the rows of `STORE`, and with round 1 as drawn from `BUNDLE` by the digit 0.
-fn store(alloc: Global) -> Option<Connection<Stored>> {
-    let mut keeper = SqliteOver::new(opened(alloc, &nothing(alloc))?);
-    keeper.attach(alloc, "").ok()?;
-    let mut connection = keeper.into_connection();
-    connection.execute_batch(STORE).ok()?;
-    let draw = "UPDATE round SET phase = 3, bundle = ?1, digits = '0' WHERE number = 1";
-    connection.execute(draw, params![BUNDLE]).ok()?;
-    Some(connection)
-}
-
-/// Returns the tables of `HOUSEHOLDS`, as a text.
-fn assembled<R: Threads + Sync>(rt: &R, alloc: Global) -> Option<String> {
-    let mut map = MapKeeper::new(alloc, &[]).ok()?;
-    for (asked, _) in HOUSEHOLDS {
-        let _ = done(rt, alloc, &mut map, *asked)?;
+/// Attaches a keeper over a store, loads its tables, and closes the store. Returns its files, or None if that didn't end as `wanted` says.
+fn after_load(alloc: Global, kept: &Kept, wanted: Taken) -> Option<Kept> {
+    let mut keeper = SqliteOver::new(opened(alloc, kept)?);
+    if outcome_of(alloc, &mut keeper) != Some(wanted) {
+        return None;
     }
-    spelled(alloc, map.tables())
+    closed(alloc, keeper.into_connection())
 }
 
-/// Makes each of these changes by itself, after the change `first`, and asserts that a new keeper then does with the store what `wanted`
-/// says.
-fn judge(rt: &impl Abort, alloc: Global, first: &str, changes: &[&str], wanted: Taken) {
+/// True if, after a change by hand, a new keeper does with the store what `wanted` says, and its rows stay the same.
+fn is_taken(alloc: Global, kept: &Kept, change: &str, wanted: Taken) -> bool {
+    match changed(alloc, kept, change) {
+        Some(kept) => stays(alloc, &kept, wanted),
+        None => false,
+    }
+}
+
+/// True if a new keeper does with the store what `wanted` says, and its rows stay the same.
+fn stays(alloc: Global, kept: &Kept, wanted: Taken) -> bool {
+    match after_load(alloc, kept, wanted) {
+        Some(left) => {
+            let rows = rows_of(alloc, &left);
+            rows.is_some() && rows == rows_of(alloc, kept)
+        }
+        None => false,
+    }
+}
+
+/// Makes the change `DRAW`. The contract of the call is long, so this function alone has it.
+fn draw(connection: &mut Connection<Stored>) -> Option<usize> {
+    connection.execute(DRAW, params![BUNDLE]).ok()
+}
+
+/// Returns the store after `DRAW`.
+fn drawn(alloc: Global, kept: &Kept) -> Option<Kept> {
+    let mut connection = opened(alloc, kept)?;
+    draw(&mut connection)?;
+    closed(alloc, connection)
+}
+
+/// Returns the store after all commands of `HOUSEHOLDS`, made by hand.
+pub(crate) fn store(alloc: Global) -> Option<Kept> {
+    let new = after_load(alloc, &nothing(alloc), Taken::Loaded)?;
+    drawn(alloc, &changed(alloc, &new, STORE)?)
+}
+
+/// Makes each of these changes by itself, and asserts that a new keeper then does with the store what `wanted` says.
+fn judge(rt: &impl Abort, alloc: Global, kept: &Kept, changes: &[&str], wanted: Taken) {
     for change in changes {
-        assert!(rt;
-            is_taken(alloc, first, change, wanted) == Some(true),
-            "{change}"
-        );
+        assert!(rt; is_taken(alloc, kept, change, wanted), "{change}");
     }
+}
+
+/// Makes the changes of each table, and asserts that a new keeper then does with the store what the table says.
+fn judge_all(rt: &impl Abort, alloc: Global, kept: &Kept) -> Option<()> {
+    for (first, changes, wanted) in TABLES {
+        let kept = changed(alloc, kept, first)?;
+        judge(rt, alloc, &kept, changes, *wanted);
+    }
+    Some(())
 }
 
 /// Returns the tables that are loaded after a change by hand, as a text.
-fn loaded_after(alloc: Global, change: &str) -> Option<String> {
-    let mut connection = store(alloc)?;
-    connection.execute_batch(change).ok()?;
-    let mut keeper = SqliteOver::new(connection);
-    loaded(alloc, &mut keeper, "")
+fn loaded_after(alloc: Global, kept: &Kept, change: &str) -> Option<String> {
+    loaded_of(alloc, &changed(alloc, kept, change)?)
+}
+
+/// True if the store has the tables of `HOUSEHOLDS`.
+fn is_assembled<R: Threads + Sync>(rt: &R, alloc: Global, kept: &Kept) -> bool {
+    let whole = loaded_of(alloc, kept);
+    whole.is_some() && whole == held_after(rt, alloc, HOUSEHOLDS)
+}
+
+/// True if a store of version 1 is loaded as one of version 2 in which there are none.
+fn is_raised(alloc: Global, kept: &Kept) -> bool {
+    let raised = loaded_after(alloc, kept, FIRST);
+    raised.is_some() && raised == loaded_after(alloc, kept, "DELETE FROM household")
+}
+
+/// Asserts what the tests say of stores that were changed by hand.
+fn judge_store<R: Threads + Sync + Abort>(rt: &R, alloc: Global) -> Option<()> {
+    let kept = store(alloc)?;
+    assert!(rt; is_assembled(rt, alloc, &kept));
+    assert!(rt; is_raised(alloc, &kept));
+    judge_all(rt, alloc, &kept)
 }
 
 #[test]
 fn changes_by_hand_are_judged(rt: HostRuntime) {
-    let alloc = rt.alloc();
-    judge(&rt, alloc, SECOND, SOUND, Taken::Loaded);
-    judge(&rt, alloc, SECOND, UNSOUND, Taken::Unsound);
-    judge(&rt, alloc, SECOND, OTHER, Taken::Refused);
-    judge(&rt, alloc, THIRD, SOUND, Taken::Loaded);
-    judge(&rt, alloc, THIRD, THIRD_SOUND, Taken::Loaded);
-    judge(&rt, alloc, THIRD, THIRD_UNSOUND, Taken::Unsound);
-    let whole = loaded_after(alloc, "UPDATE meta SET version = 2");
-    assert!(rt; whole.is_some() && whole == assembled(&rt, alloc));
-    let raised = loaded_after(alloc, "DROP TABLE household; UPDATE meta SET version = 1");
-    assert!(rt; raised.is_some() && raised == loaded_after(alloc, "DELETE FROM household"));
+    assert!(rt; judge_store(&rt, rt.alloc()).is_some());
 }

@@ -1,6 +1,7 @@
 //! Stores in memory as two files, a database and its log.
 
 use office_core::{Keeper, Tables};
+use office_keeper::SqliteOver;
 use sqlite::{Connection, FileStore, Files, Options};
 use sqlite_disk::{Disk, Fuse, Memory};
 use std::alloc::Global;
@@ -65,10 +66,15 @@ pub(crate) fn closed(alloc: Global, connection: Connection<Stored>) -> Option<Ke
     bytes_of(alloc, &files)
 }
 
+/// Runs statements. The contract of the call is long, so this function alone has it.
+fn run(connection: &mut Connection<Stored>, statements: &str) -> Option<()> {
+    connection.execute_batch(statements).ok()
+}
+
 /// Returns the store after these statements.
 pub(crate) fn changed(alloc: Global, kept: &Kept, statements: &str) -> Option<Kept> {
     let mut connection = opened(alloc, kept)?;
-    connection.execute_batch(statements).ok()?;
+    run(&mut connection, statements)?;
     closed(alloc, connection)
 }
 
@@ -88,7 +94,13 @@ const ALL: &[&str] = &[
 ];
 
 /// Returns the rows of all tables, as a text. Of a table that isn't there, which version 2 hasn't, it has the error.
-pub(crate) fn rows_of(alloc: Global, connection: &mut Connection<Stored>) -> Option<String> {
+pub(crate) fn rows_of(alloc: Global, kept: &Kept) -> Option<String> {
+    let mut connection = opened(alloc, kept)?;
+    all_found(alloc, &mut connection)
+}
+
+/// Returns what all queries find, as a text.
+fn all_found(alloc: Global, connection: &mut Connection<Stored>) -> Option<String> {
     let mut all = String::new(alloc);
     for query in ALL {
         let rows = found(alloc, connection, query)?;
@@ -103,9 +115,20 @@ fn found(alloc: Global, connection: &mut Connection<Stored>, query: &str) -> Opt
     format!(in alloc; "{rows:?}").ok()
 }
 
+/// Attaches a keeper over a store, and returns what it loads, as a text.
+pub(crate) fn loaded_of(alloc: Global, kept: &Kept) -> Option<String> {
+    let mut keeper = SqliteOver::new(opened(alloc, kept)?);
+    loaded(alloc, &mut keeper, "")
+}
+
 /// Attaches a keeper, and returns what it loads, as a text.
 pub(crate) fn loaded<K: Keeper>(alloc: Global, keeper: &mut K, path: &str) -> Option<String> {
     keeper.attach(alloc, path).ok()?;
+    told(alloc, keeper)
+}
+
+/// Returns what a keeper loads, as a text.
+pub(crate) fn told<K: Keeper>(alloc: Global, keeper: &mut K) -> Option<String> {
     let tables = keeper.load(alloc).ok()?;
     spelled(alloc, &tables)
 }

@@ -3,8 +3,9 @@
 //! again, it must hold what it held before the step, or what it holds after it.
 
 use crate::assembly::{Asked, FURTHER, HOUSEHOLDS, Row, command_of, done};
+use crate::damage::{FIRST, store};
 use crate::disks::{
-    Kept, Stored, bytes_of, changed, closed, files, loaded, nothing, opened, rows_of,
+    Kept, Stored, bytes_of, changed, closed, files, loaded_of, nothing, opened, rows_of,
 };
 use office_core::{Change, Keeper, Tables, decide};
 use office_keeper::{MapKeeper, SqliteOver};
@@ -12,8 +13,10 @@ use outside::NoWatch;
 use sqlite::{Connection, Files, Options};
 use sqlite_disk::{Crash, Fuse, Memory};
 use std::alloc::Global;
-use std::process::Abort;
 use std::thread::Threads;
+
+/// The assemblies whose changes are stored. Each row makes one.
+const ASSEMBLIES: &[&[Row]] = &[HOUSEHOLDS, FURTHER];
 
 /// How far a step got. A step opens and attaches a store, and stores a change if there is one.
 #[derive(Clone, Copy, PartialEq, Eq)]
@@ -85,53 +88,92 @@ fn stopped(
 
 /// Returns the rows of a store, or None if it can't be attached and loaded.
 fn held(alloc: Global, kept: &Kept) -> Option<String> {
-    let mut connection = opened(alloc, kept)?;
-    let rows = rows_of(alloc, &mut connection);
-    let mut keeper = SqliteOver::new(connection);
-    if loaded(alloc, &mut keeper, "").is_none() {
+    if loaded_of(alloc, kept).is_none() {
         return None;
     }
-    rows
+    rows_of(alloc, kept)
 }
 
-/// Stops a step at each call of the log if `of_log` holds, else at each call of the database. Asserts that the store then holds what it
-/// held before the step, or what the whole step leaves; and that it holds the latter if the step was done.
-fn stop_at_each(
-    rt: &impl Abort,
+/// What a step finds and leaves if nothing stops it.
+#[derive(Drop)]
+struct Whole {
+    before: String,
+    after: String,
+}
+
+/// Returns what a step finds and leaves if nothing stops it.
+fn whole_of(alloc: Global, kept: &Kept, change: &Option<Change>) -> Option<Whole> {
+    let before = held(alloc, kept)?;
+    let (_, left) = stopped(alloc, kept, change, u64::MAX, u64::MAX)?;
+    let after = held(alloc, &left)?;
+    Some(Whole { before, after })
+}
+
+/// Returns how many calls the log and the database do if `calls` is the number of one of them, and nothing stops the other.
+fn limits_at(of_log: bool, calls: u64) -> (u64, u64) {
+    if of_log {
+        (calls, u64::MAX)
+    } else {
+        (u64::MAX, calls)
+    }
+}
+
+/// Does a step of which the log and the database do `limits` calls. Returns whether it is done, or None if the store then holds neither what
+/// the whole step leaves nor, unless it is done, what it held before.
+fn stop_once(
     alloc: Global,
     kept: &Kept,
     change: &Option<Change>,
-    of_log: bool,
-) -> Option<()> {
-    let before = held(alloc, kept)?;
-    let (_, whole) = stopped(alloc, kept, change, u64::MAX, u64::MAX)?;
-    let after = held(alloc, &whole)?;
-    for calls in 0..10000u64 {
-        let (log_calls, db_calls) = if of_log {
-            (calls, u64::MAX)
-        } else {
-            (u64::MAX, calls)
-        };
-        let (far, left) = stopped(alloc, kept, change, log_calls, db_calls)?;
-        let left = held(alloc, &left)?;
-        let is_done = far == Far::Done;
-        assert!(rt; left == after || !is_done && left == before, "call {calls}");
-        if is_done {
-            assert!(rt; calls > 0);
-            return Some(());
-        }
+    whole: &Whole,
+    limits: (u64, u64),
+) -> Option<bool> {
+    let (log_calls, db_calls) = limits;
+    let (far, left) = stopped(alloc, kept, change, log_calls, db_calls)?;
+    let left = held(alloc, &left)?;
+    let is_done = far == Far::Done;
+    if left == whole.after || !is_done && left == whole.before {
+        Some(is_done)
+    } else {
+        None
     }
-    None
 }
 
-/// Stops a step at each call of the log, then at each call of the database. Returns the store that the step leaves if nothing stops it.
-fn stop(rt: &impl Abort, alloc: Global, kept: &Kept, change: &Option<Change>) -> Option<Kept> {
-    stop_at_each(rt, alloc, kept, change, true)?;
-    stop_at_each(rt, alloc, kept, change, false)?;
+/// Stops a step at each call of the log if `of_log` holds, else at each call of the database. True if each stop leaves all of it or nothing.
+fn is_whole(
+    alloc: Global,
+    kept: &Kept,
+    change: &Option<Change>,
+    whole: &Whole,
+    of_log: bool,
+) -> bool {
+    for calls in 0..10000u64 {
+        match stop_once(alloc, kept, change, whole, limits_at(of_log, calls)) {
+            Some(false) => {}
+            Some(true) => return calls > 0,
+            None => return false,
+        }
+    }
+    false
+}
+
+/// Does a step that nothing stops. Returns the store that it leaves.
+fn after_step(alloc: Global, kept: &Kept, change: &Option<Change>) -> Option<Kept> {
     let mut keeper = SqliteOver::new(opened(alloc, kept)?);
-    let far = step(alloc, &mut keeper, change);
-    assert!(rt; far == Far::Done);
+    if step(alloc, &mut keeper, change) != Far::Done {
+        return None;
+    }
     closed(alloc, keeper.into_connection())
+}
+
+/// Stops a step at each call of the log, then at each call of the database. Returns the store that the step leaves if nothing stops it, or
+/// None if a stop leaves a part of it.
+fn stop(alloc: Global, kept: &Kept, change: &Option<Change>) -> Option<Kept> {
+    let whole = whole_of(alloc, kept, change)?;
+    if is_whole(alloc, kept, change, &whole, true) && is_whole(alloc, kept, change, &whole, false) {
+        after_step(alloc, kept, change)
+    } else {
+        None
+    }
 }
 
 /// Returns the change that a command makes over these tables.
@@ -146,33 +188,53 @@ fn change_of<R: Threads + Sync>(
     change
 }
 
-/// Stops each step of an assembly: making a new store, and storing the change of each row. Returns the store at the end.
-fn stop_rows<R: Threads + Sync + Abort>(rt: &R, alloc: Global, rows: &[Row]) -> Option<Kept> {
-    let mut kept = stop(rt, alloc, &nothing(alloc), &None)?;
-    let mut map = MapKeeper::new(alloc, &[]).ok()?;
-    for (asked, _) in rows {
-        let change = change_of(rt, alloc, map.tables(), *asked);
-        assert!(rt; change.is_some());
-        kept = stop(rt, alloc, &kept, &change)?;
-        let _ = done(rt, alloc, &mut map, *asked);
+/// Stops the step that stores the change of a command, and does the command over the keeper in memory. Returns the store after it, or None if
+/// a stop leaves a part of the change, or there is none.
+fn after_row<R: Threads + Sync>(
+    rt: &R,
+    alloc: Global,
+    kept: &Kept,
+    map: &mut MapKeeper,
+    asked: Asked,
+) -> Option<Kept> {
+    let change = change_of(rt, alloc, map.tables(), asked);
+    if change.is_none() {
+        return None;
     }
-    Some(kept)
+    let _ = done(rt, alloc, map, asked)?;
+    stop(alloc, kept, &change)
 }
 
-/// Stops each step of two assemblies, and bringing a store of version 1 to version 2.
-fn stop_all<R: Threads + Sync + Abort>(rt: &R, alloc: Global) -> Option<()> {
-    let _ = stop_rows(rt, alloc, FURTHER)?;
-    let kept = stop_rows(rt, alloc, HOUSEHOLDS)?;
-    let first = changed(
-        alloc,
-        &kept,
-        "DROP TABLE household; UPDATE meta SET version = 1",
-    )?;
-    let _ = stop(rt, alloc, &first, &None)?;
+/// Stops each step of an assembly that stores a change. Returns the place of the first row that isn't stored whole or not at all, if there is
+/// one.
+fn differing<R: Threads + Sync>(rt: &R, alloc: Global, rows: &[Row]) -> Option<usize> {
+    let Ok(mut map) = MapKeeper::new(alloc, &[]) else {
+        return Some(0);
+    };
+    let Some(mut kept) = after_step(alloc, &nothing(alloc), &None) else {
+        return Some(0);
+    };
+    for (place, (asked, _)) in rows.iter().enumerate() {
+        match after_row(rt, alloc, &kept, &mut map, *asked) {
+            Some(left) => kept = left,
+            None => return Some(place),
+        }
+    }
+    None
+}
+
+/// Stops the steps that make a new store and that bring a store of version 1 to version 2. None if a stop leaves a part of one.
+fn stop_versions(alloc: Global) -> Option<()> {
+    let _ = stop(alloc, &nothing(alloc), &None)?;
+    let first = changed(alloc, &store(alloc)?, FIRST)?;
+    let _ = stop(alloc, &first, &None)?;
     Some(())
 }
 
 #[test]
 fn stops_leave_all_or_nothing(rt: HostRuntime) {
-    assert!(rt; stop_all(&rt, rt.alloc()).is_some());
+    assert!(rt; stop_versions(rt.alloc()).is_some());
+    for (number, rows) in ASSEMBLIES.iter().enumerate() {
+        assert_eq!(rt; differing(&rt, rt.alloc(), rows), None, "assembly {number}");
+    }
 }
