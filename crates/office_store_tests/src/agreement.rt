@@ -34,7 +34,7 @@ enum Difference {
 }
 
 /// Does the command of a row over both keepers. Returns the first difference.
-fn difference<R: Threads + Sync>(
+fn compare<R: Threads + Sync>(
     rt: &R,
     alloc: Global,
     over: &mut SqliteOver<Stored>,
@@ -69,7 +69,7 @@ fn after_row<R: Threads + Sync>(
         return Err(Difference::Opening);
     };
     let mut over = SqliteOver::new(connection);
-    if let Some(found) = difference(rt, alloc, &mut over, map, row) {
+    if let Some(found) = compare(rt, alloc, &mut over, map, row) {
         return Err(found);
     }
     match closed(alloc, over.into_connection()) {

@@ -63,7 +63,7 @@ const HOUSED: &[u8] = b"id,key,gender,household\na,abc,female,h\nb,k2,female,\nc
 const MORE: &[u8] = b"id,key,gender\nd,k4,male\ne,k5,male\n";
 
 /// The SHA-256 digest of the bundle of `FIVE`.
-const SEAL: &str = "SEALSEAL";
+const SEAL: &str = "78143e1846c393c2dab0c52885fda5daeb9fe89d11e8b7b9339086be989b93b3";
 
 /// The SHA-256 digest of the bundle of `HOUSED` and `MORE`.
 const HOUSED_SEAL: &str = "2cb82b27c8b4c04f4a46a1fb8c5c4856a2486862f6e8e32bdddb6295cbdb3ab9";
@@ -84,8 +84,8 @@ pub(crate) const HOUSEHOLDS: &[Row] = &[
 ];
 
 /// An assembly of five volunteers and panels of three, whose commands make each change that a store of version 2 has no place for, and take
-/// changes back. The first round is drawn in 10 tickets, and all of its panel drop out. The first to drop out is taken back. The second
-/// withdraws while the second round is open, and isn't taken back once that round is gone.
+/// changes back. The first round is drawn in 10 tickets, and all of its panel drop out. The first of them is taken back, and drops out again.
+/// The second withdraws while the second round is open, and isn't taken back once that round is gone; the third is.
 pub(crate) const CORRECTED: &[Row] = &[
     (Asked::Solve(1), Ending::Refuses),
     (Asked::Rules(WIDE), Ending::Replies),
@@ -97,10 +97,10 @@ pub(crate) const CORRECTED: &[Row] = &[
     (Asked::SealIn(10), Ending::Replies),
     (Asked::SealIn(100), Ending::Refuses),
     (Asked::Try(SEAL, b"0"), Ending::Replies),
-    (Asked::Draw(SEAL, b"7"), Ending::Replies),
+    (Asked::Draw(SEAL, b"9"), Ending::Replies),
     (Asked::DropOut("b"), Ending::Replies),
     (Asked::DropOut("c"), Ending::Replies),
-    (Asked::DropOut("d"), Ending::Replies),
+    (Asked::DropOut("e"), Ending::Replies),
     (Asked::Undrop("b"), Ending::Replies),
     (Asked::DropOut("b"), Ending::Replies),
     (Asked::Next, Ending::Replies),
@@ -109,23 +109,23 @@ pub(crate) const CORRECTED: &[Row] = &[
     (Asked::WithdrawId("c"), Ending::Replies),
     (Asked::Reopen(2), Ending::Replies),
     (Asked::Undrop("c"), Ending::Refuses),
-    (Asked::Undrop("d"), Ending::Replies),
+    (Asked::Undrop("e"), Ending::Replies),
     (Asked::Next, Ending::Replies),
     (Asked::Bounds(2), Ending::Replies),
     (Asked::Solve(2), Ending::Replies),
     (Asked::Show, Ending::Replies),
 ];
 
-/// Each kind of change of `CORRECTED` that `HOUSEHOLDS` hasn't, once.
+/// The changes of `CORRECTED` up to the first one that takes the second round away, each kind that `HOUSEHOLDS` hasn't once.
 pub(crate) const FURTHER: &[Row] = &[
     (Asked::Rules(WIDE), Ending::Replies),
     (Asked::Register(FIVE), Ending::Replies),
     (Asked::Charter(LARGE), Ending::Replies),
     (Asked::Solve(1), Ending::Replies),
     (Asked::SealIn(10), Ending::Replies),
-    (Asked::Draw(SEAL, b"7"), Ending::Replies),
+    (Asked::Draw(SEAL, b"9"), Ending::Replies),
     (Asked::DropOut("b"), Ending::Replies),
-    (Asked::DropOut("d"), Ending::Replies),
+    (Asked::DropOut("e"), Ending::Replies),
     (Asked::Undrop("b"), Ending::Replies),
     (Asked::Next, Ending::Replies),
     (Asked::Bounds(2), Ending::Replies),
@@ -312,20 +312,4 @@ fn withdraw_id(alloc: Global, id: &str) -> Option<Command>
 {
     let id = Name::new(alloc, id).ok()?;
     Some(Command::WithdrawId { id })
-}
-
-#[test]
-fn tell(rt: HostRuntime) {
-    let alloc = rt.alloc();
-    let Ok(mut map) = MapKeeper::new(alloc, &[]) else {
-        return;
-    };
-    for (place, (asked, _)) in CORRECTED.iter().enumerate() {
-        let Some(command) = command_of(alloc, *asked) else {
-            return;
-        };
-        let reply = act(&rt, alloc, &mut map, &command, &NoWatch).ok();
-        let told = spelled(alloc, map.tables());
-        assert!(rt; place < 7, "{reply:?} {told:?}");
-    }
 }

@@ -100,7 +100,7 @@ pub(crate) fn rows_of(alloc: Global, kept: &Kept) -> Option<String> {
 }
 
 /// Returns what all queries find, as a text.
-fn all_found(alloc: Global, connection: &mut Connection<Stored>) -> Option<String> {
+pub(crate) fn all_found(alloc: Global, connection: &mut Connection<Stored>) -> Option<String> {
     let mut all = String::new(alloc);
     for query in ALL {
         let rows = found(alloc, connection, query)?;
@@ -133,7 +133,12 @@ pub(crate) fn told<K: Keeper>(alloc: Global, keeper: &mut K) -> Option<String> {
     spelled(alloc, &tables)
 }
 
-/// Returns all that tables hold, as a text.
+/// Returns all that tables hold, as a text. A pool may know that its ids are in order, which spares it work and is no part of its value. So
+/// the text says of each pool that it knows.
 pub(crate) fn spelled(alloc: Global, tables: &Tables) -> Option<String> {
-    format!(in alloc; "{tables:?}").ok()
+    let text = format!(in alloc; "{tables:?}").ok()?;
+    let unknown = "ids_in_order: false";
+    text.as_str()
+        .replace(alloc, unknown, "ids_in_order: true")
+        .ok()
 }

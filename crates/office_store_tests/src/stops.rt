@@ -5,7 +5,7 @@
 use crate::assembly::{Asked, FURTHER, HOUSEHOLDS, Row, command_of, done};
 use crate::damage::{FIRST, store};
 use crate::disks::{
-    Kept, Stored, bytes_of, changed, closed, files, loaded_of, nothing, opened, rows_of,
+    Kept, Stored, bytes_of, changed, closed, files, loaded, nothing, opened, all_found,
 };
 use office_core::{Change, Keeper, Tables, decide};
 use office_keeper::{MapKeeper, SqliteOver};
@@ -86,12 +86,15 @@ fn stopped(
     Some((far, bytes_of(alloc, &left)?))
 }
 
-/// Returns the rows of a store, or None if it can't be attached and loaded.
+/// Returns the rows of a store, or None if it can't be attached and loaded. Attaching could change them, so they are read before.
 fn held(alloc: Global, kept: &Kept) -> Option<String> {
-    if loaded_of(alloc, kept).is_none() {
+    let mut connection = opened(alloc, kept)?;
+    let rows = all_found(alloc, &mut connection);
+    let mut keeper = SqliteOver::new(connection);
+    if loaded(alloc, &mut keeper, "").is_none() {
         return None;
     }
-    rows_of(alloc, kept)
+    rows
 }
 
 /// What a step finds and leaves if nothing stops it.
