@@ -1,6 +1,6 @@
 -- If a lottery is certified, each panel that digits draw from it, or from the lottery shortened to a number of tickets, has nobody who is
 -- gone.
-use Rattle.std.proofs.Common.{◌≡◌, ℕ, zero, suc, ◌+◌, ◌<◌, Bool, true, false, ltb, List, [], ◌∷◌, map, length, get_or, Option, Some, None, Result, Ok, Err, ◌⊎◌, inl, inr, ⊎_elim, refl, sym, ap, ◌∙◌, arith, subst}
+use Rattle.std.proofs.Common.{◌≡◌, ℕ, zero, suc, ◌+◌, Bool, true, ltb, List, [], ◌∷◌, map, length, get_or, Option, Some, None, Result, Ok, Err, ◌⊎◌, inl, inr, ⊎_elim, refl, arith, subst}
 use Rattle.std.specs.List.{list_all}
 use Rattle.std.specs.Prelude.{unsigned_abs}
 use Rattle.std.proofs.lemmas.Bool.{and_parts, false≢true, ltb-true}

@@ -1,16 +1,15 @@
 -- Each change that a command may make keeps the seats: `SeatsKept` still holds after it.
-use Rattle.std.proofs.Common.{◌≡◌, ℕ, zero, suc, Bool, true, false, not, ◌&&◌, ◌||◌, List, [], ◌∷◌, ◌++◌, length, get_or, Option, Some, None, ◌⊎◌, inl, inr, ⊎_elim, refl, sym, ap, ◌∙◌, subst}
+use Rattle.std.proofs.Common.{◌≡◌, ℕ, zero, suc, Bool, true, false, not, ◌&&◌, List, [], ◌∷◌, ◌++◌, length, Option, Some, inl, inr, ⊎_elim, refl, sym, ap, ◌∙◌, subst}
 use Rattle.std.proofs.lemmas.Bool.{and_parts, false≢true, not-true, or_left}
 use Rattle.std.proofs.lemmas.List.Folds.{list_any-append}
 use Rattle.std.specs.Str.{bytes_eq}
 use Rattle.define_pools.specs.declared.Standing.TheVariants as standing
-use Rattle.define_pools.specs.Building.{ids}
 use Rattle.define_pools.specs.Lists.{includes, includes_list}
-use Rattle.define_pools.specs.Pool.{Pool, everybody, volunteer}
+use Rattle.define_pools.specs.Pool.{everybody, volunteer}
 use Rattle.define_bundles.specs.BundleText.{Bundle}
 use Rattle.define_offices.specs.Commands.{Change, CharterSet, RulesSet, Added, SolvedWith, SealTold, DrawnWith, DroppedOut, Begun, Withdrawn, BoundsSet, TakenBack, Reopened}
 use Rattle.define_offices.specs.Deciding.{is_last_open, is_seated_in, is_withdrawn, with_id}
-use Rattle.define_offices.specs.Facts.{AreCertified, IsTables, KeepsRound, entry_ids}
+use Rattle.define_offices.specs.Facts.{AreCertified, IsTables}
 use Rattle.define_offices.specs.Pools.{drawn_of, has_withdrawn, numbers_of, pool_of}
 use Rattle.define_offices.specs.Steps.{apply, drawn_by, dropped_out, seal_told, solved_with, taken_back, withdrawn_at, without_id}
 use Rattle.define_offices.specs.Tables.{Entry, Round, Open, Solved, Sealed, Drawn, Tables, is_enrolling, named_round, round_at}
@@ -19,7 +18,7 @@ use Rattle.define_offices.proofs.Rounds.{drawn_before}
 use Rattle.define_offices.proofs.Steps.{IsOpenRound}
 use Rattle.laws_of_offices.proofs.DrawnPanels.{drawn_panel_has}
 use Rattle.laws_of_offices.proofs.Members.{filtered_passes, filtered_too, id_has_not_withdrawn, taken_out, withdrew_before}
-use Rattle.laws_of_offices.proofs.SeatRounds.{AreGone, IsBeforeOpen, KeepsSeats, MembersStay, OpensNone, SeatsKept, changed_seats, last_is_open, pushed_seats, taken_seats}
+use Rattle.laws_of_offices.proofs.SeatRounds.{AreGone, KeepsSeats, MembersStay, OpensNone, SeatsKept, changed_seats, last_is_open, pushed_seats, taken_seats}
 use Rattle.laws_of_offices.proofs.Standings.{member_seated, open_gone, own_id}
 
 -- what holds of the tables if a command makes this change

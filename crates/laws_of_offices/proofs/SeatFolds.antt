@@ -1,10 +1,9 @@
 -- The laws on withdrawals and seats: `SeatsKept` holds of all tables that commands leave.
-use Rattle.std.proofs.Common.{◌≡◌, ◌≢◌, ℕ, zero, suc, Bool, true, false, List, [], ◌∷◌, length, Option, Some, None, Result, Ok, Err, refl, sym, ap, ◌∙◌, subst}
+use Rattle.std.proofs.Common.{◌≡◌, ◌≢◌, ℕ, zero, suc, Bool, true, false, List, [], ◌∷◌, length, Option, Some, None, Result, Ok, Err, refl, sym, ap, subst}
 use Rattle.std.specs.List.{AllByRecursion}
 use Rattle.std.proofs.lemmas.Bool.{false≢true}
 use Rattle.define_pools.specs.declared.Standing.{Standing}
-use Rattle.define_pools.specs.declared.Standing.TheVariants as standing
-use Rattle.define_pools.specs.Pool.{Category, Pool, volunteer}
+use Rattle.define_pools.specs.Pool.{Category, Pool}
 use Rattle.define_bundles.specs.BundleText.{Bundle}
 use Rattle.define_offices.specs.declared.Phase.TheVariants as phase
 use Rattle.define_offices.specs.Commands.{Command, Outcome, Replies, Refuses, Stops, Unproved, Refusal}

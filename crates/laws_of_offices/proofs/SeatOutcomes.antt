@@ -14,7 +14,7 @@ use Rattle.define_offices.specs.Commands.{Given, Command, SetCharter, SetRules, 
 use Rattle.define_offices.specs.Deciding.{Answered, Finds, FindsNone, IsDecided, NeedsRun, Sorted, addition, answered, are_rules_kept, asked, bounds_in, bounds_over, charter_over, decide_charter, decide_rules, draw_in, drawn_ids, drop_in, fit_rows, fits_rules, is_charter_kept, is_last_open, is_seated_in, is_withdrawn, new_draw, next_after, next_in, place_of_hash, place_of_id, register_by, registered, reopen_at, reopen_in, row_beyond, same_seal, seal_in, show_in, sorted_rows, tickets_or_none, undrop_in, with_id, withdraw_at, withdraw_id_at, withdraw_row, without_change}
 use Rattle.define_offices.specs.Facts.{IsCommand, IsTables}
 use Rattle.define_offices.specs.Pools.{drawn_lottery, pool_of}
-use Rattle.define_offices.specs.Steps.{AtOnce, ByRun, Comes, applied}
+use Rattle.define_offices.specs.Steps.{AtOnce, ByRun, Comes}
 use Rattle.define_offices.proofs.Register.{late_adds_nothing}
 use Rattle.define_offices.proofs.Steps.{Answers, IsOpenRound, Leaves, Settles, Stays, proof_settles, solve_settles}
 use Rattle.laws_of_offices.proofs.SeatChanges.{MayChange}

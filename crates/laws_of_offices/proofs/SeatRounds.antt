@@ -1,6 +1,6 @@
 -- What holds of the last round, and of the round before it if the last is open: who withdrew is gone in the pool of a round with a bundle,
 -- and no member of a drawn panel has withdrawn, unless the member dropped out.
-use Rattle.std.proofs.Common.{◌≡◌, ℕ, zero, suc, Bool, true, false, List, [], ◌∷◌, ◌++◌, length, Option, Some, None, ◌⊎◌, inl, inr, refl, sym, ap, ◌∙◌, subst}
+use Rattle.std.proofs.Common.{◌≡◌, ℕ, zero, suc, Bool, true, false, List, [], ◌∷◌, ◌++◌, length, Option, Some, None, ◌⊎◌, inl, inr, refl, sym, ap, subst}
 use Rattle.std.proofs.lemmas.Bool.{and_parts, false≢true}
 use Rattle.define_pools.specs.declared.Standing.TheVariants as standing
 use Rattle.define_pools.specs.Lists.{includes}
@@ -9,7 +9,7 @@ use Rattle.define_bundles.specs.BundleText.{Bundle}
 use Rattle.define_offices.specs.Deciding.{is_last_open}
 use Rattle.define_offices.specs.Facts.{closed_but_last, has_drop}
 use Rattle.define_offices.specs.Pools.{drawn_of, has_withdrawn, numbers_of}
-use Rattle.define_offices.specs.Tables.{Entry, Round, Open, Solved, Sealed, Drawn, Tables, changed_at, changed_named, named_round, round_at, taken_at, taken_named}
+use Rattle.define_offices.specs.Tables.{Entry, Round, Open, Solved, Sealed, Drawn, changed_at, changed_named, named_round, round_at, taken_at, taken_named}
 use Rattle.define_offices.proofs.Rounds.{round_at-push, round_at-taken}
 
 -- who withdrew is gone in the pool

@@ -1,5 +1,5 @@
 -- The standings in the pool of an open round: who withdrew is gone, and a member of the panel drawn before who didn't drop out is seated.
-use Rattle.std.proofs.Common.{◌≡◌, ℕ, zero, suc, ◌+◌, Bool, true, false, cond, List, [], ◌∷◌, map, length, get_or, Option, Some, None, Result, Ok, Err, refl, sym, ap, ◌∙◌, arith, subst}
+use Rattle.std.proofs.Common.{◌≡◌, ℕ, zero, suc, ◌+◌, Bool, true, false, cond, List, [], ◌∷◌, map, get_or, Option, Some, None, Ok, refl, sym, ap, ◌∙◌, arith, subst}
 use Rattle.std.specs.Prelude.{IsTrue, is_some}
 use Rattle.std.proofs.Math.ListN.{get_or-map}
 use Rattle.std.proofs.lemmas.Bool.{false≢true}
@@ -9,10 +9,9 @@ use Rattle.define_pools.specs.Building.{ids}
 use Rattle.define_pools.specs.Lists.{includes}
 use Rattle.define_pools.specs.Pool.{Category, Pool, Volunteer, volunteer}
 use Rattle.define_bundles.specs.BundleText.{Bundle}
-use Rattle.define_offices.specs.Commands.{Refusal}
 use Rattle.define_offices.specs.Deciding.{is_seated, is_seated_in}
 use Rattle.define_offices.specs.Facts.{IsTables, entry_ids}
-use Rattle.define_offices.specs.Pools.{after_withdrawals, drawn_of, first_pool, has_withdrawn, next_standing, numbers_of, open_pool, pool_after, pool_by, pool_if, pool_of, restood, standing_of, volunteer_of, with_bounds}
+use Rattle.define_offices.specs.Pools.{after_withdrawals, drawn_of, has_withdrawn, next_standing, numbers_of, open_pool, pool_after, pool_by, pool_if, pool_of, restood, standing_of, volunteer_of, with_bounds}
 use Rattle.define_offices.specs.Tables.{Charter, Entry, Round, Open, Drawn, Tables, named_round, round_at}
 use Rattle.define_offices.proofs.Rounds.{drawn_before}
 use Rattle.define_offices.proofs.Shapes.{volunteers-bounds}
