@@ -1,0 +1,22 @@
+//! What stays of a round: its bundle, the categories of its pool with their bounds, and the number of tickets that was kept with its seal.
+ghost use Rattle.laws_of_offices.specs.Bounds.{BoundsGoOn, BoundsStay, BundlesHavePools, BundlesStay, TicketsStay};
+
+/// A round that has a bundle has the same bundle after any commands. If the facts of `IsTables` hold of tables, the pool of a round that
+/// has a bundle is the pool of the bundle. So neither changes any more.
+pub fn bundles_stay()
+    ensures stay { BundlesStay }
+    ensures pools { BundlesHavePools }
+{}
+
+/// The pool of a round keeps its categories and their bounds through all commands but three: other rules, which are for round 1; bounds for
+/// this round; and the command that takes this round away. When the next round begins, its pool has the categories and bounds of the pool
+/// of the round before.
+pub fn bounds_stay()
+    ensures stay { BoundsStay }
+    ensures go_on { BoundsGoOn }
+{}
+
+/// The number of tickets that was kept with a seal stays with it, after any commands, and so does the fact that none was kept.
+pub fn tickets_stay()
+    ensures { TicketsStay }
+{}
