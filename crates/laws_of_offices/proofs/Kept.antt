@@ -1,9 +1,9 @@
 -- Bundles and the tickets of seals stay, and a bundle's pool is the pool of its round.
-use Rattle.std.proofs.Common.{◌≡◌, ℕ, zero, suc, true, List, Option, Some, None, is_some, Ok, refl, sym, ap, ◌∙◌, subst}
+use Rattle.std.proofs.Common.{◌≡◌, ℕ, zero, suc, true, List, Option, Some, None, is_some, Ok, refl, ap, ◌∙◌}
 use Rattle.std.proofs.lemmas.Bool.{false≢true}
 use Rattle.define_pools.specs.Pool.{Category}
 use Rattle.define_bundles.specs.BundleText.{Bundle}
-use Rattle.define_offices.specs.Tables.{Charter, Round, Open, Solved, Sealed, Drawn, Tables, bundle_of, named_round, round_at, tickets_of}
+use Rattle.define_offices.specs.Tables.{Charter, Round, Open, Solved, Sealed, Drawn, Tables, bundle_of, round_at, tickets_of}
 use Rattle.define_offices.specs.Commands.{Command}
 use Rattle.define_offices.specs.Facts.{IsTables, KeepsBundle, KeepsRound}
 use Rattle.define_offices.specs.Pools.{pool_of, round_pool}

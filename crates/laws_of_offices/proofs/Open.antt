@@ -1,12 +1,12 @@
 -- The pool of a round keeps its categories through all commands that may not change them, and the next round's pool has them.
-use Rattle.std.proofs.Common.{◌≡◌, ℕ, zero, suc, ◌+◌, Bool, true, false, cond, eqb, ◌&&◌, List, [], ◌∷◌, ◌++◌, length, Option, Some, None, Result, Ok, Err, refl, sym, ap, ◌∙◌, arith, subst}
+use Rattle.std.proofs.Common.{◌≡◌, ℕ, zero, suc, ◌+◌, Bool, true, false, cond, eqb, List, [], ◌∷◌, ◌++◌, length, Option, Some, None, Ok, refl, sym, ap, ◌∙◌, arith, subst}
 use Rattle.std.specs.List.{AllByRecursion}
 use Rattle.std.proofs.lemmas.Bool.{and_parts, false≢true}
 use Rattle.std.proofs.lemmas.Bool.Decides.{Decides-eqb}
 use Rattle.define_pools.specs.Pool.{Category, Pool}
 use Rattle.define_bundles.specs.BundleText.{Bundle}
-use Rattle.define_offices.specs.Tables.{Charter, Entry, Round, Open, Solved, Sealed, Drawn, Tables, bundle_of, changed_at, changed_named, named_round, round_at, same_shape}
-use Rattle.define_offices.specs.Commands.{Command, SetRules, NextRound, SetBounds, Reopen, Change, CharterSet, RulesSet, Added, SolvedWith, SealTold, DrawnWith, DroppedOut, Begun, Withdrawn, BoundsSet, TakenBack, Reopened, Outcome, Replies, Refuses, Stops, Unproved, Refusal, Reply}
+use Rattle.define_offices.specs.Tables.{Charter, Entry, Round, Open, Solved, Sealed, Drawn, Tables, changed_at, changed_named, named_round, round_at, same_shape}
+use Rattle.define_offices.specs.Commands.{Command, SetRules, NextRound, Change, CharterSet, RulesSet, Added, SolvedWith, SealTold, DrawnWith, DroppedOut, Begun, Withdrawn, BoundsSet, TakenBack, Reopened, Outcome, Replies, Refuses, Stops, Unproved, Reply}
 use Rattle.define_offices.specs.Facts.{IsCommand, IsTables, closed_but_last, has_drop}
 use Rattle.define_offices.specs.Pools.{open_pool, pool_after, pool_by, pool_if, pool_of, round_pool, with_bounds}
 use Rattle.define_offices.specs.Steps.{Comes, LeadThrough, Leads, apply, drawn_by, dropped_out, seal_told, solved_with, tables_after, taken_back}
@@ -46,7 +46,7 @@ of_round tables place pool h = of_found tables place pool (round_at tables.round
 -- ---- open rounds
 
 -- only the last round is open
-open_is_last : (rounds : List Round) (place : ℕ) → closed_but_last rounds ≡ true → round_at rounds place ≡ Some Open → suc place ≡ length rounds
+pub open_is_last : (rounds : List Round) (place : ℕ) → closed_but_last rounds ≡ true → round_at rounds place ≡ Some Open → suc place ≡ length rounds
 open_is_last [] place closed at = absurd (cc)
 open_is_last (round ∷ []) zero closed at = refl
 open_is_last (round ∷ []) (suc place) closed at = absurd (cc)

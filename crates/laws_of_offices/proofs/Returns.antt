@@ -1,7 +1,7 @@
 -- A dropout that is taken back, and a round that is taken away, leave the tables as they were.
 use Rattle.std.proofs.Common.{◌≡◌, ℕ, zero, suc, ◌+◌, Bool, true, false, cond, eqb, not, ◌||◌, List, [], ◌∷◌, ◌++◌, length, Option, Some, None, refl, sym, ap, ◌∙◌, arith, subst}
 use Rattle.std.specs.Str.{bytes_eq}
-use Rattle.std.proofs.lemmas.Bool.{eqb-true, false≢true}
+use Rattle.std.proofs.lemmas.Bool.{false≢true}
 use Rattle.std.proofs.lemmas.Bool.Decides.{Decides-eqb}
 use Rattle.std.proofs.lemmas.List.{length_push}
 use Rattle.std.proofs.lemmas.List.Folds.{list_any-append}
@@ -10,9 +10,9 @@ use Rattle.std.proofs.Math.Bool.{or-true}
 use Rattle.define_pools.specs.Lists.{includes_list}
 use Rattle.define_bundles.specs.BundleText.{Bundle}
 use Rattle.define_offices.specs.Tables.{Round, Open, Solved, Sealed, Drawn, Tables, changed_at, changed_named, named_round, round_at, taken_at, taken_named}
-use Rattle.define_offices.specs.Commands.{Command, Drop, NextRound, Undrop, Reopen, Change, DroppedOut, Begun, TakenBack, Reopened, Replies, Refuses, Refusal, Reply}
-use Rattle.define_offices.specs.Deciding.{IsDecided, asked, changes, drawn_ids, drop_in, is_withdrawn, next_in, next_after, reopen_at, tells, undrop_in, with_id}
-use Rattle.define_offices.specs.Lines.{dropped_line, reopened_line, round_line, undropped_line}
+use Rattle.define_offices.specs.Commands.{Drop, NextRound, Undrop, Reopen, Change, DroppedOut, Begun, TakenBack, Reopened, Replies, Refuses, Refusal, Reply}
+use Rattle.define_offices.specs.Deciding.{IsDecided, asked, changes, drawn_ids, drop_in, is_withdrawn, next_in, tells, undrop_in, with_id}
+use Rattle.define_offices.specs.Lines.{dropped_line, reopened_line, undropped_line}
 use Rattle.define_offices.specs.Steps.{AtOnce, ByRun, Comes, Leads, apply, dropped_out, taken_back, without_id}
 use Rattle.define_offices.proofs.Again.{says}
 use Rattle.define_offices.proofs.Repeats.{begun, named_there}

@@ -4,10 +4,10 @@ use Rattle.std.specs.List.{AllByRecursion}
 use Rattle.define_pools.specs.Pool.{Category, Pool}
 use Rattle.define_bundles.specs.BundleText.{Bundle}
 use Rattle.define_offices.specs.Tables.{Round, Open, Solved, Sealed, Drawn, Tables, bundle_of, named_round, tickets_of}
-use Rattle.define_offices.specs.Commands.{Command, SetRules, NextRound, SetBounds, Reopen, Begun, Reply, Replies}
+use Rattle.define_offices.specs.Commands.{Command, SetRules, NextRound, SetBounds, Reopen, Change, Begun, Reply, Replies}
 use Rattle.define_offices.specs.Facts.{IsCommand, IsTables}
 use Rattle.define_offices.specs.Pools.{pool_of}
-use Rattle.define_offices.specs.Steps.{Comes, LeadThrough, apply}
+use Rattle.define_offices.specs.Steps.{Comes, LeadThrough, applied, apply}
 
 -- ---- bundles
 
@@ -46,6 +46,13 @@ may_change command number = false
 abbrev pub BoundsStay : Type 0
 BoundsStay = (before : Tables) (commands : List Command) (after : Tables) (number : ℕ) (categories : List Category) → IsTables before → AllByRecursion IsCommand commands →
     AllByRecursion (λ command. IsFalse (may_change command number)) commands → LeadThrough before commands after → HasCategories before number categories → HasCategories after number categories
+
+-- if bounds for a round get a reply, its pool has these bounds, and has them still after any commands that are within their limits and that
+-- may not change them
+abbrev pub BoundsLast : Type 0
+BoundsLast = (tables : Tables) (number : ℕ) (bounds : List Category) (change : Option Change) (reply : Reply) (commands : List Command) (after : Tables) → IsTables tables → IsCommand (SetBounds number bounds) →
+    Comes tables (SetBounds number bounds) (Replies change reply) → AllByRecursion IsCommand commands → AllByRecursion (λ command. IsFalse (may_change command number)) commands →
+    LeadThrough (applied tables change) commands after → HasCategories after number bounds
 
 -- when the next round begins, its pool has the categories, with their bounds, of the pool of the round before
 abbrev pub BoundsGoOn : Type 0

@@ -4,6 +4,8 @@ use Rattle.define_pools.specs.Lists.{includes_list}
 use Rattle.define_offices.specs.Tables.{Round, Open, Solved, Sealed, Drawn, Tables, named_round}
 use Rattle.define_offices.specs.Commands.{Drop, NextRound, Undrop, Reopen, Change, DroppedOut, Begun, TakenBack, Reopened, Reply, Replies}
 use Rattle.define_offices.specs.Deciding.{is_withdrawn, with_id}
+use Rattle.define_offices.specs.Facts.{IsTables}
+use Rattle.define_offices.specs.Pools.{pool_of}
 use Rattle.define_offices.specs.Steps.{Comes, Leads, apply}
 
 -- the ids of the volunteers who dropped out of a round
@@ -18,8 +20,7 @@ abbrev pub DropsGoBack : Type 0
 DropsGoBack = (tables : Tables) (number : ℕ) (id : List ℕ) → ((round : Round) → named_round tables.rounds number ≡ Some round → IsFalse (includes_list (dropped_of round) id)) →
     apply (apply tables (DroppedOut number id)) (TakenBack number id) ≡ tables
 
--- a round that is begun and taken away leaves the tables as they were, without bounds of the round before. These had become part of its
--- bundle
+-- a round that is begun and taken away leaves the tables as they were, without bounds
 abbrev pub RoundsGoBack : Type 0
 RoundsGoBack = (tables : Tables) → apply (apply tables Begun) (Reopened (length tables.rounds + 1)) ≡ record tables { bounds = None }
 
@@ -33,3 +34,7 @@ DropThenUndrop = (tables : Tables) (number : ℕ) (id : List ℕ) (change : Chan
 abbrev pub NextThenReopen : Type 0
 NextThenReopen = (tables : Tables) (number : ℕ) (change : Change) (reply : Reply) → Comes tables (NextRound number) (Replies (Some change) reply) →
     Leads (apply tables change) (Reopen (number + 1)) (record tables { bounds = None })
+
+-- these bounds are of no use any more: when the next round can begin, each round has the same pool without them
+abbrev pub BoundsAreSpent : Type 0
+BoundsAreSpent = (tables : Tables) (after : ℕ) (reply : Reply) (number : ℕ) → IsTables tables → Comes tables (NextRound after) (Replies (Some Begun) reply) → pool_of (record tables { bounds = None }) number ≡ pool_of tables number

@@ -1,5 +1,5 @@
 //! What stays of a round: its bundle, the categories of its pool with their bounds, and the number of tickets that was kept with its seal.
-ghost use Rattle.laws_of_offices.specs.Bounds.{BoundsGoOn, BoundsStay, BundlesHavePools, BundlesStay, TicketsStay};
+ghost use Rattle.laws_of_offices.specs.Bounds.{BoundsGoOn, BoundsLast, BoundsStay, BundlesHavePools, BundlesStay, TicketsStay};
 
 /// A round that has a bundle has the same bundle after any commands. If the facts of `IsTables` hold of tables, the pool of a round that
 /// has a bundle is the pool of the bundle. So neither changes any more.
@@ -9,10 +9,11 @@ pub fn bundles_stay()
 {}
 
 /// The pool of a round keeps its categories and their bounds through all commands but three: other rules, which are for round 1; bounds for
-/// this round; and the command that takes this round away. When the next round begins, its pool has the categories and bounds of the pool
-/// of the round before.
+/// this round; and the command that takes this round away. So bounds that were set are those of the round's pool, open or answered. When
+/// the next round begins, its pool has the categories and bounds of the pool of the round before.
 pub fn bounds_stay()
     ensures stay { BoundsStay }
+    ensures last { BoundsLast }
     ensures go_on { BoundsGoOn }
 {}
 
