@@ -49,6 +49,7 @@ pub record IsReopening (tables : Tables) (command : Command) (number : ℕ) : Ty
   pub is : command ≡ Reopen number
   pub last : number ≡ length tables.rounds
 
+-- what is known of the tables and the command if the command makes this change
 abbrev pub Fits : Tables → Command → Change → Type 0
 Fits tables command (CharterSet charter) = Unit {0}
 Fits tables command (RulesSet rules) = command ≡ SetRules rules
@@ -64,7 +65,7 @@ Fits tables command (TakenBack number id) = Unit {0}
 Fits tables command (Reopened number) = IsReopening tables command number
 
 module _ (tables : Tables) (change : Change) (reply : Reply) where
-  -- what is known if `command` made this change
+  -- what is known if `command` makes the change
   abbrev Known : Command → Type 0
   Known command = Fits tables command change
 

@@ -1,4 +1,4 @@
--- Bundles and the tickets of seals stay, and a bundle's pool is the pool of its round.
+-- Bundles, the tickets of seals and draws stay, and a bundle's pool is the pool of its round.
 use Rattle.std.proofs.Common.{◌≡◌, ℕ, zero, suc, true, List, Option, Some, None, is_some, Ok, refl, ap, ◌∙◌}
 use Rattle.std.proofs.lemmas.Bool.{false≢true}
 use Rattle.define_pools.specs.Pool.{Category}
@@ -9,7 +9,7 @@ use Rattle.define_offices.specs.Facts.{IsTables, KeepsBundle, KeepsRound}
 use Rattle.define_offices.specs.Pools.{pool_of, round_pool}
 use Rattle.define_offices.specs.Steps.{LeadThrough}
 use Rattle.define_offices.proofs.Later.{Grows, StaysSolved, IsSealed, IsDrawn, StaysSealed, DrawnFrom, OtherDrops, IsPastOpen, RoundsGrow, through_extends}
-use Rattle.laws_of_offices.specs.Bounds.{HasBundle, IsSealedWith, is_sealed}
+use Rattle.laws_of_offices.specs.Bounds.{HasBundle, IsDrawnBy, IsSealedWith, is_sealed}
 
 -- ---- bundles
 
@@ -105,3 +105,16 @@ tickets_stay before commands after (suc place) tickets leads has =
     let grown = (through_extends before commands after leads).rounds place has.round has.there (sealed_is_past has.round has.sealed) in
     let same = sealed_as grown.grows has.sealed in
     record { round = grown.next; there = grown.there; sealed = same.sealed; is = same.same ∙ has.is }
+
+-- ---- draws
+
+drawn_by_same : {bundle : Bundle} {tickets : Option ℕ} {digits : List ℕ} {dropped : List (List ℕ)} {next : Round} → Grows (Drawn bundle tickets digits dropped) next → (after : Tables) (place : ℕ) →
+    round_at after.rounds place ≡ Some next → IsDrawnBy after (suc place) bundle tickets digits
+drawn_by_same (OtherDrops bundle tickets digits dropped other) after place at = record { dropped = other; there = at }
+
+pub draws_stay : (before : Tables) (commands : List Command) (after : Tables) (number : ℕ) (bundle : Bundle) (tickets : Option ℕ) (digits : List ℕ) → LeadThrough before commands after →
+    IsDrawnBy before number bundle tickets digits → IsDrawnBy after number bundle tickets digits
+draws_stay before commands after zero bundle tickets digits leads drawn = absurd (let at = drawn.there in cc)
+draws_stay before commands after (suc place) bundle tickets digits leads drawn =
+    let grown = (through_extends before commands after leads).rounds place (Drawn bundle tickets digits drawn.dropped) drawn.there tt in
+    drawn_by_same grown.grows after place grown.there

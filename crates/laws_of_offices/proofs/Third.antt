@@ -8,6 +8,7 @@ use Rattle.define_offices.specs.Facts.{IsCommand, IsTables}
 use Rattle.define_offices.specs.Steps.{Comes, apply, seal_told}
 use Rattle.define_offices.specs.Versions.{is_second, is_second_change, is_second_charter, is_second_round}
 use Rattle.define_offices.proofs.Repeats.{named_there}
+use Rattle.define_offices.proofs.Versions.{changes_keep_second}
 use Rattle.laws_of_offices.proofs.ChangesFit.{Fits, IsAnswered, changes_fit}
 
 -- a list with such a round is none of which all are
@@ -62,3 +63,11 @@ third_after tables command (Reopened number) fits h = absurd (false≢true (sym 
 pub others_are_third : (tables : Tables) (command : Command) (change : Change) (reply : Reply) → IsTables tables → IsCommand command → Comes tables command (Replies (Some change) reply) →
     is_second_change change ≡ false → is_second (apply tables change) ≡ false
 others_are_third tables command change reply keeps within comes h = third_after tables command change (changes_fit tables change reply keeps command within comes) h
+
+pub changes_decide_versions : (tables : Tables) (command : Command) (change : Change) (reply : Reply) → IsTables tables → IsCommand command → Comes tables command (Replies (Some change) reply) →
+    is_second tables ≡ true → is_second (apply tables change) ≡ is_second_change change
+changes_decide_versions tables command change reply keeps within comes is = by (is_second_change change) refl
+  where
+    by : (second : Bool) → is_second_change change ≡ second → is_second (apply tables change) ≡ is_second_change change
+    by true h = changes_keep_second tables change is h ∙ sym h
+    by false h = others_are_third tables command change reply keeps within comes h ∙ sym h

@@ -1,4 +1,5 @@
--- What stays of a round: its bundle, the categories of its pool with their bounds, and the number of tickets that was kept with its seal.
+-- What stays of a round: its bundle, the categories of its pool with their bounds, the number of tickets that was kept with its seal, and
+-- its draw.
 use Rattle.std.specs.Prelude.{◌≡◌, ℕ, ◌+◌, ◌==◌, Bool, true, false, IsTrue, IsFalse, List, Option, Some, Ok}
 use Rattle.std.specs.List.{AllByRecursion}
 use Rattle.define_pools.specs.Pool.{Category, Pool}
@@ -78,3 +79,16 @@ pub record IsSealedWith (tables : Tables) (number : ℕ) (tickets : Option ℕ) 
 -- what was kept with a seal stays, after any commands
 abbrev pub TicketsStay : Type 0
 TicketsStay = (before : Tables) (commands : List Command) (after : Tables) (number : ℕ) (tickets : Option ℕ) → LeadThrough before commands after → IsSealedWith before number tickets → IsSealedWith after number tickets
+
+-- ---- draws
+
+-- the round with `number` has the bundle `bundle`, was sealed with `tickets` and drawn by `digits`. Its panel is
+-- `drawn_of bundle tickets digits`
+pub record IsDrawnBy (tables : Tables) (number : ℕ) (bundle : Bundle) (tickets : Option ℕ) (digits : List ℕ) : Type 0 where
+  pub dropped : List (List ℕ)
+  pub there : named_round tables.rounds number ≡ Some (Drawn bundle tickets digits dropped)
+
+-- what was drawn stays, after any commands
+abbrev pub DrawsStay : Type 0
+DrawsStay = (before : Tables) (commands : List Command) (after : Tables) (number : ℕ) (bundle : Bundle) (tickets : Option ℕ) (digits : List ℕ) → LeadThrough before commands after →
+    IsDrawnBy before number bundle tickets digits → IsDrawnBy after number bundle tickets digits

@@ -1,5 +1,6 @@
-//! What stays of a round: its bundle, the categories of its pool with their bounds, and the number of tickets that was kept with its seal.
-ghost use Rattle.laws_of_offices.specs.Bounds.{BoundsGoOn, BoundsLast, BoundsStay, BundlesHavePools, BundlesStay, TicketsStay};
+//! What stays of a round: its bundle, the categories of its pool with their bounds, the number of tickets that was kept with its seal, and
+//! its draw.
+ghost use Rattle.laws_of_offices.specs.Bounds.{BoundsGoOn, BoundsLast, BoundsStay, BundlesHavePools, BundlesStay, DrawsStay, TicketsStay};
 
 /// A round that has a bundle has the same bundle after any commands. If the facts of `IsTables` hold of tables, the pool of a round that
 /// has a bundle is the pool of the bundle. So neither changes any more.
@@ -17,7 +18,9 @@ pub fn bounds_stay()
     ensures go_on { BoundsGoOn }
 {}
 
-/// The number of tickets that was kept with a seal stays with it, after any commands, and so does the fact that none was kept.
-pub fn tickets_stay()
-    ensures { TicketsStay }
+/// The number of tickets that was kept with a seal stays with it, after any commands, and so does the fact that none was kept. A round that
+/// is drawn stays drawn from the same bundle and tickets by the same digits, so its panel stays.
+pub fn draws_stay()
+    ensures tickets { TicketsStay }
+    ensures draws { DrawsStay }
 {}
