@@ -165,8 +165,10 @@ pub(crate) const CORRECTED: &[Row] = &[
     (Asked::Bounds(2), Ending::Replies),
     (Asked::WithdrawId("c"), Ending::Replies),
     (Asked::WithdrawId("d"), Ending::Refuses),
+    (Asked::WithdrawId("b"), Ending::Replies),
     (Asked::Reopen(2), Ending::Replies),
     (Asked::Reopen(2), Ending::Refuses),
+    (Asked::Undrop("b"), Ending::Refuses),
     (Asked::Next, Ending::Replies),
     (Asked::Bounds(2), Ending::Replies),
 ];
