@@ -27,7 +27,9 @@ use crate::replies::{Refusal, Reply};
 use crate::stops::OfficeStop;
 use bundle_text::{Bundle, write_bundle};
 use itoa::Buffer;
-use office_tables::{Change, Entry, Phase, Round, Tables, Tickets, copied_tickets, drawn_by, is_member};
+use office_tables::{
+    Change, Entry, Phase, Round, Tables, Tickets, copied_tickets, drawn_by, is_member,
+};
 use pool_model::Name;
 use sealed_draw::{Draw, DrawStop, draw, seal};
 use short_tickets::short_bundle;
