@@ -5,7 +5,7 @@
 use crate::assembly::{Asked, FURTHER, HOUSEHOLDS, Row, command_of, done};
 use crate::damage::{FIRST, store};
 use crate::disks::{
-    Kept, Stored, bytes_of, changed, closed, files, loaded, nothing, opened, all_found,
+    Kept, Stored, all_found, bytes_of, changed, closed, files, loaded, nothing, opened,
 };
 use office_core::{Change, Keeper, Tables, decide};
 use office_keeper::{MapKeeper, SqliteOver};
