@@ -3,11 +3,9 @@
 ghost use Rattle.std.specs.Prelude.{IfSome};
 ghost use Rattle.office_core.specs.Commands.{HasWorkers};
 
-use crate::disks::spelled;
 use define_runs::Limits;
 use office_core::{ActStop, Charter, Command, Keeper, Rows, Rules, act};
 use office_import::{read_charter, read_register, read_rules};
-use office_keeper::MapKeeper;
 use office_tables::{LaterRound, Tickets};
 use outside::NoWatch;
 use pool_model::Name;
@@ -116,22 +114,6 @@ pub(crate) const CORRECTED: &[Row] = &[
     (Asked::Show, Ending::Replies),
 ];
 
-/// The changes of `CORRECTED` up to the first one that takes the second round away, each kind that `HOUSEHOLDS` hasn't once.
-pub(crate) const FURTHER: &[Row] = &[
-    (Asked::Rules(WIDE), Ending::Replies),
-    (Asked::Register(FIVE), Ending::Replies),
-    (Asked::Charter(LARGE), Ending::Replies),
-    (Asked::Solve(1), Ending::Replies),
-    (Asked::SealIn(10), Ending::Replies),
-    (Asked::Draw(SEAL, b"9"), Ending::Replies),
-    (Asked::DropOut("b"), Ending::Replies),
-    (Asked::DropOut("e"), Ending::Replies),
-    (Asked::Undrop("b"), Ending::Replies),
-    (Asked::Next, Ending::Replies),
-    (Asked::Bounds(2), Ending::Replies),
-    (Asked::Reopen(2), Ending::Replies),
-];
-
 /// True if a command over a keeper ends as its row says.
 pub(crate) fn ends<K: Keeper, R: Threads + Sync>(
     rt: &R,
@@ -156,30 +138,6 @@ pub(crate) fn done<K: Keeper, R: Threads + Sync>(
         Err(ActStop::Refused(_)) => Ending::Refuses,
         Err(_) => Ending::Stops,
     })
-}
-
-/// True if each command of an assembly over a keeper ends as its row says.
-pub(crate) fn all_end<K: Keeper, R: Threads + Sync>(
-    rt: &R,
-    alloc: Global,
-    keeper: &mut K,
-    rows: &[Row],
-) -> bool {
-    for row in rows {
-        if !ends(rt, alloc, keeper, row) {
-            return false;
-        }
-    }
-    true
-}
-
-/// Returns what a keeper in memory holds after an assembly, as a text, or None if a command doesn't end as its row says.
-pub(crate) fn held_after<R: Threads + Sync>(rt: &R, alloc: Global, rows: &[Row]) -> Option<String> {
-    let mut map = MapKeeper::new(alloc, &[]).ok()?;
-    if !all_end(rt, alloc, &mut map, rows) {
-        return None;
-    }
-    spelled(alloc, map.tables())
 }
 
 /// Returns the command that is asked for.

@@ -1,7 +1,6 @@
 //! Stores in memory as two files, a database and its log.
 
 use office_core::{Keeper, Tables};
-use office_keeper::SqliteOver;
 use sqlite::{Connection, FileStore, Files, Options};
 use sqlite_disk::{Disk, Fuse, Memory};
 use std::alloc::Global;
@@ -64,61 +63,6 @@ pub(crate) fn opened(alloc: Global, kept: &Kept) -> Option<Connection<Stored>> {
 pub(crate) fn closed(alloc: Global, connection: Connection<Stored>) -> Option<Kept> {
     let files = connection.close_files().ok()?;
     bytes_of(alloc, &files)
-}
-
-/// Runs statements. The contract of the call is long, so this function alone has it.
-fn run(connection: &mut Connection<Stored>, statements: &str) -> Option<()> {
-    connection.execute_batch(statements).ok()
-}
-
-/// Returns the store after these statements.
-pub(crate) fn changed(alloc: Global, kept: &Kept, statements: &str) -> Option<Kept> {
-    let mut connection = opened(alloc, kept)?;
-    run(&mut connection, statements)?;
-    closed(alloc, connection)
-}
-
-/// Queries that find all that a store holds.
-const ALL: &[&str] = &[
-    "SELECT name FROM sqlite_schema ORDER BY name",
-    "SELECT * FROM meta",
-    "SELECT * FROM charter ORDER BY one",
-    "SELECT * FROM bound ORDER BY category_place, value_place",
-    "SELECT * FROM volunteer ORDER BY place",
-    "SELECT * FROM household ORDER BY place",
-    "SELECT * FROM round ORDER BY number",
-    "SELECT * FROM dropped ORDER BY round, place",
-    "SELECT * FROM most_rows ORDER BY one",
-    "SELECT * FROM tickets ORDER BY round",
-    "SELECT * FROM round_bound ORDER BY category_place, value_place",
-];
-
-/// Returns the rows of all tables, as a text. Of a table that isn't there, which version 2 hasn't, it has the error.
-pub(crate) fn rows_of(alloc: Global, kept: &Kept) -> Option<String> {
-    let mut connection = opened(alloc, kept)?;
-    all_found(alloc, &mut connection)
-}
-
-/// Returns what all queries find, as a text.
-pub(crate) fn all_found(alloc: Global, connection: &mut Connection<Stored>) -> Option<String> {
-    let mut all = String::new(alloc);
-    for query in ALL {
-        let rows = found(alloc, connection, query)?;
-        all.push_str(rows.as_str()).ok()?;
-    }
-    Some(all)
-}
-
-/// Returns what a query finds, as a text.
-fn found(alloc: Global, connection: &mut Connection<Stored>, query: &str) -> Option<String> {
-    let rows = connection.query_all(query, &[]);
-    format!(in alloc; "{rows:?}").ok()
-}
-
-/// Attaches a keeper over a store, and returns what it loads, as a text.
-pub(crate) fn loaded_of(alloc: Global, kept: &Kept) -> Option<String> {
-    let mut keeper = SqliteOver::new(opened(alloc, kept)?);
-    loaded(alloc, &mut keeper, "")
 }
 
 /// Attaches a keeper, and returns what it loads, as a text.

@@ -8,10 +8,4 @@ mod agreement;
 #[cfg(test)]
 mod assembly;
 #[cfg(test)]
-mod damage;
-#[cfg(test)]
 mod disks;
-#[cfg(test)]
-mod paths;
-#[cfg(test)]
-mod stops;
