@@ -27,9 +27,9 @@ Into the folder of --out go new files; a file that is there is never overwritten
 With --letters, the letters.csv of an earlier call, who is in it keeps id, key and the household's code: `letters.py` says how people are found.
 A row of it whose person isn't among the people any more stays at the end of letters.csv, so that its id is never given to another one.
 
-What was left out or found odd is said on standard error; what is harmless comes last. Status 0: the files were made; 1: nothing was made, and
-the reason is said; 2: wrong words. Nothing of this is proved. What it makes is read by `sortition`, which refuses what is no right file. It
-stands on `letters.py` and `sheets.py` beside it.
+What was left out or found odd is said on standard error: first cells with several lines, last who has the same name or e-mail, and behind all
+of it what is harmless. Status 0: the files were made; 1: nothing was made, and the reason is said; 2: wrong words. Nothing of this is proved.
+What it makes is read by `sortition`, which refuses what is no right file. It stands on `letters.py` and `sheets.py` beside it.
 """
 import argparse
 import json
@@ -43,8 +43,8 @@ from typing import Callable, Dict, Iterable, Iterator, List, NamedTuple, Optiona
 sys.dont_write_bytecode = True      # (no compiled files beside the tools)
 from letters import (Letter, Same, Uses, entry, household_place, kept_letters, look_for_corrected, name_in_letters, read_letters,
                      shared_columns)
-from sheets import (Hopeless, Remarks, Table, answered, column_of, csv_text, folded, grouped, guarded, has_too_many, list_text, listed,
-                    look_of, near, read_table, rows_named, unlike, why_not_a_name, write_all)
+from sheets import (MOST_SHOWN, Hopeless, Remarks, Table, answered, column_of, csv_text, folded, grouped, guarded, has_too_many, list_text,
+                    listed, look_for_lines, look_of, near, read_table, rows_named, unlike, why_not_a_name, write_all)
 
 KEY_LETTERS = '3479acdefhjkmnprtwxy'   # no two of these look alike
 MOST_PEOPLE, MOST_CATEGORIES, MOST_VALUES, MOST_MEMBERS = 4000, 20, 50, 1000  # the office's limits
@@ -250,11 +250,15 @@ def shown_by(person: Person, places: List[int]) -> str:
 
 
 def look_for_pairs(table: Table, people: List[Person], what: str, places: List[int], remarks: Remarks) -> None:
-    """Says who has the same name, or the same e-mail, as somebody else."""
-    for group in grouped(people, lambda person: said_by(person, places)).values():
-        if len(group) > 1:
-            remarks.say(f'{table.name} {rows_named(person.row for person in group)}: the same {what} {shown_by(group[0], places)!r}; all are in the '
-                        'register. If they are one person, leave one row')
+    """Says who has the same name, or the same e-mail, as somebody else: of many cases the first ten, and of the others the rows alone."""
+    groups = [group for group in grouped(people, lambda person: said_by(person, places)).values() if len(group) > 1]
+    for group in groups[:MOST_SHOWN]:
+        remarks.say(f'{table.name} {rows_named(person.row for person in group)}: the same {what} {shown_by(group[0], places)!r}; all are in the '
+                    'register. If they are one person, leave one row')
+    others = groups[MOST_SHOWN:]
+    if others:
+        rows = '; '.join(listed(str(person.row) for person in group) for group in others)
+        remarks.say(f'{table.name}: the same {what} in {len(others)} more case{"s" * (len(others) > 1)}, of rows {rows}; all are in the register')
 
 
 def look_for_lookalikes(table: Table, people: List[Person], what: str, places: List[int], remarks: Remarks) -> None:
@@ -267,7 +271,7 @@ def look_for_lookalikes(table: Table, people: List[Person], what: str, places: L
 
 
 def without_repeats(table: Table, people: List[Person], uses: Uses, remarks: Remarks) -> List[Person]:
-    """The people without rows that are as an earlier one in all columns. Says which these are, and who else may be there twice."""
+    """The people without rows that are as an earlier one in all columns. Says which these are, and who looks like somebody else."""
     if not uses.name and not uses.mail:
         remarks.say(f'{table.name}: no column looks like a name or an e-mail, so who is there twice isn\'t found; see --name and --email')
         return people
@@ -279,8 +283,6 @@ def without_repeats(table: Table, people: List[Person], uses: Uses, remarks: Rem
             remarks.note(f'{table.name} row {person.row}: left out: the same as row {earlier.row} in all columns')
         else:
             kept.append(person)
-    look_for_pairs(table, kept, 'name', uses.name, remarks)
-    look_for_pairs(table, kept, 'e-mail', uses.mail, remarks)
     for what, places in (('name', uses.name), ('e-mail', uses.mail), ('address', uses.address)):
         look_for_lookalikes(table, kept, what, places, remarks)
     return kept
@@ -364,6 +366,7 @@ def before_of(table: Table, people: List[Person], categories: Categories, uses: 
     if asked.letters is None:
         return NOBODY
     old = read_letters(asked.letters, remarks)
+    look_for_lines(old.table, remarks)
     shared = shared_columns(table, old, uses._replace(address=uses.address or address_columns(table, categories, [])))
     rows = [entry(person.row, person.cells, shared.in_list) for person in people]
     kept = kept_letters(rows, old, shared, asked.same)
@@ -495,6 +498,8 @@ def prepare(asked: argparse.Namespace, remarks: Remarks) -> List[str]:
     if asked.title is not None and why_not_a_name(asked.title):
         raise Hopeless(f'the title can\'t be taken: {why_not_a_name(asked.title)}')
     quotas, table = read_table(asked.quotas, remarks), read_table(asked.people, remarks)
+    look_for_lines(quotas, remarks)
+    look_for_lines(table, remarks)
     categories = quotas_of(quotas, remarks)
     if asked.household and 'household' in categories:
         raise Hopeless(f'{quotas.name}: a category is called \'household\', so the register has no column for households: rename it in both files')
@@ -517,6 +522,8 @@ def prepare(asked: argparse.Namespace, remarks: Remarks) -> List[str]:
     if charter is not None:
         texts['charter.toml'] = charter
         lines.append(f'charter.toml: title {asked.title!r}, size {asked.size}' + f', volunteers {MOST_PEOPLE}' * (len(people) > USUAL_PEOPLE))
+    look_for_pairs(table, people, 'name', uses.name, remarks)
+    look_for_pairs(table, people, 'e-mail', uses.mail, remarks)
     write_all(asked.out, texts)
     return [os.path.join(asked.out, line) for line in lines]
 

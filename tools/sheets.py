@@ -15,6 +15,7 @@ from typing import Callable, Dict, Iterable, Iterator, List, NamedTuple, Optiona
 DELIMITERS = ',;\t'
 MARK = '\ufeff'                              # the byte order mark, by which Excel knows UTF-8
 AGAIN = 'save it again as CSV in UTF-8'
+LINE_BREAK = re.compile('\r\n|\r|\n')
 SPOILED = re.compile('[\udc80-\udcff\ufffd]')   # what stands for bytes that are no text
 FORMULA_SIGNS = '=+-@\uff1d\uff0b\uff0d\uff20'  # those of full width too
 TELEPHONE = re.compile(r'\+[0-9 \xa0()/-]*')
@@ -56,12 +57,13 @@ class Remarks:
 
 class Table(NamedTuple):
     """A file that was read. `rows` are pairs of a row's number in the spreadsheet, from 1, and its cells, as many as there are columns or more;
-    rows without content are left out."""
+    rows without content are left out. `first` is the number of the row that is the heading."""
     name: str
     mark: str          # empty if the file has none
     delimiter: str
     heading: List[str]
     rows: List[Tuple[int, List[str]]]
+    first: int
 
 
 # ---- words
@@ -233,11 +235,24 @@ def read_table(path: str, remarks: Remarks) -> Table:
         refuse_spoiled(name, encoding, rows)
     if not rows:
         raise Hopeless(f'{name}: it is empty')
-    heading = [cell.strip() for cell in rows.pop(0)[1]]
+    first, cells = rows.pop(0)
+    heading = [cell.strip() for cell in cells]
     short = [number for number, cells in rows if len(cells) < len(heading)]
     if short:
         remarks.note(f'{name} {rows_named(short)}: fewer cells than the heading; those that are missing are taken as empty')
-    return Table(name, mark, delimiter, heading, [(number, cells + [''] * (len(heading) - len(cells))) for number, cells in rows])
+    return Table(name, mark, delimiter, heading, [(number, cells + [''] * (len(heading) - len(cells))) for number, cells in rows], first)
+
+
+def look_for_lines(table: Table, remarks: Remarks) -> None:
+    """Names each cell that has several lines, since a quote that is opened by mistake makes one cell of the rows up to the next quote. Cells with a
+    delimiter in them come first, as such rows have, and of these the ones with the most lines. Cells of one column with as many lines are named
+    together."""
+    cells = [(table.delimiter not in cell, -len(LINE_BREAK.findall(cell)) - 1, place, number)
+             for number, row in [(table.first, table.heading), *table.rows] for place, cell in enumerate(row) if LINE_BREAK.search(cell)]
+    for (_, lines, place), group in sorted(grouped(cells, lambda cell: cell[:3]).items()):
+        column = repr(table.heading[place]) if place < len(table.heading) else place + 1
+        remarks.say(f'{table.name} {rows_named(cell[3] for cell in group)}: the cell of column {column} has {-lines} lines. If a quote opens it by '
+                    'mistake, the rows up to the next quote are inside it and nowhere else')
 
 
 def has_too_many(table: Table, cells: List[str]) -> bool:

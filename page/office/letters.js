@@ -177,6 +177,7 @@ const NOBODY = { name: '', letters: [], kept: new Map(), gone: [], codes: new Ma
 function beforeOf(file, table, people, categories, uses, same, remarks) {
   if (!file) return NOBODY;
   const old = readLetters(file, remarks);
+  lookForLines(old.table, remarks);
   const shared = sharedColumns(table, old, { ...uses, address: uses.address.length ? uses.address : addressColumns(table, categories, []) });
   const fresh = people.map(person => entryOf(person.row, person.cells, shared.inList));
   const kept = keptLetters(fresh, old, shared, same);

@@ -90,13 +90,17 @@ function shownBy(person, places) {
   return places.map(place => stripped(person.cells[place])).join(' ');
 }
 
-// Says who has the same name, or the same e-mail, as somebody else.
+// Says who has the same name, or the same e-mail, as somebody else: of many cases the first ten, and of the others the rows alone.
 function lookForPairs(table, people, what, places, remarks) {
-  for (const group of grouped(people, person => saidBy(person, places)).values()) {
-    if (group.length === 1) continue;
+  const groups = [...grouped(people, person => saidBy(person, places)).values()].filter(group => group.length > 1);
+  for (const group of groups.slice(0, MOST_SHOWN)) {
     remarks.say(`${table.name} ${rowsNamed(group.map(person => person.row))}: the same ${what} ${quoted(shownBy(group[0], places))}; all are in the register. `
       + 'If they are one person, leave one row');
   }
+  const others = groups.slice(MOST_SHOWN);
+  if (!others.length) return;
+  const rows = others.map(group => listed(group.map(person => String(person.row)))).join('; ');
+  remarks.say(`${table.name}: the same ${what} in ${others.length} more case${others.length > 1 ? 's' : ''}, of rows ${rows}; all are in the register`);
 }
 
 // Names rows whose names, e-mails or addresses look the same and aren't.
@@ -110,7 +114,7 @@ function lookForLookalikes(table, people, what, places, remarks) {
   }
 }
 
-// The people without rows that are as an earlier one in all columns. Says which these are, and who else may be there twice.
+// The people without rows that are as an earlier one in all columns. Says which these are, and who looks like somebody else.
 function withoutRepeats(table, people, uses, remarks) {
   if (!uses.name.length && !uses.mail.length) {
     remarks.say(`${table.name}: no column looks like a name or an e-mail, so who is there twice isn't found; see --name and --email`);
@@ -128,8 +132,6 @@ function withoutRepeats(table, people, uses, remarks) {
       kept.push(person);
     }
   }
-  lookForPairs(table, kept, 'name', uses.name, remarks);
-  lookForPairs(table, kept, 'e-mail', uses.mail, remarks);
   for (const [what, places] of [['name', uses.name], ['e-mail', uses.mail], ['address', uses.address]]) lookForLookalikes(table, kept, what, places, remarks);
   return kept;
 }

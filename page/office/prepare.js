@@ -62,6 +62,8 @@ function madeFiles(files, asked, remarks, bytes) {
   if (whyNot) throw new Hopeless(`the title can't be taken: ${whyNot}`);
   const quotas = readTable(files.quotas, remarks);
   const table = readTable(files.people, remarks);
+  lookForLines(quotas, remarks);
+  lookForLines(table, remarks);
   const categories = quotasOf(quotas, remarks);
   if (asked.household.length && categories.has('household')) {
     throw new Hopeless(`${quotas.name}: a category is called 'household', so the register has no column for households: rename it in both files`);
@@ -91,6 +93,8 @@ function madeFiles(files, asked, remarks, bytes) {
     texts['charter.toml'] = charter;
     lines.push(`charter.toml: title ${quoted(asked.title)}, size ${asked.size}${people.length > USUAL_PEOPLE ? `, volunteers ${MOST_PEOPLE}` : ''}`);
   }
+  lookForPairs(table, people, 'name', uses.name, remarks);
+  lookForPairs(table, people, 'e-mail', uses.mail, remarks);
   return { texts, lines, table, categories, people, owns };
 }
 

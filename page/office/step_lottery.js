@@ -38,18 +38,26 @@ async function takeProof(round, text, took) {
   } else if (verdict === 'valid\tnone') {
     say(part('lottery-state'), 'No panel meets all quotas', [took]);
     await showWhy(round);
+  } else if (text.startsWith('spent\ttrees')) {
+    sayNotFound(round, `A lottery is found, and no lottery over panels that meet the quotas is fairer. But no proof of it was found in ${linesOf(text)[0][2]} steps.`);
   } else if (text.startsWith('spent')) {
     sayNotFound(round, 'The search of this page is used up.');
+  } else if (text.startsWith('refused')) {
+    sayNotFound(round, `A lottery is found, and no lottery over panels that meet the quotas is fairer. But at stage ${linesOf(text)[0][1]} its numbers are too great for a proof.`, WITHOUT_PROOF);
   } else {
     say(part('lottery-state'), 'The pool can’t be read', [text]);
   }
 }
 
-// Says that no lottery was found. The program at a desk can look longer, and its proof can be chosen.
-function sayNotFound(round, why) {
+// What the program at a desk can do: look longer, or go on without a proof.
+const LONGER = 'The program at a desk can look longer: save the pool, give it to sortition prove, with --pivots and --nodes, and choose the proof that it prints.';
+const WITHOUT_PROOF = 'This page draws only from a lottery with a proof. The program at a desk needs none: save the pool, give it to sortition lottery, and the bundle that it prints to sortition check.';
+
+// Says why there is no lottery with a proof, and what to do at a desk. A proof that was made there can be chosen.
+function sayNotFound(round, why, advice = LONGER) {
   const file = element('input', '', { type: 'file', id: 'proof-file', accept: '.proof' });
   file.addEventListener('change', () => file.files.length && takeProofFile(round, file.files[0]));
-  say(part('lottery-state'), 'No lottery was found', [why, 'The program at a desk can look longer: save the pool, give it to sortition prove, with --pivots and --nodes, and choose the proof that it prints.'], false,
+  say(part('lottery-state'), 'No lottery with a proof was found', [why, advice], false,
     saveButtons([`round-${assembly.rounds.length}.pool`], () => round.pool),
     element('label', 'The proof that the program printed', { htmlFor: 'proof-file' }), file);
 }

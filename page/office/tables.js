@@ -3,13 +3,14 @@
 // Tables that a city's spreadsheets save, read as `tools/sheets.py` reads them, and the tables that are written.
 //
 // A table has a name, a mark if its file has one, a delimiter, a heading, and rows. A row has the number that it has in the spreadsheet, from 1,
-// and its cells, as many as there are columns or more. Rows without content are left out.
+// and its cells, as many as there are columns or more. Rows without content are left out. `first` is the number of the row that is the heading.
 
 const DELIMITERS = [',', ';', '\t'];
 const MOST_IN_CELL = 131072;                 // letters
 const FORMULA_SIGNS = ['=', '+', '-', '@', '\uff1d', '\uff0b', '\uff0d', '\uff20'];   // those of full width too
 const TELEPHONE = /^\+[0-9 \xa0()/-]*$/;
 const FEWEST_DIGITS = 6;                     // of a telephone number
+const LINE_BREAK = /\r\n|\r|\n/;
 
 // ---- reading
 
@@ -151,7 +152,26 @@ function readTable({ name, bytes }, remarks) {
   const short = rows.filter(row => row.cells.length < heading.length).map(row => row.number);
   if (short.length) remarks.note(`${name} ${rowsNamed(short)}: fewer cells than the heading; those that are missing are taken as empty`);
   const filled = rows.map(({ number, cells }) => ({ number, cells: [...cells, ...Array(Math.max(0, heading.length - cells.length)).fill('')] }));
-  return { name, mark, delimiter, heading, rows: filled };
+  return { name, mark, delimiter, heading, rows: filled, first: all[0].number };
+}
+
+// Names each cell that has several lines, since a quote that is opened by mistake makes one cell of the rows up to the next quote. Cells with a
+// delimiter in them come first, as such rows have, and of these the ones with the most lines. Cells of one column with as many lines are named
+// together.
+function lookForLines({ name, delimiter, heading, rows, first }, remarks) {
+  const all = [{ number: first, cells: heading }, ...rows];
+  const found = all.flatMap(({ number, cells }) => cells.flatMap((cell, place) => {
+    const lines = cell.split(LINE_BREAK).length;
+    return lines > 1 ? [{ number, place, lines, isPlain: !cell.includes(delimiter) }] : [];
+  }));
+  const groups = [...grouped(found, ({ place, lines, isPlain }) => `${place} ${lines} ${isPlain}`).values()];
+  groups.sort(([one], [other]) => one.isPlain - other.isPlain || other.lines - one.lines || one.place - other.place);
+  for (const group of groups) {
+    const { place, lines } = group[0];
+    const column = place < heading.length ? quoted(heading[place]) : place + 1;
+    remarks.say(`${name} ${rowsNamed(group.map(cell => cell.number))}: the cell of column ${column} has ${lines} lines. If a quote opens it by mistake, the `
+      + 'rows up to the next quote are inside it and nowhere else');
+  }
 }
 
 // True if a row has something behind the columns of the heading.

@@ -19,12 +19,12 @@ ghost use Rattle.command_questions.specs.declared.short.InTickets.TheVariants.{D
 ghost use Rattle.command_quotas.specs.PoolsAndProofs.{pool_in, pool_or_proof_format};
 ghost use Rattle.command_browser.specs.FirstPools.{TellsFirstPool};
 ghost use Rattle.command_browser.specs.NextPools.{IsNextPool};
-ghost use Rattle.command_browser.specs.Proving.{ProvesByEngine};
+ghost use Rattle.command_browser.specs.Proving.{ProvesAlone};
 ghost use Rattle.command_browser.specs.Told.{TextAbout, TextOf, Told, WithTickets, WithWords};
 
 use crate::first_pools::text_of_first_pool;
 use crate::next_pools::NextPool;
-use crate::proving::ProveByEngine;
+use crate::proving::ProveAlone;
 use crate::room::tell_if_any;
 use crate::texts::{text_in_tickets, text_of, text_of_short_draw, text_of_short_drawn_page};
 use command_explain::Explain;
@@ -47,8 +47,8 @@ pub extern "C" fn tell_first_pool(
     tell_if_any(text_of_first_pool(alloc, charter, rules, register), room)
 }
 
-/// Puts into `room` the text that `prove` answers about a pool if its engine makes a proof within these limits, or the line that it makes
-/// none.
+/// Puts into `room` the text that `prove` answers about a pool within these limits without its run of `lottery`, or the line that it would
+/// need that run.
 #[unsafe(no_mangle)]
 pub extern "C" fn tell_prove(
     alloc: Global,
@@ -57,9 +57,9 @@ pub extern "C" fn tell_prove(
     pool: &[u8],
     room: &mut [u8],
 ) -> usize
-    ensures { Told (TextAbout pool_format ProvesByEngine pool.now) room.old room.new result }
+    ensures { Told (TextAbout pool_format (ProvesAlone nodes) pool.now) room.old room.new result }
 {
-    tell_if_any(text_of(alloc, &ProveByEngine { pivots, nodes }, pool), room)
+    tell_if_any(text_of(alloc, &ProveAlone { pivots, nodes }, pool), room)
 }
 
 /// Puts into `room` the text that `why` answers about a pool or a proof, if its engine has these limits.

@@ -1,6 +1,6 @@
 -- The answers of `cover` for a cover that was made, for a refusal and for a stop are right by its meaning, and no others are.
 use Rattle.std.proofs.Common.{◌≡◌, ◌∙◌, ℕ, List, [], length, Result, Ok, ap, ap₂, refl, sym, subst}
-use Rattle.std.specs.Prelude.{Err, IsFalse, MatchResult, Some, false}
+use Rattle.std.specs.Prelude.{Err, MatchResult, Some, false}
 use Rattle.define_bundles.specs.BundleText.{Bundle, IsBundle}
 use Rattle.define_checks.specs.Reasons as check
 use Rattle.define_checks.specs.Reasons.{Valid, Verdict}

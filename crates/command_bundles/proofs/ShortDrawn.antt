@@ -1,5 +1,5 @@
 -- At most one answer of `short-draw` is right, and the line of a refused draw is a right answer.
-use Rattle.std.proofs.Common.{true, ◌≡◌, ◌≤◌, ◌^◌, ◌∙◌, ℕ, List, Result, Ok, Err, length, ltb, map, refl, ap, ap₂, sym, subst, rules}
+use Rattle.std.proofs.Common.{true, ◌≡◌, ◌≤◌, ◌^◌, ◌∙◌, ℕ, List, Result, Ok, Err, length, ltb, refl, ap, ap₂, sym, subst, rules}
 use Rattle.std.specs.List.{list_all}
 use Rattle.define_pools.specs.Lottery.{TotalAgrees}
 use Rattle.define_pools.specs.Pool.{Pool}

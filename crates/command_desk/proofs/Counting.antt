@@ -1,7 +1,6 @@
 -- How many visits ended with a status, and how many with a fault of the link.
-use Rattle.std.proofs.Common.{◌≡◌, ◌<◌, ◌≤◌, ◌^◌, ℕ, ◌+◌, ◌++◌, List, [], ◌∷◌, length, Result, Ok, Err, refl, ap, arith, cond}
+use Rattle.std.proofs.Common.{◌≡◌, ℕ, ◌+◌, ◌++◌, List, [], ◌∷◌, length, Result, Ok, Err, refl, arith, cond}
 use Rattle.std.specs.Prelude.{is_ok, is_err}
-use Rattle.std.specs.List.{count_by, sum_by}
 use Rattle.std.proofs.lemmas.List.Sums.{sum_by-append, sum_by-cons}
 use Rattle.office_http.specs.Visits.{Visit}
 use Rattle.office_http.specs.declared.attending.LinkFault.{LinkFault}

@@ -1,6 +1,5 @@
 -- How a call of `serve` ends follows from what it does to keeper and door, and from what it tells.
-use Rattle.std.proofs.Common.{◌≡◌, ℕ, List, Option, None, Result, Ok, Err, refl, sym, ap, subst, ◌∙◌, ◌⊎◌, inl, inr}
-use Rattle.std.specs.Fmt.{decimal}
+use Rattle.std.proofs.Common.{◌≡◌, ℕ, List, Option, None, Result, Ok, Err, ap, subst, ◌∙◌, ◌⊎◌, inl, inr}
 use Rattle.command_shell.specs.Answers.{Prints, Saying}
 use Rattle.command_shell.specs.Lines.{door_fault_line}
 use Rattle.command_shell.specs.Outcomes.{IsCutOff, IsPrinted, IsStopped, IsToldOrCutOff}
@@ -8,7 +7,7 @@ use Rattle.command_shell.specs.Told.{Told}
 use Rattle.command_shell.specs.declared.status.Printed.TheVariants as printed
 use Rattle.command_stores.specs.StoreTold.{IsAttached, Keeper, store_told}
 use Rattle.outside.specs.declared.source.Failed.{Failed}
-use Rattle.command_desk.specs.DeskTold.{Door, DeskTold, Ports, desk_told}
+use Rattle.command_desk.specs.DeskTold.{Door, Ports, desk_told}
 use Rattle.command_desk.specs.Rooms.{numbers_line}
 use Rattle.command_desk.specs.ServeOutcomes.{Done, DoorFault, HasServed, ServeOutcome, WriteFault, kept_after, kept_before}
 use Rattle.command_desk.specs.Turns.{AreCounted, ServesAt}

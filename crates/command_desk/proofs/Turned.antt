@@ -1,8 +1,8 @@
 -- The turns of `serve`, one after the other, and how they end.
-use Rattle.std.proofs.Common.{◌≡◌, ◌≤◌, ◌<◌, ◌⊎◌, ℕ, suc, true, false, ◌+◌, ◌++◌, List, [], ◌∷◌, length, Option, Some, None, Result, Ok, Err, refl, sym, ap, subst, ◌∙◌, inl, inr, length-append, arith, cond}
+use Rattle.std.proofs.Common.{◌≡◌, ◌≤◌, ◌<◌, ℕ, suc, true, false, ◌+◌, ◌++◌, List, [], ◌∷◌, length, Option, Some, None, Result, Ok, Err, refl, sym, ap, subst, ◌∙◌, inl, inr, length-append, arith, cond}
 use Rattle.std.specs.Prelude.{IfSome, is_err, is_ok, option_map}
 use Rattle.command_shell.specs.Told.{HasFaulted, HasNoFault}
-use Rattle.office_http.specs.Visits.{Kept, LinkTold, Visit}
+use Rattle.office_http.specs.Visits.{Kept, LinkTold}
 use Rattle.office_http.specs.declared.attending.LinkFault.{LinkFault}
 use Rattle.outside.specs.Faults.{Rose}
 use Rattle.outside.specs.Links.{Back, DoorCall, DoorLinks, Listen, Next}

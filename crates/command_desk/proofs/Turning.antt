@@ -1,5 +1,5 @@
 -- One turn at a door with links of any type: the door gives a link, the link is attended, and it comes back.
-use Rattle.std.proofs.Common.{◌≡◌, ◌≤◌, ℕ, ◌+◌, ◌++◌, List, [], ◌∷◌, length, take, drop, Option, Some, None, Result, refl, sym, ap, subst, ◌∙◌, length-append, arith}
+use Rattle.std.proofs.Common.{◌≡◌, ◌≤◌, ℕ, ◌+◌, ◌++◌, List, [], ◌∷◌, length, take, Option, Some, None, Result, refl, sym, ap, subst, ◌∙◌, length-append, arith}
 use Rattle.std.specs.Prelude.{map, min, option_map, IfSome}
 use Rattle.std.proofs.lemmas.List.{map-append}
 use Rattle.office_http.specs.Visits.{IsAttended, Kept, LinkTold, Visit, visit}

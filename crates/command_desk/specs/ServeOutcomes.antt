@@ -1,6 +1,6 @@
 -- How a call of `serve` ends. Builds on DeskTold and Serving, and the outcomes of the shell and of calls over a store. Turns, the contracts
 -- of `serve` and of `office`, and the headline cite it.
-use Rattle.std.specs.Prelude.{◌≡◌, ◌⊎◌, ◌≤◌, ℕ, true, false, List, [], length, Option, Some, None, IfSome}
+use Rattle.std.specs.Prelude.{◌≡◌, ◌⊎◌, ◌≤◌, ℕ, true, false, List, [], length, Some, None, IfSome}
 use Rattle.command_shell.specs.Lines.{door_fault_line, keeper_fault_line, want_of_memory_line}
 use Rattle.command_shell.specs.Outcomes.{IsCutOff, IsPrinted, IsStopped}
 use Rattle.command_shell.specs.Told.{HasFaulted, HasNoFault, IsUntouched}

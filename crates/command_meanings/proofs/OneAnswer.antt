@@ -11,7 +11,7 @@ use Rattle.define_pools.proofs.AllPanels.{each_panel}
 use Rattle.define_searches.specs.Classes.{classes_of}
 use Rattle.define_searches.specs.Compositions.{first_panel}
 use Rattle.command_shell.specs.declared.status.Printed.TheVariants.{Done, NoPanel, Refused as Rejected}
-use Rattle.command_shell.specs.declared.status.Cause.TheVariants.{Input, Wide, Spent, Rule}
+use Rattle.command_shell.specs.declared.status.Cause.TheVariants.{Input, Spent, Rule}
 use Rattle.command_shell.specs.Answers.{HasOneAnswer, IsRight, RightAnswers, Saying, Prints, Stops}
 use Rattle.command_meanings.specs.Check.{CheckMeans, refused_line, valid_line, visits_spent_line}
 use Rattle.command_meanings.specs.Draw.{DrawMeans, drawn_lines, refused_draw_line}

@@ -6,7 +6,6 @@ use Rattle.define_pools.specs.Pool.{Pool, panels}
 use Rattle.define_bundles.specs.BundleText.{bundle_text}
 use Rattle.define_legs.specs.declared.Leg.{Leg}
 use Rattle.define_legs.specs.Legs.{RunHasLegs, pivot_limit, with_pivot}
-use Rattle.define_rows.specs.Table.{Table}
 use Rattle.define_searches.specs.Classes.{classes_of}
 use Rattle.define_searches.specs.Visits.{first_search}
 use Rattle.define_runs.specs.Run.{Ending, Limits, RunEnds, RunFinds}

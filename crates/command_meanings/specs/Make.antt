@@ -3,8 +3,7 @@
 use Rattle.std.specs.Prelude.{◌≡◌, ℕ, List, length}
 use Rattle.define_made_pools.specs.MadePools.{made_pool}
 use Rattle.define_made_pools.specs.Summary.{Sizes, summary_text}
-use Rattle.define_pools.specs.Certificate.{Answer, Certifies}
-use Rattle.define_pools.specs.Lottery.{LeximinGreatest}
+use Rattle.define_pools.specs.Certificate.{Answer}
 use Rattle.define_pools.specs.Pool.{Pool}
 use Rattle.define_rows.specs.Table.{Table}
 use Rattle.define_runs.specs.Run.{Ending, Limits, RunEnds}

@@ -13,7 +13,7 @@ use Rattle.define_pools.specs.Pool.{Pool}
 use Rattle.define_bundles.specs.PoolText.{spelling}
 use Rattle.define_runs.specs.Run as run
 use Rattle.define_runs.specs.Run.{Ending, Limits}
-use Rattle.define_offices.specs.Commands.{Change, Command, Solve, Lines, NoPanel, Outcome, Refuses, Refusal, NoRound, Incomplete, Replies, Stops, Unproved}
+use Rattle.define_offices.specs.Commands.{Change, Command, Solve, Lines, NoPanel, Outcome, Refuses, Refusal, Replies, Stops, Unproved}
 use Rattle.define_offices.specs.Facts.{IsCommand}
 use Rattle.define_offices.specs.Lines.{rule_line}
 use Rattle.define_offices.specs.Pools.{pool_of}

@@ -1,7 +1,6 @@
 -- What `verify` answers: the verdict on a proof.
 use Rattle.std.specs.Prelude.{◌≡◌, ℕ, List, [], ◌∷◌, codes}
-use Rattle.define_pools.specs.Certificate.{Answer}
-use Rattle.define_pools.specs.Pool.{Pool, panels}
+use Rattle.define_pools.specs.Pool.{panels}
 use Rattle.define_checks.specs.Reasons.{Refusal, Refused, Valid}
 use Rattle.define_proofs.specs.ProofVerdict.{OfLottery, OfNoPanel, Proof, verdict}
 use Rattle.define_proofs.specs.Refusals.{RefusalMeans}

@@ -6,7 +6,7 @@ use Rattle.define_offices.specs.Commands.{Change}
 use Rattle.define_offices.specs.Tables.{Tables}
 use Rattle.command_shell.specs.Answers.{Prints, Saying, status_of}
 use Rattle.command_shell.specs.Outcomes as ends
-use Rattle.command_shell.specs.Outcomes.{IsAboutSource, IsInput, IsStopped, Outcome, TextOutcome}
+use Rattle.command_shell.specs.Outcomes.{IsAboutSource, IsInput, Outcome, TextOutcome}
 use Rattle.command_stores.specs.StoreOutcomes as over
 use Rattle.command_stores.specs.StoreOutcomes.{IsAnswered, StoreMeaning, StoreOutcome, TextStoreOutcome}
 use Rattle.command_stores.specs.StoreTold.{IsLeftAlone, KeepsTables, StoreTold}

@@ -15,7 +15,7 @@ use Rattle.define_pools.specs.Lists.{includes_list}
 use Rattle.define_pools.specs.Pool.{Category, Pool}
 use Rattle.define_bundles.specs.BundleText.{Bundle}
 use Rattle.define_offices.specs.Commands.{Command, SetCharter, SetRules, Register, Solve, Keep, Seal, Draw, Drop, NextRound, Show, Withdraw, SetBounds, TryDraw, Undrop, Reopen, WithdrawId, Given, Lines, NoPanel, Outcome, Refusal, Refuses, Replies, Stops, Unproved}
-use Rattle.define_offices.specs.Deciding.{IsDecided, Sorted, are_rules_kept, asked, asked_over, bounds_in, bounds_over, charter_over, decide_charter, decide_rules, draw_in, drawn_ids, drop_in, fit_rows, fits_rules, is_charter_kept, is_last_open, is_seated_in, new_draw, next_after, next_in, place_of_id, register_by, registered, reopen_at, reopen_in, row_beyond, same_seal, seal_in, show_in, solve_in, sorted_rows, tickets_or_none, undrop_in, withdraw_id_at, without_change}
+use Rattle.define_offices.specs.Deciding.{IsDecided, Sorted, are_rules_kept, asked, asked_over, bounds_in, bounds_over, charter_over, decide_charter, decide_rules, draw_in, drawn_ids, drop_in, fit_rows, fits_rules, is_charter_kept, is_last_open, is_seated_in, is_withdrawn, new_draw, next_after, next_in, place_of_id, register_by, registered, reopen_at, reopen_in, row_beyond, same_seal, seal_in, show_in, solve_in, sorted_rows, tickets_or_none, undrop_in, with_id, withdraw_id_at, without_change}
 use Rattle.define_draws.specs.Lines.{bundle_seal}
 use Rattle.define_offices.specs.Pools.{drawn_lottery, pool_of}
 use Rattle.define_offices.specs.Steps.{AtOnce, ByRun, Comes}
@@ -118,7 +118,8 @@ module _ (tables : Tables) where
   undrop_plain number id (Some (Sealed bundle tickets)) = record { plain = refl }
   undrop_plain number id (Some (Drawn bundle tickets digits dropped)) =
       if_plain (not (includes_list dropped id)) _ _ (record { plain = refl })
-      (if_plain (number == length tables.rounds) _ _ (record { plain = refl }) (record { plain = refl }))
+      (if_plain (is_withdrawn (with_id tables.register id)) _ _ (record { plain = refl })
+      (if_plain (number == length tables.rounds) _ _ (record { plain = refl }) (record { plain = refl })))
 
   after_plain : (number : ℕ) (round : Round) → IsPlain (next_after number round)
   after_plain number Open = record { plain = refl }

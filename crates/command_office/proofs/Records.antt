@@ -14,11 +14,9 @@ use Rattle.define_offices.specs.Tables.{Entry, Tables, first_tables}
 use Rattle.office_core.specs.Acting.{IsLoaded}
 use Rattle.office_http.specs.Visits.{CutOff, EndsBy, FromBytes, FromTables, IsReply, Kept, NoMemory as WantsMemory, RepliesTo, Unavailable, Unread as BrokeUnread, Visit}
 use Rattle.office_http.specs.declared.attending.LinkFault.{LinkFault}
-use Rattle.command_shell.specs.Answers.{Prints, Saying, Stops as StopsBy, IsRight, status_of}
+use Rattle.command_shell.specs.Answers.{Prints, Saying, Stops as StopsBy, status_of}
 use Rattle.command_shell.specs.Told.{HeldAll}
-use Rattle.command_shell.specs.declared.status.Cause.TheVariants.{Input, Wide, Spent, Rule}
-use Rattle.command_shell.specs.declared.status.Printed.{Printed}
-use Rattle.command_shell.specs.declared.status.Printed.TheVariants.{Done, NoPanel as NonePrinted, Refused as Rejected}
+use Rattle.command_shell.specs.declared.status.Cause.TheVariants.{Input, Rule}
 use Rattle.command_meanings.specs.Prove.{lottery_limits}
 use Rattle.command_meanings.specs.Imports.{Does, HasFault, ImportMeans, NoRules}
 use Rattle.command_meanings.specs.ProvedRounds.{AsSolve, Keeps as KeepsProof, ProvesRound}

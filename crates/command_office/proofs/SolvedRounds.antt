@@ -11,7 +11,7 @@ use Rattle.define_runs.specs.Run.{Ending, Limits, RunEnds, RunFinds, run_limits}
 use Rattle.define_searches.specs.Classes.{are_alike}
 use Rattle.define_searches.proofs.AlikeClasses.{alike_makes}
 use Rattle.laws_of_runs.proofs.NoPanels.{none_where_no_panel}
-use Rattle.define_offices.specs.Commands.{Change, Lines, NoPanel, Outcome, Refusal, Replies, Solve, SolvedWith}
+use Rattle.define_offices.specs.Commands.{Change, Lines, NoPanel, Refusal, Replies, Solve, SolvedWith}
 use Rattle.define_offices.specs.Deciding.{Finds, FindsNone, IsDecided, NeedsRun, asked, asked_over, solve_in, solved}
 use Rattle.define_offices.specs.Facts.{IsTables}
 use Rattle.define_offices.specs.Pools.{pool_of}

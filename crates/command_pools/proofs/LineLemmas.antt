@@ -3,7 +3,7 @@ use Rattle.std.proofs.Common.{◌≡◌, ◌∙◌, ℕ, List, [], ◌∷◌, �
 use Rattle.std.proofs.lemmas.List.{append-nil}
 use Rattle.define_lines.specs.Lines.{line_feed, line_of, tab, tabbed, text_of}
 use Rattle.define_lines.proofs.LineLemmas.{line_written}
-use Rattle.pool_text.proofs.PanelLines.{tabbed_then}
+use Rattle.define_bundles.proofs.PanelLines.{tabbed_then}
 
 four_more : (word : List ℕ) (fields : List (List ℕ)) (a b c d : List ℕ) →
     (((((word ++ tabbed fields) ++ (tab ∷ a)) ++ (tab ∷ b)) ++ (tab ∷ c)) ++ (tab ∷ d)) ++ line_feed ∷ [] ≡ text_of (line_of (word ∷ (fields ++ a ∷ b ∷ c ∷ d ∷ [])) ∷ [])

@@ -7,7 +7,7 @@ use Rattle.define_pools.specs.Certificate.{Answer}
 use Rattle.define_pools.specs.Pool.{Pool}
 use Rattle.define_rows.specs.Table.{Table}
 use Rattle.define_searches.specs.Classes.{classes_of}
-use Rattle.define_runs.specs.Run.{Ending, Limits, RunEnds, run_limits}
+use Rattle.define_runs.specs.Run.{Ending, Limits, run_limits}
 use Rattle.define_runs.specs.declared.sizes.RunSizes.{RunSizes}
 use Rattle.leximin_run.specs.Answers.{SpendsBelowLegs, TellsEnding, sizes_in, stood}
 use Rattle.leximin_run.specs.declared.stops.Stop.{Stop}

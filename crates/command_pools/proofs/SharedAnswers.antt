@@ -1,11 +1,10 @@
 -- The answers for a stop of the run are right by `SharedLotteryMeans`.
 use Rattle.std.proofs.Common.{◌≡◌, ℕ, ◌≤◌, List, Err, refl, sym, subst, arith}
 use Rattle.define_pools.specs.Pool.{Pool}
-use Rattle.define_rows.specs.Table.{Table}
 use Rattle.define_searches.specs.Classes.{classes_of}
 use Rattle.define_searches.specs.Visits.{first_search}
 use Rattle.define_runs.specs.Run.{Ending, Ends, Limits, RunLimits, run_limits}
-use Rattle.define_runs.specs.Sharing.{EndsUnbounded, MayEnd, with_pricing}
+use Rattle.define_runs.specs.Sharing.{EndsUnbounded, with_pricing}
 use Rattle.leximin_run.specs.Answers.{TellsSharing, stood}
 use Rattle.leximin_run.specs.declared.stops.Stop.{Stop}
 use Rattle.leximin_run.specs.declared.stops.Stop.TheVariants.{TooWide, TotalPasses, PivotsSpent, NodesSpent, OutOfMemory}

@@ -1,7 +1,7 @@
 //! The command `prove`: the lottery of a pool, or of a bundle, with a proof that is verified before it is printed. Where the engine has no
 //! lottery, the run of `lottery` takes over; where it finds no trees, the searches of `check`.
 
-ghost use Rattle.std.specs.Prelude.{IfOk};
+ghost use Rattle.std.specs.Prelude.{IfOk, IfSome};
 ghost use Rattle.std.specs.Thread.{IsSync};
 ghost use Rattle.command_meanings.specs.Lottery.{FindsNone};
 ghost use Rattle.command_meanings.specs.Prove.{ProvesWithin, lottery_limits as limits_without_words};
@@ -123,13 +123,35 @@ fn about_pool<R: Threads + Sync, W: Watch + Sync>(
     ensures spends { SpendsOn budget.old budget.new }
     ensures visits { SpendsOn trees.old trees.new }
 {
-    match proof_within(resources.alloc, budget, pool)? {
-        Made::Valid(proof) => valid_proof(resources.alloc, &proof),
-        Made::Lottery(bundle) => match settle(resources.alloc, trees, &bundle)? {
-            Settled::Told(answer) => Ok(answer),
-            Settled::Checked(_) => by_run(resources, trees, pool),
+    match prove_alone(resources.alloc, budget, trees, pool)? {
+        Some(answer) => Ok(answer),
+        None => by_run(resources, trees, pool),
+    }
+}
+
+/// Returns what `prove` answers about `pool` if that needs no run of `lottery`, which starts threads: the proof that its engine makes, or
+/// what settles a lottery without trees. Afterwards both budgets are what is left of them.
+///
+/// # Errors
+///
+/// Want of memory alone.
+pub fn prove_alone(
+    alloc: Global,
+    budget: &mut Budget,
+    trees: &mut Budget,
+    pool: &Pool,
+) -> Result<Option<Answer>, AllocError>
+    ensures right { IfOk result (λ answered. IfSome answered (IsNowRight trees.new (either.Pool pool.now))) }
+    ensures spends { SpendsOn budget.old budget.new }
+    ensures visits { SpendsOn trees.old trees.new }
+{
+    match proof_within(alloc, budget, pool)? {
+        Made::Valid(proof) => Ok(Some(valid_proof(alloc, &proof)?)),
+        Made::Lottery(bundle) => match settle(alloc, trees, &bundle)? {
+            Settled::Told(answer) => Ok(Some(answer)),
+            Settled::Checked(_) => Ok(None),
         },
-        Made::Nothing => by_run(resources, trees, pool),
+        Made::Nothing => Ok(None),
     }
 }
 

@@ -144,11 +144,7 @@ pub(crate) fn if_valid(alloc: Global, proof: &Proof) -> Result<Option<Answer>, A
 }
 
 /// Returns the answer with the text of a proof.
-///
-/// # Errors
-///
-/// Want of memory.
-pub fn proof_answer(alloc: Global, proof: &Proof) -> Result<Answer, AllocError>
+pub(crate) fn proof_answer(alloc: Global, proof: &Proof) -> Result<Answer, AllocError>
     ensures { IfOk result (λ answer. saying answer ≡ proof_said proof.now) }
 {
     Ok(Answer::Prints {

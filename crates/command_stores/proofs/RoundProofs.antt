@@ -1,5 +1,5 @@
 -- What the code does for a round that is to be proved is what `ProvesRound` says.
-use Rattle.std.proofs.Common.{◌≡◌, ℕ, true, false, Option, Some, None, is_none, Result, Ok, Err, refl}
+use Rattle.std.proofs.Common.{◌≡◌, ℕ, true, Option, Some, None, is_none, Result, Ok, Err, refl}
 use Rattle.define_proofs.specs.ProofVerdict.{OfLottery, OfNoPanel, Proof}
 use Rattle.define_pools.specs.Pool.{Pool}
 use Rattle.command_meanings.specs.Prove.{lottery_limits}

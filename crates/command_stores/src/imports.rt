@@ -1,7 +1,8 @@
 //! Imports: a file from the source is read as a command of the office, and the command is done over the store.
 
-ghost use Rattle.std.specs.Prelude.{◌≡◌, IfOk};
+ghost use Rattle.std.specs.Prelude.{◌≡◌, IfErr, IfOk, false};
 ghost use Rattle.command_shell.specs.Answers.{status_number, saying};
+ghost use Rattle.command_shell.specs.Outcomes.{HasNoInput, IsInput};
 ghost use Rattle.command_shell.specs.Told.{object, told};
 ghost use Rattle.office_import.specs.Answers.{fault_of};
 ghost use Rattle.command_meanings.specs.Imports.{ImportMeans, fault_answer as words_of_fault, rules_for};
@@ -18,7 +19,7 @@ use command_shell::{Answer, Cause, Resources, Status, input_line, read_input, re
 use office_core::{Command, Keeper, KeeperStop, Part, Refusal, Rules, Tables};
 use office_import::{ImportFault, ImportStop, read_charter, read_register, read_rules};
 use office_tables::LaterRound;
-use outside::{Sink, Source, Watch};
+use outside::{ReadStop, Sink, Source, Watch};
 use proof_text::{Proof, read_proof};
 use std::alloc::{AllocError, Global};
 use std::thread::Threads;
@@ -57,13 +58,26 @@ pub fn call_import<R: Threads + Sync, W: Watch + Sync, K: Keeper, S: Source, O: 
     if let Err(stop) = attach(alloc, path, keeper) {
         return tell_settled(&Err(stop), out, errs);
     }
-    match read_input(alloc, source) {
+    match read_unheld(alloc, source, keeper) {
         Ok(bytes) => {
             let settled = settle_import(resources, import, &bytes, keeper);
             tell_settled(&settled, out, errs)
         }
         Err(stop) => refuse_input(errs, stop),
     }
+}
+
+/// Reads the file while others may use the store.
+fn read_unheld<K: Keeper, S: Source>(
+    alloc: Global,
+    source: &mut S,
+    _keeper: &K,
+) -> Result<Vec<u8>, ReadStop>
+    requires free { K.holds _keeper.now ≡ false }
+    ensures input { IfOk result (λ bytes. IsInput (object (S.left source.old) (S.left source.new) (S.faults source.old) (S.faults source.new)) bytes.items) }
+    ensures none { IfErr result (λ stop. HasNoInput stop (object (S.left source.old) (S.left source.new) (S.faults source.old) (S.faults source.new))) }
+{
+    read_input(alloc, source)
 }
 
 /// Loads the tables of a keeper that is attached, imports the file, and returns the answer.

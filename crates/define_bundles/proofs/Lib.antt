@@ -7,3 +7,4 @@ pub mod AnswerLines
 pub mod ReadAgain
 pub mod Spelled
 pub mod Weights
+pub mod PanelLines

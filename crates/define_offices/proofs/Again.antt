@@ -11,7 +11,7 @@ use Rattle.define_pools.specs.Pool.{BoundedValue, Category, Pool}
 use Rattle.define_draws.specs.Seal.{seal_of}
 use Rattle.define_offices.specs.Tables.{Charter, Entry, Round, Open, Solved, Sealed, Drawn, Tables, is_enrolling, named_round, round_at, taken_at, same_charter, same_rules, same_shape, same_values}
 use Rattle.define_offices.specs.Commands.{Command, SetCharter, SetRules, Register, Solve, Keep, Seal, Draw, Drop, NextRound, Show, Withdraw, SetBounds, TryDraw, Undrop, Reopen, WithdrawId, Change, CharterSet, RulesSet, BoundsSet, TakenBack, Reopened, NotDropped, Outcome, Replies, Refuses, Stops, Unproved, Refusal, Reply}
-use Rattle.define_offices.specs.Deciding.{IsDecided, NeedsRun, are_rules_kept, asked, bounds_in, bounds_over, charter_over, decide_bounds, decide_charter, decide_rules, draw_in, fit_rows, is_charter_kept, no_round, place_of_hash, place_of_id, reopen_at, reopen_in, row_beyond, show_in, tells, undrop_in, without_change}
+use Rattle.define_offices.specs.Deciding.{IsDecided, NeedsRun, are_rules_kept, asked, bounds_in, bounds_over, charter_over, decide_bounds, decide_charter, decide_rules, draw_in, fit_rows, is_charter_kept, no_round, is_withdrawn, place_of_hash, place_of_id, reopen_at, reopen_in, row_beyond, show_in, tells, undrop_in, with_id, without_change}
 use Rattle.define_offices.specs.Facts.{IsCommand, IsTables}
 use Rattle.define_offices.specs.Lines.{charter_line, rules_line}
 use Rattle.define_offices.specs.Pools.{pool_after, pool_by, pool_of, with_bounds}
@@ -332,11 +332,12 @@ pub record TakesBack (tables : Tables) (number : ℕ) (id : List ℕ) (dropped :
   pub member : includes_list dropped id ≡ true
   pub is : Some (TakenBack number id) ≡ change
 
-pub takes_so : (tables : Tables) (number : ℕ) (id : List ℕ) (dropped : List (List ℕ)) (change : Option Change) (reply : Reply) (member last : Bool) (one two : Refusal) (told : Reply) → includes_list dropped id ≡ member →
-    cond (not member) (Refuses one) (cond last (Replies (Some (TakenBack number id)) told) (Refuses two)) ≡ Replies change reply → TakesBack tables number id dropped change
-takes_so tables number id dropped change reply true true one two told e h = record { member = e; is = cc }
-takes_so tables number id dropped change reply true false one two told e h = absurd (cc)
-takes_so tables number id dropped change reply false last one two told e h = absurd (cc)
+pub takes_so : (tables : Tables) (number : ℕ) (id : List ℕ) (dropped : List (List ℕ)) (change : Option Change) (reply : Reply) (member withdrawn last : Bool) (one late two : Refusal) (told : Reply) → includes_list dropped id ≡ member →
+    cond (not member) (Refuses one) (cond withdrawn (Refuses late) (cond last (Replies (Some (TakenBack number id)) told) (Refuses two))) ≡ Replies change reply → TakesBack tables number id dropped change
+takes_so tables number id dropped change reply true false true one late two told e h = record { member = e; is = cc }
+takes_so tables number id dropped change reply true false false one late two told e h = absurd (cc)
+takes_so tables number id dropped change reply true true last one late two told e h = absurd (cc)
+takes_so tables number id dropped change reply false withdrawn last one late two told e h = absurd (cc)
 
 undrop_again_in : (tables : Tables) (number : ℕ) (id : List ℕ) (change : Option Change) (reply : Reply) (found : Option Round) → named_round tables.rounds number ≡ found → undrop_in tables number id found ≡ Replies change reply →
     asked (applied tables change) (Undrop number id) ≡ IsDecided (Refuses (NotDropped id))
@@ -345,7 +346,7 @@ undrop_again_in tables number id change reply (Some Open) at h = absurd (cc)
 undrop_again_in tables number id change reply (Some (Solved bundle)) at h = absurd (cc)
 undrop_again_in tables number id change reply (Some (Sealed bundle tickets)) at h = absurd (cc)
 undrop_again_in tables number id change reply (Some (Drawn bundle tickets digits dropped)) at h =
-    let so = takes_so tables number id dropped change reply (includes_list dropped id) (eqb number (length tables.rounds)) _ _ _ refl h in
+    let so = takes_so tables number id dropped change reply (includes_list dropped id) (is_withdrawn (with_id tables.register id)) (eqb number (length tables.rounds)) _ _ _ _ refl h in
     let there = named_there (taken_back id) tables.rounds number (Drawn bundle tickets digits dropped) at in
     let told : asked (apply tables (TakenBack number id)) (Undrop number id) ≡ IsDecided (Refuses (NotDropped id)) = rw (there, none_left id dropped) refl in
     subst (λ c. asked (applied tables c) (Undrop number id) ≡ IsDecided (Refuses (NotDropped id))) so.is told

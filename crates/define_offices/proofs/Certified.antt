@@ -14,7 +14,7 @@ use Rattle.define_draws.specs.Draw.{draw}
 use Rattle.define_draws.specs.Seal.{is_seal, seal_of}
 use Rattle.define_offices.specs.Tables.{Charter, Entry, Round, Open, Solved, Sealed, Drawn, Tables, bundle_of, changed_named, first_tables, is_enrolling, most_rows, named_round, round_at, same_rules, same_shape, taken_named}
 use Rattle.define_offices.specs.Commands.{Given, Command, SetCharter, SetRules, Register, Solve, Keep, Seal, Draw, Drop, NextRound, Show, Withdraw, SetBounds, TryDraw, Undrop, Reopen, WithdrawId, Change, CharterSet, RulesSet, Added, SolvedWith, SealTold, DrawnWith, DroppedOut, Begun, Withdrawn, BoundsSet, TakenBack, Reopened, Outcome, Replies, Refuses, Stops, Unproved, Lines, Refusal, Reply, TooLate}
-use Rattle.define_offices.specs.Deciding.{Answered, Finds, FindsNone, IsDecided, NeedsRun, Sorted, addition, answered, are_rules_kept, asked, bounds_in, bounds_over, charter_over, draw_in, drawn_ids, drop_in, fit_rows, fits_rules, is_charter_kept, is_last_open, is_seated_in, new_draw, next_after, next_in, place_of_hash, place_of_id, register_by, registered, reopen_at, reopen_in, row_beyond, same_seal, seal_in, show_in, sorted_rows, tickets_or_none, undrop_in, withdraw_at, withdraw_id_at, withdraw_row, without_change}
+use Rattle.define_offices.specs.Deciding.{Answered, Finds, FindsNone, IsDecided, NeedsRun, Sorted, addition, answered, are_rules_kept, asked, bounds_in, bounds_over, charter_over, draw_in, drawn_ids, drop_in, fit_rows, fits_rules, is_charter_kept, is_last_open, is_seated_in, is_withdrawn, new_draw, next_after, next_in, place_of_hash, place_of_id, register_by, registered, reopen_at, reopen_in, row_beyond, same_seal, seal_in, show_in, sorted_rows, tickets_or_none, undrop_in, with_id, withdraw_at, withdraw_id_at, withdraw_row, without_change}
 use Rattle.define_offices.specs.Facts.{AreCertified, AreGreatest, IsCommand, IsTables}
 use Rattle.define_draws.specs.Lines.{bundle_seal}
 use Rattle.define_offices.specs.Pools.{drawn_lottery, pool_of}
@@ -221,7 +221,7 @@ undrop_brings tables number id (Some Open) = refl
 undrop_brings tables number id (Some (Solved bundle)) = refl
 undrop_brings tables number id (Some (Sealed bundle tickets)) = refl
 undrop_brings tables number id (Some (Drawn bundle tickets digits dropped)) =
-    neither (not (includes_list dropped id)) _ _ refl (neither (eqb number (length tables.rounds)) _ _ refl refl)
+    neither (not (includes_list dropped id)) _ _ refl (neither (is_withdrawn (with_id tables.register id)) _ _ refl (neither (eqb number (length tables.rounds)) _ _ refl refl))
 
 reopen_at_brings : (number : ℕ) (round : Round) → brings (sort (reopen_at number round)) ≡ false
 reopen_at_brings number Open = refl

@@ -11,7 +11,7 @@ use Rattle.define_draws.specs.Draw.{draw}
 use Rattle.define_draws.specs.Seal.{is_seal, seal_of}
 use Rattle.define_offices.specs.Tables.{Charter, Entry, Round, Open, Solved, Sealed, Drawn, Tables, changed_named, is_enrolling, most_rows, named_round, round_at, same_rules, same_shape, taken_at}
 use Rattle.define_offices.specs.Commands.{Command, SetCharter, SetRules, Register, Solve, Keep, Seal, Draw, Drop, NextRound, Show, Withdraw, SetBounds, TryDraw, Undrop, Reopen, WithdrawId, Given, Change, CharterSet, RulesSet, Added, SolvedWith, SealTold, DrawnWith, DroppedOut, Begun, Withdrawn, TakenBack, Reopened, Replies, Refuses, Refusal, Reply, Lines, TooLate}
-use Rattle.define_offices.specs.Deciding.{Answered, Finds, FindsNone, IsDecided, NeedsRun, Sorted, addition, answered, are_rules_kept, asked, decide_charter, decide_rules, draw_in, drawn_ids, drop_in, fit_rows, fits_rules, is_charter_kept, is_last_open, is_seated_in, new_draw, next_in, place_of_hash, place_of_id, register_by, registered, row_beyond, seal_in, sorted_rows, undrop_in, withdraw_at, withdraw_id_at, withdraw_row}
+use Rattle.define_offices.specs.Deciding.{Answered, Finds, FindsNone, IsDecided, NeedsRun, Sorted, addition, answered, are_rules_kept, asked, decide_charter, decide_rules, draw_in, drawn_ids, drop_in, fit_rows, fits_rules, is_charter_kept, is_last_open, is_seated_in, is_withdrawn, new_draw, next_in, place_of_hash, place_of_id, register_by, registered, row_beyond, seal_in, sorted_rows, undrop_in, with_id, withdraw_at, withdraw_id_at, withdraw_row}
 use Rattle.define_offices.specs.Facts.{IsCommand, IsTables}
 use Rattle.define_draws.specs.Lines.{bundle_seal}
 use Rattle.define_offices.specs.Pools.{drawn_lottery, pool_after, pool_of, with_bounds}
@@ -176,7 +176,7 @@ module _ (tables : Tables) (change : Change) (reply : Reply) where
   undrop_changes number id (Some (Solved bundle)) at h same = cc
   undrop_changes number id (Some (Sealed bundle tickets)) at h same = cc
   undrop_changes number id (Some (Drawn bundle tickets digits dropped)) at h same =
-      let so = takes_so tables number id dropped (Some change) reply (includes_list dropped id) (eqb number (length tables.rounds)) _ _ _ refl h in
+      let so = takes_so tables number id dropped (Some change) reply (includes_list dropped id) (is_withdrawn (with_id tables.register id)) (eqb number (length tables.rounds)) _ _ _ _ refl h in
       let is : TakenBack number id ≡ change = let e = so.is in cc in
       round_changes (taken_back id) tables.rounds number (Drawn bundle tickets digits dropped) at
       (λ e. let less : without_id id dropped ≡ dropped = cc in false≢true (sym (none_left id dropped) ∙ (ap (λ ids. includes_list ids id) less ∙ so.member))) (of_rounds (TakenBack number id) is same)

@@ -16,7 +16,7 @@ use Rattle.define_draws.specs.Draw.{draw, drawn_with}
 use Rattle.define_draws.specs.Seal.{is_seal}
 use Rattle.define_offices.specs.Tables.{Charter, Entry, Round, Open, Solved, Sealed, Drawn, Tables, is_enrolling, most_rows, named_round, same_rules, same_shape}
 use Rattle.define_offices.specs.Commands.{DroppedOut, TakenBack, Given, Outcome, Refusal, Refuses, Replies, Reply, Lines, TooLate, Withdrawn, Stops, Unproved}
-use Rattle.define_offices.specs.Deciding.{Sorted, addition, are_rules_kept, bounds_in, bounds_over, changes, charter_over, decide_charter, decide_register, decide_rules, draw_in, drawn_ids, drop_in, fit_rows, fits_rules, is_charter_kept, is_last_open, is_seated_in, new_draw, next_after, next_in, register_by, registered, reopen_at, reopen_in, row_beyond, same_seal, seal_in, show_in, sorted_rows, tickets_or_none, undrop_in, withdraw_at, withdraw_id_at, withdraw_row, without_change}
+use Rattle.define_offices.specs.Deciding.{Sorted, addition, are_rules_kept, bounds_in, bounds_over, changes, charter_over, decide_charter, decide_register, decide_rules, draw_in, drawn_ids, drop_in, fit_rows, fits_rules, is_charter_kept, is_last_open, is_seated_in, is_withdrawn, new_draw, next_after, next_in, register_by, registered, reopen_at, reopen_in, row_beyond, same_seal, seal_in, show_in, sorted_rows, tickets_or_none, undrop_in, with_id, withdraw_at, withdraw_id_at, withdraw_row, without_change}
 use Rattle.define_offices.specs.Facts.{AreRules, IsTables, KeepsRound, are_tickets, has_drop, is_charter, is_given, rows_fit}
 use Rattle.define_offices.specs.Lines.{dropped_line, undropped_line}
 use Rattle.define_draws.specs.Lines.{bundle_seal}
@@ -256,7 +256,8 @@ module _ (tables : Tables) (keeps : IsTables tables) where
   undrop_keeps number id (Some (Sealed bundle tickets)) at = keeps
   undrop_keeps number id (Some (Drawn bundle tickets digits dropped)) at =
       if_not (includes_list dropped id) _ _ (λ _. keeps)
-      (λ _. if_else (eqb number (length tables.rounds)) _ _ (λ last. taken_back_keeps number id bundle tickets digits dropped at (eqb-true number (length tables.rounds) last)) (λ _. keeps))
+      (λ _. if_else (is_withdrawn (with_id tables.register id)) _ _ (λ _. keeps)
+      (λ _. if_else (eqb number (length tables.rounds)) _ _ (λ last. taken_back_keeps number id bundle tickets digits dropped at (eqb-true number (length tables.rounds) last)) (λ _. keeps)))
 
   -- ---- the next round, a round that is taken away, and what a round shows
 

@@ -12,7 +12,6 @@ use Rattle.define_pools.specs.Pool.{Category, Pool, volunteer}
 use Rattle.define_bundles.specs.BundleText.{Bundle, bundle_spelling}
 use Rattle.define_draws.specs.declared.DiceStop.TheVariants as dice
 use Rattle.define_draws.specs.Draw as draws
-use Rattle.define_draws.specs.Draw.{drawn_with}
 use Rattle.define_draws.specs.Seal.{is_seal, seal_of}
 use Rattle.define_bundles.specs.PoolText.{spelling}
 use Rattle.define_checks.specs.Reasons as reasons
@@ -237,6 +236,12 @@ drop_in tables number id (Some (Drawn bundle tickets digits dropped)) =
     else if number == length tables.rounds then changes (DroppedOut number id) (dropped_line number id)
     else Refuses (RoundClosed (length tables.rounds))
 
+-- there is a row, and it withdrew
+abbrev pub is_withdrawn : Option Entry → Bool
+is_withdrawn None = false
+is_withdrawn (Some entry) = entry.withdrawn
+
+-- the outcome of taking a dropout back. Who withdrew meanwhile stays out, since nobody who withdrew is on a later panel
 abbrev pub undrop_in : Tables → ℕ → List ℕ → Option Round → Outcome
 undrop_in tables number id None = no_round tables
 undrop_in tables number id (Some Open) = Refuses (WrongPhase phase.Open)
@@ -244,6 +249,7 @@ undrop_in tables number id (Some (Solved bundle)) = Refuses (WrongPhase phase.So
 undrop_in tables number id (Some (Sealed bundle tickets)) = Refuses (WrongPhase phase.Sealed)
 undrop_in tables number id (Some (Drawn bundle tickets digits dropped)) =
     if not (includes_list dropped id) then Refuses (NotDropped id)
+    else if is_withdrawn (with_id tables.register id) then Refuses TooLate
     else if number == length tables.rounds then changes (TakenBack number id) (undropped_line number id)
     else Refuses (RoundClosed (length tables.rounds))
 

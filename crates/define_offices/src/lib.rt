@@ -146,7 +146,8 @@ pub fn worked_bounds()
 {}
 
 /// The open second round is taken away with its bounds, and the dropout is taken back. Both are refused when they are given again, and so is
-/// a round that is taken away once it has an answer, and a dropout that is taken back while there is a next round.
+/// a round that is taken away once it has an answer, a dropout that is taken back while there is a next round, and the dropout of somebody
+/// who withdrew.
 pub fn worked_returns()
     ensures reopened { asked second_wider (Reopen 2) ≡ IsDecided (changes (Reopened 2) (line_of (codes "reopened" ∷ codes "2" ∷ []))) }
     ensures gone { apply second_wider (Reopened 2) ≡ in_rounds (drawn (codes "a" ∷ []) ∷ []) }
@@ -157,6 +158,8 @@ pub fn worked_returns()
     ensures as_before { apply (in_rounds (drawn (codes "a" ∷ []) ∷ [])) (TakenBack 1 (codes "a")) ≡ in_rounds (drawn [] ∷ []) }
     ensures undropped_again { asked (in_rounds (drawn [] ∷ [])) (Undrop 1 (codes "a")) ≡ IsDecided (Refuses (NotDropped (codes "a"))) }
     ensures undrop_closed { asked second_open (Undrop 1 (codes "a")) ≡ IsDecided (Refuses (RoundClosed 2)) }
+    ensures undrop_late { asked (apply second_open (Withdrawn 0)) (Undrop 1 (codes "a")) ≡ IsDecided (Refuses TooLate) }
+    ensures undrop_late_still { asked (apply (apply second_open (Withdrawn 0)) (Reopened 2)) (Undrop 1 (codes "a")) ≡ IsDecided (Refuses TooLate) }
 {}
 
 /// The office enters a withdrawal by the volunteer's id. Refused are an unknown id, and the volunteer who is seated.

@@ -1,6 +1,6 @@
 -- Whether the volunteer of a row is seated in the pool of an open round, by what is published of the round before and by whether this
 -- volunteer dropped out of it.
-use Rattle.std.proofs.Common.{◌≡◌, ℕ, zero, suc, ◌+◌, ◌<◌, ◌≤◌, Bool, true, false, cond, eqb, not, ◌&&◌, ◌||◌, List, [], ◌∷◌, length, get_or, map, filter, Option, Some, None, Result, Ok, Err, refl, sym, ap, ◌∙◌, arith, subst}
+use Rattle.std.proofs.Common.{◌≡◌, ℕ, zero, suc, ◌+◌, ◌<◌, ◌≤◌, Bool, true, false, cond, eqb, not, List, [], ◌∷◌, length, get_or, map, filter, Option, Some, None, refl, sym, ap, ◌∙◌, arith}
 use Rattle.std.specs.List.{range_with_len}
 use Rattle.std.specs.Prelude.{IsTrue, is_some}
 use Rattle.std.specs.Str.{bytes_eq}
@@ -11,13 +11,12 @@ use Rattle.define_pools.specs.declared.Standing.{Standing}
 use Rattle.define_pools.specs.declared.Standing.TheVariants as standing
 use Rattle.define_pools.specs.Building.{ids}
 use Rattle.define_pools.specs.Lists.{all_different, includes, includes_list}
-use Rattle.define_pools.specs.Pool.{Category, Pool, Volunteer, everybody, volunteer}
+use Rattle.define_pools.specs.Pool.{Category, Volunteer, volunteer}
 use Rattle.define_bundles.specs.BundleText.{Bundle}
-use Rattle.define_offices.specs.Commands.{Refusal}
 use Rattle.define_offices.specs.Deciding.{is_seated, is_seated_in, place_of_hash}
 use Rattle.define_offices.specs.Facts.{IsTables, entry_ids}
-use Rattle.define_offices.specs.Pools.{after_withdrawals, drawn_of, has_withdrawn, next_pool, next_standing, numbers_of, open_pool, pool_after, pool_by, pool_if, pool_of, restood, standing_of, volunteer_of}
-use Rattle.define_offices.specs.Tables.{Charter, Entry, Round, Open, Solved, Sealed, Drawn, Tables, round_at}
+use Rattle.define_offices.specs.Pools.{after_withdrawals, drawn_of, has_withdrawn, next_standing, numbers_of, pool_after, pool_by, pool_if, pool_of, restood, standing_of, volunteer_of}
+use Rattle.define_offices.specs.Tables.{Charter, Entry, Round, Open, Drawn, Tables, round_at}
 use Rattle.define_offices.proofs.Pools.{length-restood}
 use Rattle.define_offices.proofs.Shapes.{volunteers-bounds}
 

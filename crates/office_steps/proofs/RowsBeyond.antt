@@ -1,4 +1,4 @@
--- What `get` finds at a place of the register is the first row that a register of so many rows has no room for.
+-- `row_beyond` finds at a place of the register what `get` finds there.
 use Rattle.std.proofs.Common.{◌≡◌, ℕ, zero, suc, ◌<◌, ◌≤◌, ltb, List, [], ◌∷◌, length, get_or, Bor, Option, Some, None, is_some, IfSome, option_map, refl, sym, ap, ◌∙◌, arith}
 use Rattle.std.proofs.lemmas.Bool.{ltb-true, ltb-false}
 use Rattle.define_offices.specs.Deciding.{row_beyond}

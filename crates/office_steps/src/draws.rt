@@ -1,13 +1,13 @@
 //! The outcomes of seals, draws and dropouts, and of a dropout that is taken back.
 
-ghost use Rattle.std.specs.Prelude.{◌≡◌, [], ◌∷◌, length, nat_lt, IfOk, IsTrue, Some, is_ok};
+ghost use Rattle.std.specs.Prelude.{◌≡◌, [], ◌∷◌, length, nat_lt, option_map, IfOk, IsTrue, Some, is_ok};
 ghost use Rattle.std.specs.List.{list_all};
 ghost use Rattle.define_pools.specs.Lists.{includes_list};
 ghost use Rattle.define_pools.specs.Lottery.{TotalAgrees};
 ghost use Rattle.define_draws.specs.Dice.{name_ticket};
 ghost use Rattle.define_draws.specs.Draw.{draw as draw_of};
 ghost use Rattle.define_offices.specs.Commands.{SealTold};
-ghost use Rattle.define_offices.specs.Deciding.{changes, draw_in, drawn_ids, drop_in, new_draw as new_draw_of, same_draw as same_draw_of, same_seal as same_seal_of, seal_in, tells, tickets_or_none, undrop_in, without_change};
+ghost use Rattle.define_offices.specs.Deciding.{changes, draw_in, drawn_ids, drop_in, is_withdrawn, new_draw as new_draw_of, same_draw as same_draw_of, same_seal as same_seal_of, seal_in, tells, tickets_or_none, undrop_in, with_id, without_change};
 ghost use Rattle.define_offices.specs.Pools.{drawn_lottery};
 ghost use Rattle.define_lines.specs.Lines.{line_of};
 ghost use Rattle.sealed_draw.specs.Answers.{DrawSays};
@@ -27,7 +27,9 @@ use crate::replies::{Refusal, Reply};
 use crate::stops::OfficeStop;
 use bundle_text::{Bundle, write_bundle};
 use itoa::Buffer;
-use office_tables::{Change, Phase, Round, Tables, Tickets, copied_tickets, drawn_by, is_member};
+use office_tables::{
+    Change, Entry, Phase, Round, Tables, Tickets, copied_tickets, drawn_by, is_member,
+};
 use pool_model::Name;
 use sealed_draw::{Draw, DrawStop, draw, seal};
 use short_tickets::short_bundle;
@@ -333,7 +335,7 @@ pub fn undrop_member(
 }
 
 /// Returns the outcome of taking a dropout back from `round`, which has this number. It is refused unless the round is drawn, this member
-/// dropped out, and no later round has begun.
+/// dropped out and hasn't withdrawn since, and no later round has begun.
 fn undrop_from(
     alloc: Global,
     tables: &Tables,
@@ -351,6 +353,9 @@ fn undrop_from(
     if !is_among(round.dropped(), id) {
         return Err(OfficeStop::Refused(Refusal::NotDropped { id: id.copy()? }));
     }
+    if has_withdrawn(tables.register(), id) {
+        return Err(OfficeStop::Refused(Refusal::TooLate));
+    }
     if number != tables.rounds().len() {
         return Err(OfficeStop::Refused(Refusal::RoundClosed {
             last: tables.rounds().len(),
@@ -361,6 +366,25 @@ fn undrop_from(
         id: id.copy()?,
     };
     Ok((Some(change), undropped_reply(alloc, number, id)?))
+}
+
+/// True if the volunteer with this id withdrew.
+fn has_withdrawn(register: &[Entry], id: &Name) -> bool
+    ensures { result ≡ is_withdrawn (with_id register.now id.now) }
+{
+    match row_with_id(register, id) {
+        Some(entry) => entry.withdrawn(),
+        None => false,
+    }
+}
+
+/// Returns the first row with this id, if there is one.
+fn row_with_id<'a>(register: &'a [Entry], id: &Name) -> Option<&'a Entry>
+    ensures { option_map (λ entry. entry.now) result ≡ with_id register.now id.now }
+{
+    register
+        .iter()
+        .find(|entry| id.as_bytes() == entry.id().as_bytes())
 }
 
 /// True if the digits draw a panel with this member.

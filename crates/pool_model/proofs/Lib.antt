@@ -1,3 +1,4 @@
 pub mod NameLists
 pub mod LastCategory
 pub mod PanelWeights
+pub mod IdsInOrder

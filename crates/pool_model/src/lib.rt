@@ -10,6 +10,7 @@ mod building;
 mod certificates;
 mod counting;
 mod households;
+mod id_order;
 mod lotteries;
 mod names;
 mod panels;

@@ -10,6 +10,7 @@ ghost use Rattle.pool_model.specs.Answers.{Answers};
 ghost use Rattle.pool_model.specs.declared.building.BuildStop.TheVariants.{OutOfMemory};
 
 use crate::building::BuildStop;
+use crate::id_order::follows_last;
 use crate::names::{
     are_known, are_named, bytes_of, is_category, is_value, is_volunteer, keeps_name_limits, places,
 };
@@ -35,16 +36,22 @@ pub struct Pool {
     size: usize,
     categories: Vec<Category>,
     volunteers: Vec<Volunteer>,
+    // True only if each id precedes the next one. An id that follows the last one is then new.
+    ids_in_order: bool,
 }
 
 impl Model for Pool {
+    ghost use Rattle.std.specs.Prelude.{IsTrue};
+    ghost use Rattle.define_pools.specs.Building.{ids};
     ghost use Rattle.define_pools.specs.Pool.{Pool as Seen, IsPool};
+    ghost use Rattle.pool_model.specs.IdOrder.{are_in_order};
 
     ghost Value = { Seen };
 
     ghost view = { λ p. record { size = p.size; categories = p.categories.items; volunteers = p.volunteers.items } };
 
-    ghost invariant = { λ p. IsPool (record { size = p.size; categories = p.categories.items; volunteers = p.volunteers.items }) };
+    ghost invariant = { λ p. IsPool (record { size = p.size; categories = p.categories.items; volunteers = p.volunteers.items })
+        × (IsTrue p.ids_in_order → IsTrue (are_in_order (ids p.volunteers.items))) };
 }
 
 impl Pool {
@@ -93,6 +100,7 @@ impl Pool {
             size: self.size,
             categories,
             volunteers,
+            ids_in_order: self.ids_in_order,
         })
     }
 }
@@ -107,6 +115,7 @@ impl Pool {
             size,
             categories,
             volunteers,
+            ids_in_order: false,
         }
     }
 
@@ -136,6 +145,7 @@ impl Pool {
             size,
             categories: Vec::new(alloc),
             volunteers: Vec::new(alloc),
+            ids_in_order: true,
         })
     }
 
@@ -253,13 +263,21 @@ impl Pool {
             Some(6)
         } else if count != self.categories.len() {
             Some(7)
-        } else if is_volunteer(&self.volunteers, id) {
+        } else if self.has_volunteer(id) {
             Some(8)
         } else if !keeps_name_limits(id) || limits.volunteers() <= self.volunteers.len() {
             Some(10)
         } else {
             None
         }
+    }
+
+    // True if a volunteer has this id. Compares it only with the last one's where that shows that it is new.
+    fn has_volunteer(&self, id: &[u8]) -> bool
+        ensures { result ≡ includes_list (ids self.now.volunteers) id.now }
+    {
+        let is_past_all = self.ids_in_order && follows_last(&self.volunteers, id);
+        !is_past_all && is_volunteer(&self.volunteers, id)
     }
 
     /// Appends an open volunteer, given the name of a value for each category. Stops with the kind that `volunteer_kind` returns within
@@ -300,8 +318,10 @@ impl Pool {
     {
         let alloc = *self.volunteers.allocator();
         let places = places(alloc, &self.categories, values)?;
+        let follows = follows_last(&self.volunteers, id.as_bytes());
         let volunteer = Volunteer::new(Name::new(alloc, id)?, places);
         self.volunteers.push(volunteer)?;
+        self.ids_in_order &= follows;
         Ok(())
     }
 

@@ -2,4 +2,4 @@ pub mod EntryLemmas
 pub mod LineByLine
 pub mod WritingLemmas
 pub mod SizeLine
-pub mod PanelLines
+pub mod NumberAhead

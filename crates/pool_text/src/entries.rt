@@ -1,10 +1,12 @@
 //! What the lines between the size and the end say, and how an entry is added to the pool.
 
-ghost use Rattle.std.specs.Prelude.{◌≡◌, ◌<◌, ◌+◌, length, map, IfOk, IfSome, IsSome, None, OnOk, Option, unwrap_or};
-ghost use Rattle.define_pools.specs.Building.{household_kind as name_kind, household_set, standing_set};
+ghost use Rattle.std.specs.Prelude.{◌≡◌, ◌<◌, ◌+◌, length, map, IfOk, IfSome, IsTrue, None, OnOk, Option, unwrap_or};
+ghost use Rattle.define_pools.specs.Building.{household_kind as name_kind, household_set, ids, standing_set};
+ghost use Rattle.define_pools.specs.Lists.{all_different};
 ghost use Rattle.std.specs.Str.{IsUtf8, is_utf8};
 ghost use Rattle.pool_text.specs.Answers.{Tells};
 ghost use Rattle.define_bundles.specs.PoolReading.{Inside, line_kind, after_line, after_entry, ValueWord, StandingWord, entry_of_word, entry_of as entry_in, entry_kind as kind_in, number_of as number_in, bound_of as bound_in, awaits_household as awaits, awaits_volunteers as awaits_more, is_ahead as is_number_ahead};
+ghost use Rattle.pool_text.specs.Ahead.{ahead};
 ghost use Rattle.pool_text.specs.Entries.{said, IsText};
 ghost use Rattle.pool_text.specs.Progress.{with_pool};
 
@@ -182,12 +184,28 @@ fn awaits_volunteers(pool: &Pool, passed: Passed) -> bool
 
 /// True if a volunteer has this id, and the volunteer's number is at least `passed`, which is how many volunteers the household lines, or
 /// the standing lines, have passed.
+#[tactic(auto, using(crate::proofs::NumberAhead::found_ahead))]
 fn is_ahead(pool: &Pool, passed: usize, id: &[u8]) -> bool
     ensures { result ≡ is_number_ahead passed (number_in pool.now.volunteers id.now) }
 {
-    match number_of(pool.volunteers(), id) {
-        Some(number) => passed <= number,
-        None => false,
+    pool.facts();
+    number_ahead(pool.volunteers(), passed, id).is_some()
+}
+
+/// Returns the number of the volunteer of this id, if there is one and the number is at least `passed`. The lines name volunteers in the
+/// pool's order, so all lines of one sort together look at each volunteer about once.
+#[tactic(auto, using(crate::proofs::NumberAhead::none_past, crate::proofs::NumberAhead::some_behind, crate::proofs::NumberAhead::none_found))]
+fn number_ahead(volunteers: &[Volunteer], passed: usize, id: &[u8]) -> Option<usize>
+    requires { IsTrue (all_different (ids volunteers.now)) }
+    ensures value { result ≡ ahead passed (number_in volunteers.now id.now) }
+    ensures inside { IfSome result (λ number. number < length volunteers.now) }
+{
+    if volunteers.len() < passed {
+        return None;
+    }
+    match number_of(&volunteers[passed..], id) {
+        Some(number) => Some(passed + number),
+        None => None,
     }
 }
 
@@ -216,14 +234,14 @@ fn add_entry(
         Entry::Value(name, lower, upper) => pool.add_right_value(text_of(name), *lower, *upper)?,
         Entry::Volunteer(id, values) => pool.add_right_volunteer(text_of(id), values)?,
         Entry::Household(id, name) => {
-            let households = add_household(pool, id, text_of(name))?;
+            let households = add_household(pool, passed.households, id, text_of(name))?;
             return Ok(Some(Passed {
                 households,
                 ..passed
             }));
         }
         Entry::Standing(standing, id) => {
-            let standings = add_standing(pool, *standing, id);
+            let standings = add_standing(pool, passed.standings, *standing, id);
             return Ok(Some(Passed {
                 standings,
                 ..passed
@@ -235,13 +253,16 @@ fn add_entry(
     Ok(Some(passed))
 }
 
-/// Sets the standing of the volunteer of this id. Returns how many volunteers the standing lines have then passed.
-fn add_standing(pool: &mut Pool, standing: Standing, id: &[u8]) -> usize
-    requires { IsSome (number_in pool.old.volunteers id.now) }
+/// Sets the standing of the volunteer of this id, whom no standing line has passed. Returns how many volunteers the standing lines have
+/// then passed.
+#[tactic(auto, using(crate::proofs::NumberAhead::same_number, crate::proofs::NumberAhead::not_none))]
+fn add_standing(pool: &mut Pool, passed: usize, standing: Standing, id: &[u8]) -> usize
+    requires { IsTrue (is_number_ahead passed (number_in pool.old.volunteers id.now)) }
     ensures set { pool.new ≡ standing_set pool.old (unwrap_or (number_in pool.old.volunteers id.now) 0) standing }
     ensures passed { result ≡ unwrap_or (number_in pool.old.volunteers id.now) 0 + 1 }
 {
-    match number_of(pool.volunteers(), id) {
+    pool.facts();
+    match number_ahead(pool.volunteers(), passed, id) {
         Some(number) => {
             pool.set_standing(number, standing);
             number + 1
@@ -250,14 +271,17 @@ fn add_standing(pool: &mut Pool, standing: Standing, id: &[u8]) -> usize
     }
 }
 
-/// Sets the household of the volunteer of this id. Returns how many volunteers the household lines have then passed.
-fn add_household(pool: &mut Pool, id: &[u8], name: &str) -> Result<usize, AllocError>
-    requires found { IsSome (number_in pool.old.volunteers id.now) }
+/// Sets the household of the volunteer of this id, whom no household line has passed. Returns how many volunteers the household lines have
+/// then passed.
+#[tactic(auto, using(crate::proofs::NumberAhead::same_number, crate::proofs::NumberAhead::not_none))]
+fn add_household(pool: &mut Pool, passed: usize, id: &[u8], name: &str) -> Result<usize, AllocError>
+    requires found { IsTrue (is_number_ahead passed (number_in pool.old.volunteers id.now)) }
     requires right { name_kind name.now ≡ None }
     ensures set { OnOk result (pool.new ≡ household_set pool.old (unwrap_or (number_in pool.old.volunteers id.now) 0) name.now) }
     ensures passed { IfOk result (λ passed. passed ≡ unwrap_or (number_in pool.old.volunteers id.now) 0 + 1) }
 {
-    match number_of(pool.volunteers(), id) {
+    pool.facts();
+    match number_ahead(pool.volunteers(), passed, id) {
         Some(number) => {
             pool.set_right_household(number, name)?;
             Ok(number + 1)

@@ -1,4 +1,4 @@
-use Rattle.std.proofs.Common.{◌≡◌, ℤ, ◌++◌, ◌≤◌, ◌^◌, ◌∙◌, IsTrue, ap, subst, unsigned_abs, arith, rules, Ok}
+use Rattle.std.proofs.Common.{◌≡◌, ℤ, ◌++◌, ◌∙◌, IsTrue, ap, subst, unsigned_abs, arith, rules, Ok}
 use Rattle.std.specs.Prelude.{Err, FitsSigned}
 use Rattle.std.specs.Int.{w128}
 use Rattle.sealed_draw.specs.Answers.{DrawSays, IsOfRow}

@@ -1,11 +1,10 @@
-use Rattle.std.proofs.Common.{◌≡◌, ◌∙◌, ap, refl, sym, subst}
+use Rattle.std.proofs.Common.{refl, sym, subst}
 use Rattle.std.proofs.lemmas.Result.{IfOk-weaker}
-use Rattle.define_legs.specs.LegTexts.{legs_text}
 use Rattle.define_runs.specs.Run.{run_limits}
 use Rattle.define_searches.specs.Classes.{are_alike}
 use Rattle.define_searches.proofs.AlikeClasses.{alike_makes}
 use Rattle.command_shell.specs.Answers.{IsRight, saying}
-use Rattle.command_meanings.specs.Legs.{LegsMeans, PrintsLegs, class_count}
+use Rattle.command_meanings.specs.Legs.{LegsMeans}
 use Rattle.command_meanings.specs.Lottery.{FindsNone}
 use Rattle.command_pools.proofs.RunAnswers.{legs_stop_is_right}
 use Rattle.command_pools.proofs.legs.traced.Goals as goal

@@ -1,6 +1,6 @@
 use Rattle.std.proofs.Common.{◌<◌, ◌∙◌, get_or, length}
 use Rattle.define_pools.proofs.Each.{below_at}
-use Rattle.pool_text.proofs.PanelLines.{one_id}
+use Rattle.define_bundles.proofs.PanelLines.{one_id}
 use Rattle.command_questions.proofs.ranges.push_members.Goals as goal
 
 pub loop-number-preserved : goal.loop-number-preserved

@@ -22,9 +22,9 @@ returns-in-Ok g c =
     c.in-Ok.bytes.items (g.K.Keeper.tables c.attach.new.keeper) (g.K.Keeper.faults c.attach.new.keeper) (g.K.Keeper.course c.attach.new.keeper) c.settle_import-settled.result c.in-Ok.ensures.input
     c.in_default.ensures.same c.in_default.ensures.cause c.in_default.ensures.course c.settle_import-settled.ensures.place settles (c.tell_settled-in-Ok.ensures _)
 
-pub returns-in-Err-read_input : goal.returns-in-Err-read_input
-returns-in-Err-read_input g c =
+pub returns-in-Err-read_unheld : goal.returns-in-Err-read_unheld
+returns-in-Err-read_unheld g c =
     no_file c.args.path.now (ImportMeans c.args.import) _ (g.K.Keeper.tables c.args.keeper.now) (g.K.Keeper.tables c.attach.new.keeper) (g.K.Keeper.faults c.args.keeper.now) (g.K.Keeper.faults c.attach.new.keeper)
-    (g.K.Keeper.course c.args.keeper.now) (g.K.Keeper.course c.attach.new.keeper) c.in-Err-read_input.stop c.in_default.ensures.same c.in_default.ensures.course c.in_default.ensures.cause c.in-Err-read_input.ensures.none
+    (g.K.Keeper.course c.args.keeper.now) (g.K.Keeper.course c.attach.new.keeper) c.in-Err-read_unheld.stop c.in_default.ensures.same c.in_default.ensures.course c.in_default.ensures.cause c.in-Err-read_unheld.ensures.none
     (c.refuse_input.ensures _
     (object (g.O.Sink.written c.args.out.now) (g.O.Sink.written c.args.out.now) (g.O.Sink.faults c.args.out.now) (g.O.Sink.faults c.args.out.now)) (record { same = refl; no_fault = refl }))

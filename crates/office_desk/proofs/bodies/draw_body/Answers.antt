@@ -1,7 +1,7 @@
-use Rattle.std.proofs.Common.{◌≡◌, ap, ◌∙◌, false, option_map, string_bytes, String, Global}
+use Rattle.std.proofs.Common.{ap, ◌∙◌, option_map, string_bytes, String, Global}
 use Rattle.std.proofs.lemmas.Result.{IfOk-weaker}
 use Rattle.serde_json.specs.Data.{Data, array}
-use Rattle.serde_json.specs.View.{items_view, view}
+use Rattle.serde_json.specs.View.{items_view}
 use Rattle.serde_json.specs.Written.{compact_text, has_float}
 use Rattle.office_desk.specs.Bodies.{draw_data}
 use Rattle.office_desk.proofs.BodyTexts.{draw_data-float, draw_data-text}

@@ -1,4 +1,4 @@
-use Rattle.std.proofs.Common.{◌≡◌, ap, ◌∙◌, option_map, string_bytes, String, Global}
+use Rattle.std.proofs.Common.{ap, ◌∙◌, option_map, string_bytes, String, Global}
 use Rattle.std.proofs.lemmas.Result.{IfOk-weaker}
 use Rattle.serde_json.specs.Written.{compact_text, has_float}
 use Rattle.office_desk.proofs.BodyTexts.{own_data-float, own_data-text}

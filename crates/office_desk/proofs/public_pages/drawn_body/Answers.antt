@@ -4,7 +4,7 @@ use Rattle.std.proofs.lemmas.Int.{to_z-of_z}
 use Rattle.std.specs.Fmt.{decimal}
 use Rattle.std.proofs.lemmas.Result.{IfOk-weaker}
 use Rattle.serde_json.specs.Data.{array, string}
-use Rattle.serde_json.specs.View.{items_view, view}
+use Rattle.serde_json.specs.View.{items_view}
 use Rattle.serde_json.specs.Written.{compact_text}
 use Rattle.define_pools.specs.Pool.{Pool}
 use Rattle.define_draws.specs.Lines.{bundle_seal, member_ids}

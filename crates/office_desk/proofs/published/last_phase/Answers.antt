@@ -1,4 +1,4 @@
-use Rattle.std.proofs.Common.{◌≡◌, List, length, ap, sym, ◌∙◌}
+use Rattle.std.proofs.Common.{List, length, ap, sym, ◌∙◌}
 use Rattle.define_offices.specs.Tables.{Round, named_round}
 use Rattle.office_desk.proofs.PublishedRounds.{phase_of_last, phase_shown}
 use Rattle.office_desk.proofs.published.last_phase.Goals as goal

@@ -1,7 +1,7 @@
 use Rattle.std.proofs.Common.{Option, subst}
 use Rattle.define_offices.specs.Tables.{Tables}
 use Rattle.office_desk.specs.Answers.{IsReplyTo}
-use Rattle.office_desk.proofs.Ends.{load_faults, loaded_faults}
+use Rattle.office_desk.proofs.Ends.{loaded_faults}
 use Rattle.office_desk.proofs.serving.reply_to.Goals as goal
 
 pub returns-in-Ok-clause-desk : goal.returns-in-Ok-clause-desk

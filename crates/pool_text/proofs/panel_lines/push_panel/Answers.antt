@@ -5,7 +5,7 @@ use Rattle.define_pools.proofs.Each.{below_at}
 use Rattle.define_pools.specs.Pool.{volunteer}
 use Rattle.define_lines.specs.Lines.{line_feed, tabbed}
 use Rattle.define_lines.proofs.LineLemmas.{line_written}
-use Rattle.pool_text.proofs.PanelLines.{one_id}
+use Rattle.define_bundles.proofs.PanelLines.{one_id}
 use Rattle.pool_text.proofs.panel_lines.push_panel.Goals as goal
 
 pub loop-number-preserved : goal.loop-number-preserved

@@ -11,4 +11,4 @@ invariant_of-self-2 c =
     let name = c.args.name.now in
     let none : category_kind pool name ≡ None =
     ap (λ p. category_kind p name) c.self.view_is ∙ c.requires in
-    rw (c.in_ok-push.ensures.items, c.in_ok-category.ensures) (IsPool-category_added pool name c.self.invariant none (is_utf8-from_IsUtf8 name c.utf8.name))
+    (rw (c.in_ok-push.ensures.items, c.in_ok-category.ensures) (IsPool-category_added pool name c.self.invariant.0 none (is_utf8-from_IsUtf8 name c.utf8.name)), c.self.invariant.1)

@@ -12,4 +12,4 @@ invariant_of-self-2 c =
     let named : List ℕ → BoundedValue = λ n. record { name = n; lower = c.args.lower; upper = c.args.upper } in
     let none : value_kind pool (named name) ≡ None =
     ap (λ p. value_kind p (named name)) c.self.view_is ∙ c.requires in
-    rw (c.in_ok-add_to_last.ensures.ok, c.new-value.ensures, c.in_ok-name.ensures) (IsPool-value_added pool (named name) c.self.invariant none (is_utf8-from_IsUtf8 name c.utf8.name))
+    (rw (c.in_ok-add_to_last.ensures.ok, c.new-value.ensures, c.in_ok-name.ensures) (IsPool-value_added pool (named name) c.self.invariant.0 none (is_utf8-from_IsUtf8 name c.utf8.name)), c.self.invariant.1)

@@ -1,0 +1,4 @@
+pub mod Bounds
+pub mod Seats
+pub mod TakenBack
+pub mod Versions
