@@ -2,8 +2,10 @@
 //! each command, and opened again before the next.
 
 use crate::assembly::{CORRECTED, HOUSEHOLDS, Row, ends};
-use crate::disks::{Kept, Stored, closed, loaded, nothing, opened, spelled};
+use crate::disks::{Kept, closed, loaded, nothing, opened, spelled};
+use office_core::Keeper;
 use office_keeper::{MapKeeper, SqliteOver};
+use sqlite::{Alter, Connection};
 use std::alloc::Global;
 use std::thread::Threads;
 
@@ -11,7 +13,7 @@ use std::thread::Threads;
 const ASSEMBLIES: &[&[Row]] = &[HOUSEHOLDS, CORRECTED];
 
 /// Attaches a keeper. True if it loads what the keeper in memory holds.
-fn agrees(alloc: Global, over: &mut SqliteOver<Stored>, map: &MapKeeper) -> bool {
+fn agrees<K: Keeper>(alloc: Global, over: &mut K, map: &MapKeeper) -> bool {
     let held = loaded(alloc, over, "");
     held.is_some() && held == spelled(alloc, map.tables())
 }
@@ -34,10 +36,10 @@ enum Difference {
 }
 
 /// Does the command of a row over both keepers. Returns the first difference.
-fn compare<R: Threads + Sync>(
+fn compare<K: Keeper, R: Threads + Sync>(
     rt: &R,
     alloc: Global,
-    over: &mut SqliteOver<Stored>,
+    over: &mut K,
     map: &mut MapKeeper,
     row: &Row,
 ) -> Option<Difference> {
@@ -57,6 +59,21 @@ fn compare<R: Threads + Sync>(
     }
 }
 
+/// Does the command of a row over both keepers, one of which is new and over this database. Returns the database.
+fn over_row<S: Alter + Drop, R: Threads + Sync>(
+    rt: &R,
+    alloc: Global,
+    connection: Connection<S>,
+    map: &mut MapKeeper,
+    row: &Row,
+) -> Result<Connection<S>, Difference> {
+    let mut over = SqliteOver::new(connection);
+    match compare(rt, alloc, &mut over, map, row) {
+        None => Ok(over.into_connection()),
+        Some(found) => Err(found),
+    }
+}
+
 /// Opens the store of these files, does the command of a row over both keepers, and closes the store. Returns its files.
 fn after_row<R: Threads + Sync>(
     rt: &R,
@@ -68,13 +85,12 @@ fn after_row<R: Threads + Sync>(
     let Some(connection) = opened(alloc, kept) else {
         return Err(Difference::Opening);
     };
-    let mut over = SqliteOver::new(connection);
-    if let Some(found) = compare(rt, alloc, &mut over, map, row) {
-        return Err(found);
-    }
-    match closed(alloc, over.into_connection()) {
-        Some(left) => Ok(left),
-        None => Err(Difference::Closing),
+    match over_row(rt, alloc, connection, map, row) {
+        Ok(connection) => match closed(alloc, connection) {
+            Some(left) => Ok(left),
+            None => Err(Difference::Closing),
+        },
+        Err(found) => Err(found),
     }
 }
 

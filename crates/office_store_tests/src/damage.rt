@@ -2,10 +2,10 @@
 //! a call fails and changes nothing, and not for want of memory; so it counts one fault, by its contract.
 
 use crate::assembly::{HOUSEHOLDS, held_after};
-use crate::disks::{Kept, Stored, changed, closed, loaded_of, nothing, opened, rows_of};
+use crate::disks::{Kept, changed, closed, loaded, nothing, opened, rows_of, run};
 use office_core::{Keeper, KeeperStop};
 use office_keeper::SqliteOver;
-use sqlite::{Connection, params};
+use sqlite::{Alter, Connection, params};
 use std::alloc::Global;
 use std::process::Abort;
 use std::thread::Threads;
@@ -206,7 +206,7 @@ fn failed(stop: KeeperStop, taken: Taken) -> Option<Taken> {
 }
 
 /// Attaches a keeper and loads its tables. Returns how that ended, or None if memory ran out.
-fn outcome_of(alloc: Global, keeper: &mut SqliteOver<Stored>) -> Option<Taken> {
+fn outcome_of<K: Keeper>(alloc: Global, keeper: &mut K) -> Option<Taken> {
     match keeper.attach(alloc, "") {
         Ok(()) => match keeper.load(alloc) {
             Ok(_) => Some(Taken::Loaded),
@@ -216,56 +216,54 @@ fn outcome_of(alloc: Global, keeper: &mut SqliteOver<Stored>) -> Option<Taken> {
     }
 }
 
-/// Attaches a keeper over a store, loads its tables, and closes the store. Returns its files, or None if that didn't end as `wanted` says.
-fn after_load(alloc: Global, kept: &Kept, wanted: Taken) -> Option<Kept> {
-    let mut keeper = SqliteOver::new(opened(alloc, kept)?);
-    if outcome_of(alloc, &mut keeper) != Some(wanted) {
-        return None;
+/// Attaches a keeper over a database and loads its tables. Returns the database if that ended as `wanted` says.
+fn load_over<S: Alter + Drop>(
+    alloc: Global,
+    connection: Connection<S>,
+    wanted: Taken,
+) -> Option<Connection<S>> {
+    let mut keeper = SqliteOver::new(connection);
+    if outcome_of(alloc, &mut keeper) == Some(wanted) {
+        Some(keeper.into_connection())
+    } else {
+        None
     }
-    closed(alloc, keeper.into_connection())
+}
+
+/// True if a new keeper does with a store what `wanted` says, and its rows stay the same.
+fn stays<S: Alter + Drop>(alloc: Global, mut connection: Connection<S>, wanted: Taken) -> bool {
+    let before = rows_of(alloc, &mut connection);
+    let Some(mut left) = load_over(alloc, connection, wanted) else {
+        return false;
+    };
+    before.is_some() && before == rows_of(alloc, &mut left)
 }
 
 /// True if, after a change by hand, a new keeper does with the store what `wanted` says, and its rows stay the same.
-fn is_taken(alloc: Global, kept: &Kept, change: &str, wanted: Taken) -> bool {
-    match changed(alloc, kept, change) {
-        Some(kept) => stays(alloc, &kept, wanted),
-        None => false,
-    }
+fn is_taken(alloc: Global, kept: &Kept, change: &str, wanted: Taken) -> Option<bool> {
+    let connection = run(opened(alloc, kept)?, change)?;
+    Some(stays(alloc, connection, wanted))
 }
 
-/// True if a new keeper does with the store what `wanted` says, and its rows stay the same.
-fn stays(alloc: Global, kept: &Kept, wanted: Taken) -> bool {
-    match after_load(alloc, kept, wanted) {
-        Some(left) => {
-            let rows = rows_of(alloc, &left);
-            rows.is_some() && rows == rows_of(alloc, kept)
-        }
-        None => false,
-    }
-}
-
-/// Makes the change `DRAW`. The contract of the call is long, so this function alone has it.
-fn draw(connection: &mut Connection<Stored>) -> Option<usize> {
-    connection.execute(DRAW, params![BUNDLE]).ok()
-}
-
-/// Returns the store after `DRAW`.
-fn drawn(alloc: Global, kept: &Kept) -> Option<Kept> {
-    let mut connection = opened(alloc, kept)?;
-    draw(&mut connection)?;
-    closed(alloc, connection)
+/// Makes the change `DRAW` of a database, and returns it.
+fn draw<S: Alter + Drop>(mut connection: Connection<S>) -> Option<Connection<S>> {
+    let _ = connection.execute(DRAW, params![BUNDLE]).ok()?;
+    Some(connection)
 }
 
 /// Returns the store after all commands of `HOUSEHOLDS`, made by hand.
 pub(crate) fn store(alloc: Global) -> Option<Kept> {
-    let new = after_load(alloc, &nothing(alloc), Taken::Loaded)?;
-    drawn(alloc, &changed(alloc, &new, STORE)?)
+    let new = load_over(alloc, opened(alloc, &nothing(alloc))?, Taken::Loaded)?;
+    closed(alloc, draw(run(new, STORE)?)?)
 }
 
 /// Makes each of these changes by itself, and asserts that a new keeper then does with the store what `wanted` says.
 fn judge(rt: &impl Abort, alloc: Global, kept: &Kept, changes: &[&str], wanted: Taken) {
     for change in changes {
-        assert!(rt; is_taken(alloc, kept, change, wanted), "{change}");
+        assert!(rt;
+            is_taken(alloc, kept, change, wanted) == Some(true),
+            "{change}"
+        );
     }
 }
 
@@ -278,18 +276,24 @@ fn judge_all(rt: &impl Abort, alloc: Global, kept: &Kept) -> Option<()> {
     Some(())
 }
 
+/// Attaches a keeper over a database. Returns what it loads, as a text.
+fn loads<S: Alter + Drop>(alloc: Global, connection: Connection<S>) -> Option<String> {
+    let mut keeper = SqliteOver::new(connection);
+    loaded(alloc, &mut keeper, "")
+}
+
 /// Returns the tables that are loaded after a change by hand, as a text.
 fn loaded_after(alloc: Global, kept: &Kept, change: &str) -> Option<String> {
-    loaded_of(alloc, &changed(alloc, kept, change)?)
+    loads(alloc, run(opened(alloc, kept)?, change)?)
 }
 
 /// True if the store has the tables of `HOUSEHOLDS`.
 fn is_assembled<R: Threads + Sync>(rt: &R, alloc: Global, kept: &Kept) -> bool {
-    let whole = loaded_of(alloc, kept);
+    let whole = loaded_after(alloc, kept, SECOND);
     whole.is_some() && whole == held_after(rt, alloc, HOUSEHOLDS)
 }
 
-/// True if a store of version 1 is loaded as one of version 2 in which there are none.
+/// True if a store of version 1 is loaded as one of version 2 in which there are no households.
 fn is_raised(alloc: Global, kept: &Kept) -> bool {
     let raised = loaded_after(alloc, kept, FIRST);
     raised.is_some() && raised == loaded_after(alloc, kept, "DELETE FROM household")

@@ -1,13 +1,12 @@
 //! Stores in memory as two files, a database and its log.
 
 use office_core::{Keeper, Tables};
-use office_keeper::SqliteOver;
-use sqlite::{Connection, FileStore, Files, Options};
+use sqlite::{Alter, Connection, FileStore, Files, Options};
 use sqlite_disk::{Disk, Fuse, Memory};
 use std::alloc::Global;
 
 /// A store over files in memory that do a given number of calls, and then fail each call.
-pub(crate) type Stored = FileStore<Fuse<Memory>>;
+type Stored = FileStore<Fuse<Memory>>;
 
 /// The bytes of a store's files.
 #[derive(Drop)]
@@ -66,16 +65,18 @@ pub(crate) fn closed(alloc: Global, connection: Connection<Stored>) -> Option<Ke
     bytes_of(alloc, &files)
 }
 
-/// Runs statements. The contract of the call is long, so this function alone has it.
-fn run(connection: &mut Connection<Stored>, statements: &str) -> Option<()> {
-    connection.execute_batch(statements).ok()
+/// Runs statements over a database, and returns it.
+pub(crate) fn run<S: Alter + Drop>(
+    mut connection: Connection<S>,
+    statements: &str,
+) -> Option<Connection<S>> {
+    connection.execute_batch(statements).ok()?;
+    Some(connection)
 }
 
 /// Returns the store after these statements.
 pub(crate) fn changed(alloc: Global, kept: &Kept, statements: &str) -> Option<Kept> {
-    let mut connection = opened(alloc, kept)?;
-    run(&mut connection, statements)?;
-    closed(alloc, connection)
+    closed(alloc, run(opened(alloc, kept)?, statements)?)
 }
 
 /// Queries that find all that a store holds.
@@ -94,13 +95,7 @@ const ALL: &[&str] = &[
 ];
 
 /// Returns the rows of all tables, as a text. Of a table that isn't there, which version 2 hasn't, it has the error.
-pub(crate) fn rows_of(alloc: Global, kept: &Kept) -> Option<String> {
-    let mut connection = opened(alloc, kept)?;
-    all_found(alloc, &mut connection)
-}
-
-/// Returns what all queries find, as a text.
-pub(crate) fn all_found(alloc: Global, connection: &mut Connection<Stored>) -> Option<String> {
+pub(crate) fn rows_of<S: Alter>(alloc: Global, connection: &mut Connection<S>) -> Option<String> {
     let mut all = String::new(alloc);
     for query in ALL {
         let rows = found(alloc, connection, query)?;
@@ -110,15 +105,9 @@ pub(crate) fn all_found(alloc: Global, connection: &mut Connection<Stored>) -> O
 }
 
 /// Returns what a query finds, as a text.
-fn found(alloc: Global, connection: &mut Connection<Stored>, query: &str) -> Option<String> {
+fn found<S: Alter>(alloc: Global, connection: &mut Connection<S>, query: &str) -> Option<String> {
     let rows = connection.query_all(query, &[]);
     format!(in alloc; "{rows:?}").ok()
-}
-
-/// Attaches a keeper over a store, and returns what it loads, as a text.
-pub(crate) fn loaded_of(alloc: Global, kept: &Kept) -> Option<String> {
-    let mut keeper = SqliteOver::new(opened(alloc, kept)?);
-    loaded(alloc, &mut keeper, "")
 }
 
 /// Attaches a keeper, and returns what it loads, as a text.

@@ -4,13 +4,11 @@
 
 use crate::assembly::{Asked, FURTHER, HOUSEHOLDS, Row, command_of, done};
 use crate::damage::{FIRST, store};
-use crate::disks::{
-    Kept, Stored, all_found, bytes_of, changed, closed, files, loaded, nothing, opened,
-};
+use crate::disks::{Kept, bytes_of, changed, closed, files, loaded, nothing, opened, rows_of};
 use office_core::{Change, Keeper, Tables, decide};
 use office_keeper::{MapKeeper, SqliteOver};
 use outside::NoWatch;
-use sqlite::{Connection, Files, Options};
+use sqlite::{Alter, Connection, Files, Options};
 use sqlite_disk::{Crash, Fuse, Memory};
 use std::alloc::Global;
 use std::thread::Threads;
@@ -32,7 +30,7 @@ enum Far {
 }
 
 /// Attaches a keeper, and stores a change if there is one.
-fn step(alloc: Global, keeper: &mut SqliteOver<Stored>, change: &Option<Change>) -> Far {
+fn step<S: Alter>(alloc: Global, keeper: &mut SqliteOver<S>, change: &Option<Change>) -> Far {
     if keeper.attach(alloc, "").is_err() {
         return Far::Opened;
     }
@@ -42,15 +40,15 @@ fn step(alloc: Global, keeper: &mut SqliteOver<Stored>, change: &Option<Change>)
     }
 }
 
-/// Does a step over a connection. Returns how far it got, and the files as they are then.
-fn stepped(
+/// Does a step over a database. Returns how far it got, and the database.
+fn stepped<S: Alter>(
     alloc: Global,
-    connection: Connection<Stored>,
+    connection: Connection<S>,
     change: &Option<Change>,
-) -> (Far, Files<Fuse<Memory>>) {
+) -> (Far, Connection<S>) {
     let mut keeper = SqliteOver::new(connection);
     let far = step(alloc, &mut keeper, change);
-    (far, keeper.into_connection().into_store().close())
+    (far, keeper.into_connection())
 }
 
 /// Opens files and does a step. Returns how far it got, and the files as they are then.
@@ -64,7 +62,10 @@ fn tried(
     }
     Some(
         match Connection::open_files(alloc, files, Options::new(7)) {
-            Ok(connection) => stepped(alloc, connection, change),
+            Ok(connection) => {
+                let (far, left) = stepped(alloc, connection, change);
+                (far, left.into_store().close())
+            }
             Err((_, left)) => (Far::Nowhere, left.into_files()),
         },
     )
@@ -86,15 +87,20 @@ fn stopped(
     Some((far, bytes_of(alloc, &left)?))
 }
 
-/// Returns the rows of a store, or None if it can't be attached and loaded. Attaching could change them, so they are read before.
-fn held(alloc: Global, kept: &Kept) -> Option<String> {
-    let mut connection = opened(alloc, kept)?;
-    let rows = all_found(alloc, &mut connection);
+/// Returns the rows of a database, or None if no keeper can be attached to it and load it. Attaching could change them, so they are read
+/// before.
+fn held_in<S: Alter + Drop>(alloc: Global, mut connection: Connection<S>) -> Option<String> {
+    let rows = rows_of(alloc, &mut connection);
     let mut keeper = SqliteOver::new(connection);
     if loaded(alloc, &mut keeper, "").is_none() {
         return None;
     }
     rows
+}
+
+/// Returns the rows of a store, as `held_in` does.
+fn held(alloc: Global, kept: &Kept) -> Option<String> {
+    held_in(alloc, opened(alloc, kept)?)
 }
 
 /// What a step finds and leaves if nothing stops it.
@@ -161,11 +167,12 @@ fn is_whole(
 
 /// Does a step that nothing stops. Returns the store that it leaves.
 fn after_step(alloc: Global, kept: &Kept, change: &Option<Change>) -> Option<Kept> {
-    let mut keeper = SqliteOver::new(opened(alloc, kept)?);
-    if step(alloc, &mut keeper, change) != Far::Done {
-        return None;
+    let (far, connection) = stepped(alloc, opened(alloc, kept)?, change);
+    if far == Far::Done {
+        closed(alloc, connection)
+    } else {
+        None
     }
-    closed(alloc, keeper.into_connection())
 }
 
 /// Stops a step at each call of the log, then at each call of the database. Returns the store that the step leaves if nothing stops it, or
