@@ -138,7 +138,7 @@ pub(crate) const SEALED: &[Row] = &[
 ];
 
 /// An assembly whose commands make each change that a store of version 2 has no place for, and take changes back. The first round is drawn
-/// in 10 tickets.
+/// in 10 tickets. Somebody who dropped out withdraws while the second round is open, and isn't taken back once that round is gone.
 pub(crate) const CORRECTED: &[Row] = &[
     (Asked::Rules, Ending::Replies),
     (Asked::Register(FOUR), Ending::Replies),
@@ -165,8 +165,10 @@ pub(crate) const CORRECTED: &[Row] = &[
     (Asked::Bounds(2), Ending::Replies),
     (Asked::WithdrawId("c"), Ending::Replies),
     (Asked::WithdrawId("d"), Ending::Refuses),
+    (Asked::WithdrawId("b"), Ending::Replies),
     (Asked::Reopen(2), Ending::Replies),
     (Asked::Reopen(2), Ending::Refuses),
+    (Asked::Undrop("b"), Ending::Refuses),
     (Asked::Next, Ending::Replies),
     (Asked::Bounds(2), Ending::Replies),
 ];
