@@ -1,4 +1,4 @@
-//! Assemblies as lists of commands, each with how it ends.
+//! Assemblies as commands, from the imports on, and how each command ends.
 
 ghost use Rattle.std.specs.Prelude.{IfSome};
 ghost use Rattle.office_core.specs.Commands.{HasWorkers};
@@ -16,7 +16,7 @@ use std::thread::Threads;
 #[derive(Clone, Copy)]
 pub(crate) enum Asked {
     Charter(&'static [u8]),
-    Rules(&'static [u8]),
+    Rules,
     Register(&'static [u8]),
     Solve(usize),
     Seal,
@@ -46,30 +46,66 @@ pub(crate) type Row = (Asked, Ending);
 
 const CHARTER: &[u8] = b"title = \"River\"\nsize = 2\n";
 
-const LARGE: &[u8] = b"title = \"River\"\nsize = 3\nvolunteers = 500\n";
+const LARGE: &[u8] = b"title = \"River\"\nsize = 2\nvolunteers = 500\n";
 
-pub(crate) const RULES: &[u8] = b"category,name,min,max\ngender,female,1,1\ngender,male,1,1\n";
+const RULES: &[u8] = b"category,name,min,max\ngender,female,1,1\ngender,male,1,1\n";
 
-const WIDE: &[u8] = b"category,name,min,max\ngender,female,1,2\ngender,male,1,2\n";
+const WIDER: &[u8] = b"category,name,min,max\ngender,female,0,2\ngender,male,0,2\n";
 
-const WIDER: &[u8] = b"category,name,min,max\ngender,female,0,3\ngender,male,0,3\n";
+const FOUR: &[u8] = b"id,key,gender\na,abc,female\nb,k2,female\nc,k3,male\nd,k4,male\n";
 
-const FIVE: &[u8] = b"id,key,gender\na,abc,female\nb,k2,female\nc,k3,male\nd,k4,male\ne,k5,male\n";
+const DIFFERING: &[u8] = b"id,key,gender\na,abc,female\nb,k2,female\nc,k3,female\nd,k4,male\n";
+
+const KEY_TAKEN: &[u8] = b"id,key,gender\nd,k4,male\ne,abc,male\n";
 
 const HOUSED: &[u8] = b"id,key,gender,household\na,abc,female,h\nb,k2,female,\nc,k3,male,h\n";
 
 const MORE: &[u8] = b"id,key,gender\nd,k4,male\ne,k5,male\n";
 
-/// The SHA-256 digest of the bundle of `FIVE`.
-const SEAL: &str = "78143e1846c393c2dab0c52885fda5daeb9fe89d11e8b7b9339086be989b93b3";
+/// The SHA-256 digest of the bundle of `FOUR`.
+const SEAL: &str = "41f145deb96e63082dd54ce2bcf3dea5bf3bb3cf4f2936371c318b2d1a4355e7";
 
 /// The SHA-256 digest of the bundle of `HOUSED` and `MORE`.
 const HOUSED_SEAL: &str = "2cb82b27c8b4c04f4a46a1fb8c5c4856a2486862f6e8e32bdddb6295cbdb3ab9";
 
-/// An assembly of five volunteers, whose commands make each change that a store of version 2 has a place for. Two volunteers are of one
-/// household, and one withdraws.
+/// An assembly of four volunteers. Some of its commands are given twice, and some are refused.
+pub(crate) const PLAIN: &[Row] = &[
+    (Asked::Solve(1), Ending::Refuses),
+    (Asked::Register(FOUR), Ending::Refuses),
+    (Asked::Rules, Ending::Replies),
+    (Asked::Rules, Ending::Replies),
+    (Asked::Register(FOUR), Ending::Replies),
+    (Asked::Register(FOUR), Ending::Replies),
+    (Asked::Register(DIFFERING), Ending::Refuses),
+    (Asked::Register(KEY_TAKEN), Ending::Refuses),
+    (Asked::Charter(CHARTER), Ending::Replies),
+    (Asked::Charter(CHARTER), Ending::Replies),
+    (Asked::Seal, Ending::Refuses),
+    (Asked::Solve(1), Ending::Replies),
+    (Asked::Solve(1), Ending::Replies),
+    (Asked::Draw(SEAL, b"0"), Ending::Refuses),
+    (Asked::Seal, Ending::Replies),
+    (Asked::Seal, Ending::Replies),
+    (Asked::Draw(SEAL, b"x"), Ending::Refuses),
+    (Asked::Draw(SEAL, b"0"), Ending::Replies),
+    (Asked::Draw(SEAL, b"0"), Ending::Replies),
+    (Asked::Draw(SEAL, b"7"), Ending::Refuses),
+    (Asked::DropOut("b"), Ending::Refuses),
+    (Asked::Next, Ending::Refuses),
+    (Asked::DropOut("a"), Ending::Replies),
+    (Asked::DropOut("a"), Ending::Replies),
+    (Asked::Next, Ending::Replies),
+    (Asked::Next, Ending::Replies),
+    (Asked::Solve(2), Ending::Replies),
+    (Asked::Solve(2), Ending::Replies),
+    (Asked::Solve(9), Ending::Refuses),
+    (Asked::Withdraw("k2"), Ending::Refuses),
+    (Asked::Show, Ending::Replies),
+];
+
+/// An assembly of five volunteers, whose commands make a change of each kind. Two volunteers are of one household, and one withdraws.
 pub(crate) const HOUSEHOLDS: &[Row] = &[
-    (Asked::Rules(RULES), Ending::Replies),
+    (Asked::Rules, Ending::Replies),
     (Asked::Register(HOUSED), Ending::Replies),
     (Asked::Register(MORE), Ending::Replies),
     (Asked::Charter(CHARTER), Ending::Replies),
@@ -81,49 +117,77 @@ pub(crate) const HOUSEHOLDS: &[Row] = &[
     (Asked::Next, Ending::Replies),
 ];
 
-/// An assembly of five volunteers and panels of three, whose commands make each change that a store of version 2 has no place for, and take
-/// changes back. The first round is drawn in 10 tickets, and all of its panel drop out. The first of them is taken back, and drops out again.
-/// The second withdraws while the second round is open, and isn't taken back once that round is gone; the third is.
+/// The first round of four volunteers, which is open. One withdraws, twice.
+pub(crate) const ENROLLED: &[Row] = &[
+    (Asked::Rules, Ending::Replies),
+    (Asked::Register(FOUR), Ending::Replies),
+    (Asked::Charter(CHARTER), Ending::Replies),
+    (Asked::Withdraw("k4"), Ending::Replies),
+    (Asked::Withdraw("k4"), Ending::Replies),
+    (Asked::Withdraw("k5"), Ending::Refuses),
+];
+
+/// The same round without a withdrawal, which is solved and then sealed, when nobody may withdraw.
+pub(crate) const SEALED: &[Row] = &[
+    (Asked::Rules, Ending::Replies),
+    (Asked::Register(FOUR), Ending::Replies),
+    (Asked::Charter(CHARTER), Ending::Replies),
+    (Asked::Solve(1), Ending::Replies),
+    (Asked::Seal, Ending::Replies),
+    (Asked::Withdraw("k4"), Ending::Refuses),
+];
+
+/// An assembly whose commands make each change that a store of version 2 has no place for, and take changes back. The first round is drawn
+/// in 10 tickets. Somebody who dropped out withdraws while the second round is open, and isn't taken back once that round is gone.
 pub(crate) const CORRECTED: &[Row] = &[
-    (Asked::Solve(1), Ending::Refuses),
-    (Asked::Rules(WIDE), Ending::Replies),
-    (Asked::Register(FIVE), Ending::Replies),
+    (Asked::Rules, Ending::Replies),
+    (Asked::Register(FOUR), Ending::Replies),
+    (Asked::Charter(CHARTER), Ending::Replies),
     (Asked::Charter(LARGE), Ending::Replies),
     (Asked::Charter(CHARTER), Ending::Replies),
     (Asked::Charter(LARGE), Ending::Replies),
+    (Asked::Bounds(2), Ending::Refuses),
+    (Asked::Reopen(2), Ending::Refuses),
     (Asked::Solve(1), Ending::Replies),
     (Asked::SealIn(10), Ending::Replies),
     (Asked::SealIn(100), Ending::Refuses),
     (Asked::Try(SEAL, b"0"), Ending::Replies),
-    (Asked::Draw(SEAL, b"9"), Ending::Replies),
+    (Asked::Draw(SEAL, b"7"), Ending::Replies),
+    (Asked::Undrop("b"), Ending::Refuses),
     (Asked::DropOut("b"), Ending::Replies),
-    (Asked::DropOut("c"), Ending::Replies),
-    (Asked::DropOut("e"), Ending::Replies),
+    (Asked::DropOut("d"), Ending::Replies),
     (Asked::Undrop("b"), Ending::Replies),
     (Asked::DropOut("b"), Ending::Replies),
+    (Asked::Undrop("d"), Ending::Replies),
     (Asked::Next, Ending::Replies),
+    (Asked::Undrop("b"), Ending::Refuses),
     (Asked::Bounds(2), Ending::Replies),
     (Asked::Bounds(2), Ending::Replies),
     (Asked::WithdrawId("c"), Ending::Replies),
+    (Asked::WithdrawId("d"), Ending::Refuses),
+    (Asked::WithdrawId("b"), Ending::Replies),
     (Asked::Reopen(2), Ending::Replies),
-    (Asked::Undrop("c"), Ending::Refuses),
-    (Asked::Undrop("e"), Ending::Replies),
+    (Asked::Reopen(2), Ending::Refuses),
+    (Asked::Undrop("b"), Ending::Refuses),
     (Asked::Next, Ending::Replies),
     (Asked::Bounds(2), Ending::Replies),
-    (Asked::Solve(2), Ending::Replies),
-    (Asked::Show, Ending::Replies),
 ];
 
-/// True if a command over a keeper ends as its row says.
-pub(crate) fn ends<K: Keeper, R: Threads + Sync>(
-    rt: &R,
-    alloc: Global,
-    keeper: &mut K,
-    row: &Row,
-) -> bool {
-    let (asked, ending) = *row;
-    done(rt, alloc, keeper, asked) == Some(ending)
-}
+/// Changes of each kind that a store of version 2 has no place for, or that take a change back.
+pub(crate) const FURTHER: &[Row] = &[
+    (Asked::Rules, Ending::Replies),
+    (Asked::Register(FOUR), Ending::Replies),
+    (Asked::Charter(LARGE), Ending::Replies),
+    (Asked::Solve(1), Ending::Replies),
+    (Asked::SealIn(10), Ending::Replies),
+    (Asked::Draw(SEAL, b"7"), Ending::Replies),
+    (Asked::DropOut("b"), Ending::Replies),
+    (Asked::DropOut("d"), Ending::Replies),
+    (Asked::Undrop("b"), Ending::Replies),
+    (Asked::Next, Ending::Replies),
+    (Asked::Bounds(2), Ending::Replies),
+    (Asked::Reopen(2), Ending::Replies),
+];
 
 /// Does a command over a keeper. Returns how it ends, or None if the command can't be made, for want of memory.
 pub(crate) fn done<K: Keeper, R: Threads + Sync>(
@@ -146,7 +210,7 @@ pub(crate) fn command_of(alloc: Global, asked: Asked) -> Option<Command>
 {
     match asked {
         Asked::Charter(charter) => set_charter(alloc, charter),
-        Asked::Rules(rules) => set_rules(alloc, rules),
+        Asked::Rules => rules(alloc),
         Asked::Register(rows) => register(alloc, rows),
         Asked::Solve(round) => solve(round),
         Asked::Seal => Some(Command::Seal {
@@ -173,10 +237,10 @@ fn set_charter(alloc: Global, charter: &[u8]) -> Option<Command>
     Some(Command::Charter(read_charter(alloc, charter).ok()?))
 }
 
-fn set_rules(alloc: Global, rules: &[u8]) -> Option<Command>
+fn rules(alloc: Global) -> Option<Command>
     ensures { IfSome result HasWorkers }
 {
-    Some(Command::Rules(read_rules(alloc, rules).ok()?))
+    Some(Command::Rules(read_rules(alloc, RULES).ok()?))
 }
 
 fn register(alloc: Global, rows: &[u8]) -> Option<Command>

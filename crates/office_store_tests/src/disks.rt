@@ -65,24 +65,52 @@ pub(crate) fn closed(alloc: Global, connection: Connection<Stored>) -> Option<Ke
     bytes_of(alloc, &files)
 }
 
+/// Returns the store after these statements.
+pub(crate) fn changed(alloc: Global, kept: &Kept, statements: &str) -> Option<Kept> {
+    let mut connection = opened(alloc, kept)?;
+    connection.execute_batch(statements).ok()?;
+    closed(alloc, connection)
+}
+
+/// Queries that find all that a store holds.
+const ALL: &[&str] = &[
+    "SELECT name FROM sqlite_schema ORDER BY name",
+    "SELECT * FROM meta",
+    "SELECT * FROM charter ORDER BY one",
+    "SELECT * FROM bound ORDER BY category_place, value_place",
+    "SELECT * FROM volunteer ORDER BY place",
+    "SELECT * FROM household ORDER BY place",
+    "SELECT * FROM round ORDER BY number",
+    "SELECT * FROM dropped ORDER BY round, place",
+    "SELECT * FROM most_rows ORDER BY one",
+    "SELECT * FROM tickets ORDER BY round",
+    "SELECT * FROM round_bound ORDER BY category_place, value_place",
+];
+
+/// Returns the rows of all tables, as a text. Of a table that isn't there, which version 2 hasn't, it has the error.
+pub(crate) fn rows_of(alloc: Global, connection: &mut Connection<Stored>) -> Option<String> {
+    let mut all = String::new(alloc);
+    for query in ALL {
+        let rows = found(alloc, connection, query)?;
+        all.push_str(rows.as_str()).ok()?;
+    }
+    Some(all)
+}
+
+/// Returns what a query finds, as a text.
+fn found(alloc: Global, connection: &mut Connection<Stored>, query: &str) -> Option<String> {
+    let rows = connection.query_all(query, &[]);
+    format!(in alloc; "{rows:?}").ok()
+}
+
 /// Attaches a keeper, and returns what it loads, as a text.
 pub(crate) fn loaded<K: Keeper>(alloc: Global, keeper: &mut K, path: &str) -> Option<String> {
     keeper.attach(alloc, path).ok()?;
-    told(alloc, keeper)
-}
-
-/// Returns what a keeper loads, as a text.
-pub(crate) fn told<K: Keeper>(alloc: Global, keeper: &mut K) -> Option<String> {
     let tables = keeper.load(alloc).ok()?;
     spelled(alloc, &tables)
 }
 
-/// Returns all that tables hold, as a text. A pool may know that its ids are in order, which spares it work and is no part of its value. So
-/// the text says of each pool that it knows.
+/// Returns all that tables hold, as a text.
 pub(crate) fn spelled(alloc: Global, tables: &Tables) -> Option<String> {
-    let text = format!(in alloc; "{tables:?}").ok()?;
-    let unknown = "ids_in_order: false";
-    text.as_str()
-        .replace(alloc, unknown, "ids_in_order: true")
-        .ok()
+    format!(in alloc; "{tables:?}").ok()
 }

@@ -1,6 +1,5 @@
 //! Tests of the keepers over `sqlite`, by public calls alone. They are in a crate of their own, since a crate with tests is proved twice, and
-//! tests over files in memory take long to prove. What takes long there is a function that owns a connection, so each owns one at most, and
-//! functions hand over the bytes of closed files.
+//! tests over files in memory take long to prove.
 #![tactic(auto)]
 
 #[cfg(test)]
@@ -8,4 +7,10 @@ mod agreement;
 #[cfg(test)]
 mod assembly;
 #[cfg(test)]
+mod damage;
+#[cfg(test)]
 mod disks;
+#[cfg(test)]
+mod paths;
+#[cfg(test)]
+mod stops;

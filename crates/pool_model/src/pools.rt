@@ -17,6 +17,7 @@ use crate::names::{
 use crate::parts::{Bound, BoundedValue, Category, Name, Volunteer};
 use define_pools::{Limits, Standing};
 use std::alloc::{AllocError, Global};
+use std::fmt;
 use std::marker::Model;
 
 const MAX_CATEGORIES: usize = 20;
@@ -31,7 +32,7 @@ pub const MAX_BOUND: usize = 999;
 /// which is at most 999. Each id and each name, also of a household, has 1 to 200 bytes of UTF-8, none of which is below 32 or is 127. No
 /// two categories have the same name, no two values of a category, and no two volunteers the same id. Each volunteer has one value of each
 /// category.
-#[derive(Debug, Drop)]
+#[derive(Drop)]
 pub struct Pool {
     size: usize,
     categories: Vec<Category>,
@@ -52,6 +53,17 @@ impl Model for Pool {
 
     ghost invariant = { λ p. IsPool (record { size = p.size; categories = p.categories.items; volunteers = p.volunteers.items })
         × (IsTrue p.ids_in_order → IsTrue (are_in_order (ids p.volunteers.items))) };
+}
+
+// As derived, but for `ids_in_order`, which is no part of a pool's value.
+impl fmt::Debug for Pool {
+    fn fmt<W: fmt::Write>(&self, f: &mut fmt::Formatter<W>) -> fmt::Result {
+        f.debug_struct("Pool")
+            .field("size", &self.size)
+            .field("categories", &self.categories)
+            .field("volunteers", &self.volunteers)
+            .finish()
+    }
 }
 
 impl Pool {
